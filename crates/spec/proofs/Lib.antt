@@ -1,0 +1,10 @@
+pub mod Tests
+pub mod Largest
+pub mod Begins
+pub mod Each
+pub mod Fields
+pub mod Splices
+pub mod Folding
+pub mod Hits
+pub mod Rising
+pub mod Sets

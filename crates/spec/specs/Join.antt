@@ -1,0 +1,110 @@
+-- The join: document 01, "Joining two notes" and "Recipes and the join". It is defined on any records, also those that no chunk gives.
+use mathlib.Core.Bool.{Bool, true, false, _&&_, _||_, cond}
+use mathlib.Core.List.{List, [], _∷_, _++_, map}
+use Prim.Native.Nat.{ℕ, zero, suc, _+_, _*_, _-_}
+use lib.ListN.{length, getD}
+use lib.Dec.{leb, ltb}
+use Rattle.spec.specs.declared.Outcome.{Outcome}
+use Rattle.spec.specs.Bytes.{leBytes, written, positionOf, each, keep, member}
+use Rattle.spec.specs.Outcome.{firstOf, whole, answer, unlessRefused, listTooLong}
+use Rattle.spec.specs.Keywords.{foldedKeywords, keywordsOf, longest}
+use Rattle.spec.specs.Directory.{sizeAt}
+use Rattle.spec.specs.Records.{Form, MatchRecord, ChunkRecords, recordAt}
+use Rattle.spec.specs.Index.{listIn, indexLayout, indexKeys, indexRecords, indexCode}
+use Rattle.spec.specs.Table.{inCell}
+use Rattle.spec.specs.Recipes.{filesOf, recipesCode, filesCode}
+
+-- ---- occurrences
+
+-- The paper's "find": file, offset in the file, keyword number.
+pub record Occurrence : Type 0 where
+  pub file : ℕ
+  pub offset : ℕ
+  pub keyword : ℕ
+
+abbrev pub keywordAt : List (List ℕ) → ℕ → List ℕ
+keywordAt keywords k = getD keywords k []
+
+-- The keywords, by rising number, that pass the test at one offset.
+unfoldable pub hits : ℕ → ℕ → (ℕ → Bool) → ℕ → List Occurrence
+hits file count test offset = each (λ k. keep (test k) (record { file = file; offset = offset; keyword = k })) 0 count
+
+-- ---- one place of a file
+
+-- An occurrence that starts in the left chunk, `left` bytes before its end, and ends in the right one: its start is in the cell for the
+-- left prefix i and the right suffix j, counted from i bytes before the left chunk's end.
+unfoldable pub crosses : List ℕ → ℕ → ℕ → ℕ → Bool
+crosses keyword i j left = leb left i && inCell keyword i j (i - left)
+
+-- The same at an offset of a chunk, against the chunks that follow it in its file: none after the last.
+abbrev pub crossesInto : List ℕ → ℕ → ChunkRecords → List ChunkRecords → ℕ → Bool
+crossesInto keyword k here [] at = false
+crossesInto keyword k here (next ∷ rest) at = crosses keyword (recordAt here k .prefix) (recordAt next k .suffix) (here .size - at)
+
+-- Keyword k is listed at an offset of a chunk: one of the chunk's own occurrences, or one that crosses its end.
+unfoldable pub listed : List (List ℕ) → ChunkRecords → List ChunkRecords → ℕ → ℕ → Bool
+listed keywords here rest at k = member at (recordAt here k .offsets) || crossesInto (keywordAt keywords k) k here rest at
+
+-- ---- files
+
+-- The occurrences in a file, from its chunks' records; `base` is the offset at which the first of these chunks starts.
+unfoldable pub joinFrom : ℕ → List (List ℕ) → ℕ → List ChunkRecords → List Occurrence
+joinFrom file keywords base [] = []
+joinFrom file keywords base (here ∷ rest) =
+    each (λ at. hits file (length keywords) (listed keywords here rest at) (base + at)) 0 (here .size)
+    ++ joinFrom file keywords (base + here .size) rest
+
+abbrev pub joinFile : ℕ → List (List ℕ) → List ChunkRecords → List Occurrence
+joinFile file keywords chunks = joinFrom file keywords 0 chunks
+
+-- All files, numbered from `file` on: the lists of the single files one after the other.
+unfoldable pub joinFiles : ℕ → List (List ℕ) → List (List ChunkRecords) → List Occurrence
+joinFiles file keywords [] = []
+joinFiles file keywords (chunks ∷ rest) = joinFile file keywords chunks ++ joinFiles (suc file) keywords rest
+
+-- ---- the operation
+
+-- The records of the chunks that a file names.
+unfoldable pub fileRecords : Form → List ℕ → List (List ℕ) → List ChunkRecords
+fileRecords f index file = map (λ key. indexRecords f index (positionOf key (indexKeys index))) file
+
+unfoldable pub joinList : Form → List ℕ → List ℕ → List Occurrence
+joinList f index recipes = joinFiles 0 (foldedKeywords (listIn index)) (map (fileRecords f index) (filesOf recipes))
+
+-- File (4), offset in the file (4), keyword (1).
+unfoldable pub occurrenceBytes : Occurrence → List ℕ
+occurrenceBytes o = leBytes 4 (o .file) ++ leBytes 4 (o .offset) ++ leBytes 1 (o .keyword)
+
+unfoldable pub listBytes : List Occurrence → List ℕ
+listBytes [] = []
+listBytes (o ∷ os) = occurrenceBytes o ++ listBytes os
+
+-- What an inner chunk must have: the longest keyword's length minus 1; nothing where records have sets.
+unfoldable pub due : Form → List ℕ → ℕ
+due f list = cond (f .sets) 0 (longest (keywordsOf list) - 1)
+
+-- The join's refusals before 18: the index check, 14, then file by file 15, 16, 17.
+unfoldable pub joinableCode : Form → List ℕ → List ℕ → ℕ
+joinableCode f index recipes =
+    firstOf
+    (whole (indexCode f index)
+    ∷ whole (recipesCode recipes)
+    ∷ whole (filesCode (indexKeys index) (sizeAt (indexLayout index) index) (due f (listIn index)) (filesOf recipes))
+    ∷ [])
+
+-- The whole refusal, for a buffer of `room` bytes.
+unfoldable pub joinCode : Form → List ℕ → List ℕ → ℕ → ℕ
+joinCode f index recipes room =
+    firstOf (whole (joinableCode f index recipes) ∷ (ltb room (9 * length (joinList f index recipes)), listTooLong) ∷ [])
+
+-- The join's answer and its buffer: the list is the buffer's first 9 × count bytes.
+unfoldable pub joinOutcome : Form → List ℕ → List ℕ → ℕ → Outcome
+joinOutcome f index recipes room = answer (joinCode f index recipes room) (length (joinList f index recipes))
+
+unfoldable pub joinBuffer : Form → List ℕ → List ℕ → List ℕ → List ℕ
+joinBuffer f index recipes out =
+    unlessRefused (joinCode f index recipes (length out)) (written out (listBytes (joinList f index recipes))) out
+
+-- The count that a join would report, whatever the buffer.
+unfoldable pub countOutcome : Form → List ℕ → List ℕ → Outcome
+countOutcome f index recipes = answer (joinableCode f index recipes) (length (joinList f index recipes))

@@ -1,0 +1,13 @@
+pub mod Bytes
+pub mod Outcome
+pub mod Keywords
+pub mod Directory
+pub mod Store
+pub mod Records
+pub mod Index
+pub mod Table
+pub mod Recipes
+pub mod Join
+pub mod Scan
+pub mod Lookup
+pub mod Search

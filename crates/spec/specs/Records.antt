@@ -1,0 +1,185 @@
+-- Match records: document 01, "Notes on one chunk and one word", and their written form, "Notes file" (kinds 0 to 3).
+-- Keywords and chunks here are folded already, so bytes compare as they are.
+use mathlib.Core.Bool.{Bool, true, false, _&&_, _||_, not, cond}
+use mathlib.Core.List.{List, [], _∷_, _++_, map}
+use Prim.Native.Nat.{ℕ, zero, suc, _+_, _*_, _-_, _/_, _%_, min}
+use lib.ListN.{length, take, drop, getD}
+use lib.Dec.{eqb, leb, ltb}
+use Rattle.spec.specs.Bytes.{leValue, leBytes, fieldAt, fieldsOf, fieldsBytes, same, begins, occursAt, each, keep, largest, rising, every}
+
+-- ---- the record of one chunk and one keyword
+
+-- The paper's "notes on one chunk and one word": prefix, suffix, finds.
+pub record MatchRecord : Type 0 where
+  pub prefix : ℕ
+  pub suffix : ℕ
+  pub offsets : List ℕ
+
+-- The greatest length of a prefix or suffix: the smaller of n - 1 and L.
+unfoldable pub reach : ℕ → ℕ → ℕ
+reach n size = min (n - 1) size
+
+-- The chunk's last i bytes are the keyword's first i.
+abbrev pub endsWith : List ℕ → List ℕ → ℕ → Bool
+endsWith keyword chunk i = begins (take i keyword) (drop (length chunk - i) chunk)
+
+-- The chunk's first j bytes are the keyword's last j.
+abbrev pub startsWith : List ℕ → List ℕ → ℕ → Bool
+startsWith keyword chunk j = begins (drop (length keyword - j) keyword) chunk
+
+-- prefix: the largest i in reach such that the chunk's last i bytes are the keyword's first i.
+unfoldable pub prefixOf : List ℕ → List ℕ → ℕ
+prefixOf keyword chunk = largest (endsWith keyword chunk) (reach (length keyword) (length chunk))
+
+-- suffix: the largest j in reach such that the chunk's first j bytes are the keyword's last j.
+unfoldable pub suffixOf : List ℕ → List ℕ → ℕ
+suffixOf keyword chunk = largest (startsWith keyword chunk) (reach (length keyword) (length chunk))
+
+-- finds: every offset in the chunk where the whole keyword occurs, rising, overlaps included.
+unfoldable pub offsetsOf : List ℕ → List ℕ → List ℕ
+offsetsOf keyword chunk = each (λ at. keep (occursAt keyword chunk at) at) 0 (length chunk)
+
+unfoldable pub recordOf : List ℕ → List ℕ → MatchRecord
+recordOf keyword chunk = record { prefix = prefixOf keyword chunk; suffix = suffixOf keyword chunk; offsets = offsetsOf keyword chunk }
+
+-- What an index says of one chunk: its length and a record for each keyword.
+pub record ChunkRecords : Type 0 where
+  pub size : ℕ
+  pub records : List MatchRecord
+
+unfoldable pub recordsOf : List (List ℕ) → List ℕ → ChunkRecords
+recordsOf keywords chunk = record { size = length chunk; records = map (λ keyword. recordOf keyword chunk) keywords }
+
+abbrev pub emptyRecord : MatchRecord
+emptyRecord = record { prefix = 0; suffix = 0; offsets = [] }
+
+abbrev pub recordAt : ChunkRecords → ℕ → MatchRecord
+recordAt here k = getD (here .records) k emptyRecord
+
+-- ---- forms: what differs between the marks of an index
+
+pub record Form : Type 0 where
+  -- the index's first four bytes
+  pub mark : List ℕ
+  -- bytes of an offset inside a chunk, and of the exact count
+  pub width : ℕ
+  -- the longest chunk
+  pub longestChunk : ℕ
+  -- the longest prefix or suffix of a tiny record, by the keyword's length
+  pub tinyMost : ℕ → ℕ
+  -- what a suffix of length 1 adds to the tiny byte
+  pub tinyStep : ℕ
+  -- records have sets of inner starts, so that keywords are found across any number of chunks (request #108)
+  pub sets : Bool
+
+-- Document 01's form: mark 44 4D 31 0A, fields of 2 bytes, L at most 65,535, tiny up to length 1 with 1 for prefix and 2 for suffix.
+abbrev pub form1 : Form
+form1 = record { mark = 0x44 ∷ 0x4D ∷ 0x31 ∷ 0x0A ∷ []; width = 2; longestChunk = 65535; tinyMost = λ n. 1; tinyStep = 2; sets = false }
+
+-- The form that a scan writes.
+abbrev pub newest : Form
+newest = form1
+
+-- ---- empty, tiny, full
+
+abbrev pub isEmpty : MatchRecord → Bool
+isEmpty r = eqb (r .prefix) 0 && eqb (r .suffix) 0 && eqb (length (r .offsets)) 0
+
+-- No offset, prefix and suffix at most the form's length, not both 0.
+abbrev pub isTiny : Form → ℕ → MatchRecord → Bool
+isTiny f n r =
+    eqb (length (r .offsets)) 0
+    && leb (r .prefix) (f .tinyMost n)
+    && leb (r .suffix) (f .tinyMost n)
+    && not (isEmpty r)
+
+-- A record keeps the ranges, for a keyword of length n and a chunk of length `size`: prefix and suffix in reach, offsets rising and at
+-- most L - n.
+unfoldable pub inRange : ℕ → ℕ → MatchRecord → Bool
+inRange n size r =
+    leb (r .prefix) (reach n size)
+    && leb (r .suffix) (reach n size)
+    && rising (r .offsets)
+    && every (λ at. leb (at + n) size) (r .offsets)
+
+-- ---- the written form
+
+-- kind 1: at most one offset; kind 2: 2 to 254; kind 3: 255 or more.
+abbrev pub kindOf : ℕ → ℕ
+kindOf count = cond (leb count 1) 1 (cond (leb count 254) 2 3)
+
+-- The offsets behind a record's head: none for kind 1; for kind 3 the exact count first.
+unfoldable pub offsetsBytes : Form → List ℕ → List ℕ
+offsetsBytes f offsets =
+    cond (leb (length offsets) 1) []
+    (cond (leb (length offsets) 254) [] (leBytes (f .width) (length offsets)) ++ fieldsBytes (f .width) offsets)
+
+-- Keyword number, kind, prefix, suffix, count, first offset (0 if none), and the offsets.
+unfoldable pub fullBytes : Form → ℕ → MatchRecord → List ℕ
+fullBytes f k r =
+    k ∷ kindOf (length (r .offsets)) ∷ r .prefix ∷ r .suffix ∷ min (length (r .offsets)) 255 ∷ leBytes (f .width) (getD (r .offsets) 0 0)
+    ++ offsetsBytes f (r .offsets)
+
+-- Keyword number, kind 0, the tiny byte.
+abbrev pub tinyBytes : Form → ℕ → MatchRecord → List ℕ
+tinyBytes f k r = k ∷ 0 ∷ (r .prefix + f .tinyStep * r .suffix) ∷ []
+
+-- The record of keyword k, of length n. An empty one is not written.
+unfoldable pub recordBytes : Form → ℕ → ℕ → MatchRecord → List ℕ
+recordBytes f n k r = cond (isEmpty r) [] (cond (isTiny f n r) (tinyBytes f k r) (fullBytes f k r))
+
+-- A body: the records by rising keyword number, from keyword k on. `lengths` has the keywords' lengths.
+unfoldable pub bodyFrom : Form → ℕ → List ℕ → List MatchRecord → List ℕ
+bodyFrom f k [] records = []
+bodyFrom f k (n ∷ lengths) [] = []
+bodyFrom f k (n ∷ lengths) (r ∷ records) = recordBytes f n k r ++ bodyFrom f (suc k) lengths records
+
+abbrev pub bodyBytes : Form → List ℕ → List MatchRecord → List ℕ
+bodyBytes f lengths records = bodyFrom f 0 lengths records
+
+-- ---- reading back
+
+-- The offsets that a full record's bytes say, by its kind; the exact count of kind 3 stands behind the first offset.
+unfoldable pub readOffsets : Form → List ℕ → List ℕ
+readOffsets f bytes =
+    cond (eqb (getD bytes 1 0) 1) (cond (eqb (getD bytes 4 0) 0) [] (fieldAt bytes 5 (f .width) ∷ []))
+    (cond (eqb (getD bytes 1 0) 2) (fieldsOf (f .width) (getD bytes 4 0) (drop (5 + f .width) bytes))
+    (fieldsOf (f .width) (fieldAt bytes (5 + f .width) (f .width)) (drop (5 + 2 * f .width) bytes)))
+
+-- The record that bytes starting with a keyword number say, whether or not they are its written form.
+unfoldable pub readRecord : Form → List ℕ → MatchRecord
+readRecord f bytes =
+    cond (eqb (getD bytes 1 0) 0)
+    (record { prefix = getD bytes 2 0 % f .tinyStep; suffix = getD bytes 2 0 / f .tinyStep; offsets = [] })
+    (record { prefix = getD bytes 2 0; suffix = getD bytes 3 0; offsets = readOffsets f bytes })
+
+-- How many bytes that record takes, by its kind.
+unfoldable pub recordSize : Form → List ℕ → ℕ
+recordSize f bytes =
+    cond (eqb (getD bytes 1 0) 0) 3
+    (cond (eqb (getD bytes 1 0) 1) (5 + f .width)
+    (cond (eqb (getD bytes 1 0) 2) (5 + f .width + f .width * getD bytes 4 0)
+    (5 + 2 * f .width + f .width * fieldAt bytes (5 + f .width) (f .width))))
+
+-- The records of `count` keywords, from keyword k on. A keyword whose number is not next in the body has the empty record.
+unfoldable pub readFrom : Form → ℕ → ℕ → List ℕ → List MatchRecord
+readFrom f k zero bytes = []
+readFrom f k (suc count) bytes =
+    cond (begins (k ∷ []) bytes)
+    (readRecord f bytes ∷ readFrom f (suc k) count (drop (recordSize f bytes) bytes))
+    (emptyRecord ∷ readFrom f (suc k) count bytes)
+
+abbrev pub readBody : Form → ℕ → List ℕ → List MatchRecord
+readBody f count body = readFrom f 0 count body
+
+-- Each keyword's record keeps the ranges.
+unfoldable pub allInRange : ℕ → List ℕ → List MatchRecord → Bool
+allInRange size [] records = true
+allInRange size (n ∷ lengths) [] = false
+allInRange size (n ∷ lengths) (r ∷ records) = inRange n size r && allInRange size lengths records
+
+-- A body is good if it is the writing of records that keep the ranges, for keywords of these lengths and a chunk of length `size`.
+unfoldable pub goodBody : Form → List ℕ → ℕ → List ℕ → Bool
+goodBody f lengths size body =
+    same (bodyBytes f lengths (readBody f (length lengths) body)) body
+    && allInRange size lengths (readBody f (length lengths) body)
