@@ -19,4 +19,3 @@ hits-none file count offset t h = each-none _ 0 count (λ k l m. rw (h k (omega 
 pub hits-same : (file count offset : ℕ) (t u : ℕ → Bool) → ((k : ℕ) → k < count → t k ≡ u k) → hits file count t offset ≡ hits file count u offset
 unfolding hits
 hits-same file count offset t u h = each-match _ _ 0 0 count (λ k l. rw (zero-add, h k l))
-

@@ -8,3 +8,4 @@ pub mod Folding
 pub mod Hits
 pub mod Rising
 pub mod Sets
+pub mod Same

@@ -52,3 +52,8 @@ and-right false b e = absurd (false≢true e)
 
 pub le-of-and : (m n : ℕ) (b : Bool) → (leb m n && b) ≡ true → m ≤ n
 le-of-and m n b e = leb→le m n (T-of (leb m n) (and-left (leb m n) b e))
+
+-- a Bool is one of two
+pub bool-cases : (b : Bool) → (b ≡ true) ⊎ (b ≡ false)
+bool-cases true = inl refl
+bool-cases false = inr refl

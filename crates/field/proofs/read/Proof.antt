@@ -1,0 +1,115 @@
+use native.Mathlib.Nat.{sub-self, pow-le-pow-right, min-le-left}
+use lib.ListN.{drop-of-length-le}
+use mathlib.Core.Path.{_≡_, refl, sym, ap, _∙_, subst}
+use mathlib.Core.List.{List, [], _∷_}
+use Prim.Native.Nat.{ℕ, zero, suc, _+_, _*_, _/_, _%_, _-_, _^_, _≤_, _<_}
+use native.Mathlib.Numerals.{add-one}
+use native.Mathlib.Omega.{arith}
+use lib.ListN.{length, getD, set, take, drop, length-set, length-take, length-drop}
+use lib.Seq.{drop-cons, getD-take, getD-drop, drop-length}
+use denote.Ref.{now}
+use Rattle.spec.specs.Bytes.{leValue, leBytes, splice}
+use Rattle.spec.proofs.Fields.{length-leBytes, leValue-lt}
+use Rattle.spec.proofs.Splices.{splice-nil, splice-cons}
+use borrow.Author.Needs.{needs}
+use Rattle.field.proofs.read.Statement.{statement}
+use Rattle.field.proofs.read.Tie as tie
+use Rattle.field.proofs.read.Reads as reads
+use Rattle.field.proofs.read.Lts as lts
+
+abbrev Inv-loop : tie.InvT-loop
+Inv-loop bytes at width v₀ k₀ v k = (k ≤ width) × (width ≤ 8) × (v ≡ leValue (drop k (take width (drop at bytes)))) × (v < 256 ^ (width - k))
+
+abbrev μ-loop : tie.MeasureT-loop
+μ-loop bytes at width v₀ k₀ v k = k
+
+-- the bytes of the field from k on are one byte and those from k + 1 on
+turn : (s : List ℕ) (at w j : ℕ) → j < w → at + w ≤ length s
+    → leValue (drop (suc j) (take w (drop at s))) * 256 + getD s (at + j) 0 ≡ leValue (drop j (take w (drop at s)))
+unfolding leValue
+turn s at w j h l =
+    let n : j < length (take w (drop at s)) = simp (length-take, length-drop) (omega arith) in
+    rw (drop-cons (take w (drop at s)) j 0 n, getD-take w (drop at s) j 0 h, getD-drop at s j 0) (omega arith)
+
+-- what has been read so far, with one byte more, is below the next power of 256, and fits
+next : (w k v b : ℕ) → 0 < k → k ≤ w → b < 256 → v < 256 ^ (w - k) → v * 256 + b < 256 ^ (w - (k - 1))
+next w k v b h l p q =
+    let e : w - (k - 1) ≡ w - k + 1 = omega arith in
+    rw e (leValue-lt b v (w - k) p q)
+
+small : (w k x : ℕ) → w ≤ 8 → x < 256 ^ (w - k) → x < 2 ^ 64
+small w k x h l = omega (arith, pow-le-pow-right {n = 256} (omega arith) {i = w - k} {j = 8} (omega arith))
+
+none : (w : ℕ) (l : List ℕ) → leValue (drop w (take w l)) ≡ 0
+unfolding leValue
+none w l = rw (drop-of-length-le (take w l) {i = w} (simp length-take (min-le-left w (length l))))
+
+-- in a turn, after the byte was read
+fits : (c : tie.After-shared-slice-known Inv-loop μ-loop)
+    → c .before .before .loop .v * 256 + getD (c .before .before .before .args .bytes .now) (c .before .before .before .args .at + (c .before .before .loop .k - 1)) 0
+    < 256 ^ (c .before .before .before .args .width - (c .before .before .loop .k - 1))
+fits c =
+    let at = c .before .before in
+    let start = at .before .args in
+    next (start .width) (at .loop .k) (at .loop .v) (getD (start .bytes .now) (start .at + (at .loop .k - 1)) 0) (c .before .loop-test .taken) (at .loop .inv .0)
+    (omega (arith, c .shared-slice-known .given (start .at + (at .loop .k - 1)))) (at .loop .inv .3)
+
+loop-holds : tie.Need-loop-holds Inv-loop μ-loop
+loop-holds c =
+    (omega arith, omega arith, sym (none (c .args .width) (drop (c .args .at) (c .args .bytes .now))), rw (sub-self (c .args .width)) (omega arith))
+
+sub-k : tie.Need-sub-k Inv-loop μ-loop
+sub-k c = search needs
+
+mul-v : tie.Need-mul-v Inv-loop μ-loop
+mul-v c = omega (arith, small (c .before .before .args .width) (c .before .loop .k - 1) (c .before .loop .v * 256 + 0) (c .before .loop .inv .1) (next (c .before .before .args .width) (c .before .loop .k) (c .before .loop .v) 0 (c .loop-test .taken) (c .before .loop .inv .0) (omega arith) (c .before .loop .inv .3)))
+
+add-v : tie.Need-add-v Inv-loop μ-loop
+add-v c = omega arith
+
+shared-slice-read-v : tie.Need-shared-slice-read-v Inv-loop μ-loop
+shared-slice-read-v c = search needs
+
+cast-v : tie.Need-cast-v Inv-loop μ-loop
+cast-v c = omega (arith, c .shared-slice-known .given (c .before .before .before .args .at + (c .before .before .loop .k - 1)))
+
+add-v-2 : tie.Need-add-v-2 Inv-loop μ-loop
+add-v-2 c = record { fits = small (c .before .before .before .args .width) (c .before .before .loop .k - 1) _ (c .before .before .loop .inv .1) (fits c) }
+
+loop-less : tie.Need-loop-less Inv-loop μ-loop
+loop-less c = search needs
+
+loop-again : tie.Need-loop-again Inv-loop μ-loop
+loop-again c =
+    let at = c .before .before in
+    let start = at .before .args in
+    let e : at .loop .k ≡ suc (at .loop .k - 1) = omega arith in
+    let f = take (start .width) (drop (start .at) (start .bytes .now)) in (
+      omega arith,
+      at .loop .inv .1,
+      ap (λ (x : ℕ). x * 256 + getD (start .bytes .now) (start .at + (at .loop .k - 1)) 0) (at .loop .inv .2 ∙ ap (λ (k : ℕ). leValue (drop k f)) e)
+          ∙ turn (start .bytes .now) (start .at) (start .width) (at .loop .k - 1) (omega arith) (at .before .pre .1),
+      fits c,
+    )
+
+returns : tie.Need-returns Inv-loop μ-loop
+returns c =
+    let z : c .before .loop .k ≡ 0 = omega arith in
+    c .before .loop .inv .2 ∙ ap (λ (k : ℕ). leValue (drop k (take (c .before .before .args .width) (drop (c .before .before .args .at) (c .before .before .args .bytes .now))))) z
+
+pub read-spec : {M : Type 1} → statement M
+read-spec =
+    tie.close
+    (tie.spec
+    Inv-loop
+    μ-loop
+    loop-holds
+    sub-k
+    mul-v
+    add-v
+    shared-slice-read-v
+    cast-v
+    add-v-2
+    loop-less
+    loop-again
+    returns)
