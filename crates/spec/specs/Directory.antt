@@ -24,13 +24,13 @@ abbrev pub keysOf : ℕ → ℕ → List ℕ → List (List ℕ)
 keysOf stride zero bytes = []
 keysOf stride (suc n) bytes = take 20 bytes ∷ keysOf stride n (drop stride bytes)
 
-module _ (layout : Layout) (bytes : List ℕ) where
-  -- The end of a directory of c entries.
-  abbrev pub directoryEnd : ℕ → ℕ
-  directoryEnd c = layout .start + layout .stride * c
+-- The end of a directory of c entries.
+abbrev pub directoryEnd : Layout → ℕ → ℕ
+directoryEnd layout c = layout .start + layout .stride * c
 
+module _ (layout : Layout) (bytes : List ℕ) where
   abbrev pub entryField : ℕ → ℕ → ℕ
-  entryField field k = fieldAt bytes (directoryEnd k + field) 4
+  entryField field k = fieldAt bytes (directoryEnd layout k + field) 4
 
   abbrev pub sizeAt : ℕ → ℕ
   sizeAt k = entryField (layout .sizeField) k

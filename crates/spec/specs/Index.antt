@@ -70,8 +70,8 @@ indexCode f index =
     firstOf
     ((ltb (length index) 8 || not (same (take 4 index) (f .mark)) || ltb mostChunks (chunkCount index), indexMarkWrong)
     ∷ whole (keywordFrontCode (listIn index))
-    ∷ (ltb (length index) (directoryEnd (indexLayout index) index (chunkCount index)), indexEntryWrong)
-    ∷ whole (entriesCode (indexLayout index) index (f .longestChunk) indexEntryWrong (chunkCount index) 0 (directoryEnd (indexLayout index) index (chunkCount index)))
+    ∷ (ltb (length index) (directoryEnd (indexLayout index) (chunkCount index)), indexEntryWrong)
+    ∷ whole (entriesCode (indexLayout index) index (f .longestChunk) indexEntryWrong (chunkCount index) 0 (directoryEnd (indexLayout index) (chunkCount index)))
     ∷ (twice (indexKeys index), indexTwin)
     ∷ (not (allGood f index), bodyNotGood)
     ∷ [])

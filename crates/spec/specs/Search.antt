@@ -1,19 +1,20 @@
 -- The search: what a scan and a join of its index answer together, said by the restored files alone (demand 3).
-use mathlib.Core.Bool.{Bool, true, false, _&&_, _||_, cond}
+use mathlib.Core.Bool.{Bool, true, false, cond}
 use mathlib.Core.List.{List, [], _∷_, _++_, map}
-use Prim.Native.Nat.{ℕ, zero, suc, _+_, _*_, _-_}
+use Prim.Native.Nat.{ℕ, suc, _*_}
 use lib.ListN.{length}
-use lib.Dec.{leb, ltb}
-use Rattle.spec.specs.declared.Outcome.{Outcome}
+use lib.Dec.{eqb, ltb}
+use Rattle.spec.specs.declared.Searched.{Searched}
+use Rattle.spec.specs.declared.Searched.the-variants.{ScanRefused, JoinRefused, Found}
 use Rattle.spec.specs.Bytes.{written, positionOf, occursAt, each, joined}
-use Rattle.spec.specs.Outcome.{firstOf, whole, answer, unlessRefused, listTooLong}
-use Rattle.spec.specs.Keywords.{flagOf, folded, foldedKeywords, keywordsOf}
+use Rattle.spec.specs.Outcome.{firstOf, whole, unlessRefused, listTooLong}
+use Rattle.spec.specs.Keywords.{flagOf, folded, foldedKeywords}
 use Rattle.spec.specs.Directory.{sizeAt}
 use Rattle.spec.specs.Store.{storeLayout, storeKeys, chunkAt}
 use Rattle.spec.specs.Records.{Form}
 use Rattle.spec.specs.Recipes.{filesOf, recipesCode, filesCode}
 use Rattle.spec.specs.Join.{Occurrence, keywordAt, hits, listBytes, due}
-use Rattle.spec.specs.Scan.{scanCode}
+use Rattle.spec.specs.Scan.{scanIndex, scanCode}
 
 -- ---- the direct search
 
@@ -52,3 +53,38 @@ searchJoinCode f list store recipes room =
     ∷ whole (filesCode (storeKeys store) (sizeAt storeLayout store) (due f list) (filesOf recipes))
     ∷ (ltb room (9 * length (directSearch list store recipes)), listTooLong)
     ∷ [])
+
+-- The whole refusal: the scan's, for an index buffer of `indexRoom` bytes; where it is done, the join's.
+unfoldable pub searchCode : Form → List ℕ → List ℕ → List ℕ → ℕ → ℕ → ℕ
+searchCode f list store recipes indexRoom room =
+    firstOf (whole (scanCode f list store indexRoom) ∷ whole (searchJoinCode f list store recipes room) ∷ [])
+
+-- The search's answer.
+unfoldable pub searchOutcome : Form → List ℕ → List ℕ → List ℕ → ℕ → ℕ → Searched
+searchOutcome f list store recipes indexRoom room =
+    cond (eqb (scanCode f list store indexRoom) 0)
+    (cond (eqb (searchJoinCode f list store recipes room) 0)
+    (Found (length (scanIndex f list store)) (length (directSearch list store recipes)))
+    (JoinRefused (length (scanIndex f list store)) (searchJoinCode f list store recipes room)))
+    (ScanRefused (scanCode f list store indexRoom))
+
+-- The list buffer after it; the index buffer is as the scan leaves it.
+unfoldable pub searchBuffer : Form → List ℕ → List ℕ → List ℕ → ℕ → List ℕ → List ℕ
+searchBuffer f list store recipes indexRoom out =
+    unlessRefused (searchCode f list store recipes indexRoom (length out)) (written out (listBytes (directSearch list store recipes))) out
+
+-- The number of an answer, 0 for work done; the length of the index that was written; the count.
+abbrev pub searchedCode : Searched → ℕ
+searchedCode (ScanRefused code) = code
+searchedCode (JoinRefused size code) = code
+searchedCode (Found size count) = 0
+
+abbrev pub searchedSize : Searched → ℕ
+searchedSize (ScanRefused code) = 0
+searchedSize (JoinRefused size code) = size
+searchedSize (Found size count) = size
+
+abbrev pub searchedCount : Searched → ℕ
+searchedCount (ScanRefused code) = 0
+searchedCount (JoinRefused size code) = 0
+searchedCount (Found size count) = count

@@ -40,7 +40,7 @@ unfoldable pub storeCode : List ℕ → ℕ
 storeCode store =
     firstOf
     ((ltb (length store) 8 || not (same (take 4 store) storeMark), storeMarkWrong)
-    ∷ (ltb mostChunks (chunkCount store) || ltb (length store) (directoryEnd storeLayout store (chunkCount store)), storeDirectoryCut)
-    ∷ whole (entriesCode storeLayout store (newest .longestChunk) storeEntryWrong (chunkCount store) 0 (directoryEnd storeLayout store (chunkCount store)))
+    ∷ (ltb mostChunks (chunkCount store) || ltb (length store) (directoryEnd storeLayout (chunkCount store)), storeDirectoryCut)
+    ∷ whole (entriesCode storeLayout store (newest .longestChunk) storeEntryWrong (chunkCount store) 0 (directoryEnd storeLayout (chunkCount store)))
     ∷ (twice (storeKeys store), storeTwin)
     ∷ [])

@@ -6,3 +6,13 @@ pub enum Outcome {
     // Document 01's number.
     Refused(u8),
 }
+
+// The answer of a search, which is a scan and then a join of the index that it wrote. specs/Search.antt says what its cases mean.
+pub enum Searched {
+    // The scan is refused, with document 01's number.
+    ScanRefused(u8),
+    // The scan wrote an index of this length, and its join is refused with this number.
+    JoinRefused(usize, u8),
+    // The length of the index, and the count of occurrences.
+    Found(usize, usize),
+}
