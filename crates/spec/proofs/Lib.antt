@@ -9,3 +9,5 @@ pub mod Hits
 pub mod Rising
 pub mod Sets
 pub mod Same
+pub mod Point
+pub mod Stream
