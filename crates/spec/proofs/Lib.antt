@@ -11,3 +11,4 @@ pub mod Sets
 pub mod Same
 pub mod Point
 pub mod Stream
+pub mod Codes
