@@ -12,3 +12,4 @@ pub mod Same
 pub mod Point
 pub mod Stream
 pub mod Codes
+pub mod JoinIsSearch
