@@ -13,3 +13,4 @@ pub mod Point
 pub mod Stream
 pub mod Codes
 pub mod JoinIsSearch
+pub mod EntryLaws
