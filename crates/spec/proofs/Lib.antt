@@ -14,3 +14,5 @@ pub mod Stream
 pub mod Codes
 pub mod JoinIsSearch
 pub mod EntryLaws
+pub mod Seams
+pub mod WrittenEntries
