@@ -1,41 +1,45 @@
--- Laws of chains of tests: what a code of 0 says of each test, and a chain's value where a test is decided. Assumes nothing.
+-- Laws of chains of tests: what a code of 0 says of each test, and a chain's value where a test is decided. They speak of `cond b code rest`,
+-- which is what `firstOf` of a chain computes to: at a chain write `passed _ 3 _ (omega arith) e`. Assumes nothing.
 use mathlib.Core.Path.{_≡_, refl}
 use mathlib.Core.Logic.{_≢_}
-use mathlib.Core.Bool.{Bool, true, false, _||_, true≢false}
-use mathlib.Core.List.{List, [], _∷_, map}
+use mathlib.Core.Bool.{Bool, true, false, cond, _||_, true≢false}
+use mathlib.Core.List.{List, [], _∷_}
 use Prim.Native.Nat.{ℕ, zero, suc, _<_}
 use native.Mathlib.Omega.{arith}
+use lib.Dec.{ltb}
 use borrow.Author.Tests.{ne-eqb, lt-ltb}
-use Rattle.spec.specs.declared.Outcome.{Outcome}
 use Rattle.spec.specs.declared.Outcome.the-variants.{Done, Refused}
-use Rattle.spec.specs.Outcome.{Test, firstOf, whole, firstCode, answer, unlessRefused}
+use Rattle.spec.specs.Outcome.{firstOf, whole, firstCode, answer, unlessRefused}
 
 -- ---- a chain of 0: the first test is false, and so on
 
-pub passed : (b : Bool) (code : ℕ) (rest : List Test) → 0 < code → firstOf ((b, code) ∷ rest) ≡ 0 → (b ≡ false) × (firstOf rest ≡ 0)
+pub passed : (b : Bool) (code rest : ℕ) → 0 < code → cond b code rest ≡ 0 → (b ≡ false) × (rest ≡ 0)
 passed true code rest h e = let z : ⊥ = omega arith in absurd z
 passed false code rest h e = (refl, e)
 
-pub passed-whole : (code : ℕ) (rest : List Test) → firstOf (whole code ∷ rest) ≡ 0 → (code ≡ 0) × (firstOf rest ≡ 0)
+pub passed-whole : (code rest : ℕ) → cond (ltb 0 code) code rest ≡ 0 → (code ≡ 0) × (rest ≡ 0)
 passed-whole zero rest e = (refl, e)
 passed-whole (suc n) rest e = let z : suc n ≡ 0 = rw (lt-ltb 0 (suc n) (omega arith)) at e in let y : ⊥ = omega arith in absurd y
 
 -- no test is true: 0
-pub all-passed : (b : Bool) (code : ℕ) (rest : List Test) → b ≡ false → firstOf rest ≡ 0 → firstOf ((b, code) ∷ rest) ≡ 0
+pub all-passed : (b : Bool) (code rest : ℕ) → b ≡ false → rest ≡ 0 → cond b code rest ≡ 0
 all-passed b code rest f e = rw f e
+
+pub all-passed-whole : (code rest : ℕ) → code ≡ 0 → rest ≡ 0 → cond (ltb 0 code) code rest ≡ 0
+all-passed-whole code rest f e = rw f e
 
 -- ---- a chain whose first test is decided
 
-pub refused : (b : Bool) (code : ℕ) (rest : List Test) → b ≡ true → code ≡ firstOf ((b, code) ∷ rest)
+pub refused : (b : Bool) (code rest : ℕ) → b ≡ true → code ≡ cond b code rest
 refused b code rest e = rw e
 
-pub next-test : (b : Bool) (code : ℕ) (rest : List Test) → b ≡ false → firstOf ((b, code) ∷ rest) ≡ firstOf rest
+pub next-test : (b : Bool) (code rest : ℕ) → b ≡ false → cond b code rest ≡ rest
 next-test b code rest e = rw e
 
-pub refused-whole : (code : ℕ) (rest : List Test) → code ≢ 0 → code ≡ firstOf (whole code ∷ rest)
+pub refused-whole : (code rest : ℕ) → code ≢ 0 → code ≡ cond (ltb 0 code) code rest
 refused-whole code rest h = rw (lt-ltb 0 code (omega arith))
 
-pub next-whole : (code : ℕ) (rest : List Test) → code ≡ 0 → firstOf (whole code ∷ rest) ≡ firstOf rest
+pub next-whole : (code rest : ℕ) → code ≡ 0 → cond (ltb 0 code) code rest ≡ rest
 next-whole code rest e = rw e
 
 -- a check that is the last test
@@ -46,13 +50,13 @@ last-whole (suc n) = rw (lt-ltb 0 (suc n) (omega arith))
 -- ---- checks one after the other
 
 pub passed-code : (code : ℕ) (codes : List ℕ) → firstCode (code ∷ codes) ≡ 0 → (code ≡ 0) × (firstCode codes ≡ 0)
-passed-code code codes e = passed-whole code (map whole codes) e
+passed-code code codes e = passed-whole code (firstCode codes) e
 
 pub refused-code : (code : ℕ) (codes : List ℕ) → code ≢ 0 → code ≡ firstCode (code ∷ codes)
-refused-code code codes h = refused-whole code (map whole codes) h
+refused-code code codes h = refused-whole code (firstCode codes) h
 
 pub next-code : (code : ℕ) (codes : List ℕ) → code ≡ 0 → firstCode (code ∷ codes) ≡ firstCode codes
-next-code code codes e = next-whole code (map whole codes) e
+next-code code codes e = next-whole code (firstCode codes) e
 
 -- ---- a condition of two or three parts
 

@@ -16,3 +16,4 @@ pub mod JoinIsSearch
 pub mod EntryLaws
 pub mod Seams
 pub mod WrittenEntries
+pub mod KeywordLaws
