@@ -1,0 +1,111 @@
+-- The cases that document 01 marks with *, said of the byte-level definitions: one field for each marked line, in the paper's order.
+use mathlib.Core.Path.{_≡_}
+use mathlib.Core.Bool.{Bool}
+use mathlib.Core.List.{List, [], _∷_, _++_, map}
+use Prim.Native.Nat.{ℕ, zero, suc, _+_, _*_}
+use lib.ListN.{replicate, length, take, drop}
+use lib.Dec.{ltb}
+use Rattle.spec.specs.declared.Outcome.{Outcome}
+use Rattle.spec.specs.declared.Outcome.the-variants.{Done, Refused}
+use Rattle.spec.specs.Bytes.{leBytes, fieldsBytes, each, keep, joined}
+use Rattle.spec.specs.Keywords.{keywordCode}
+use Rattle.spec.specs.Store.{storeMark, storeCode}
+use Rattle.spec.specs.Directory.{offsetAt}
+use Rattle.spec.specs.Records.{form1, offsetsOf}
+use Rattle.spec.specs.Table.{cellOf}
+use Rattle.spec.specs.Index.{indexLayout, bodyAt, indexCode}
+use Rattle.spec.specs.Join.{joinOutcome, joinBuffer}
+use Rattle.spec.specs.Scan.{scanIndex, scanOutcome, scanBuffer}
+
+-- ---- the inputs
+
+-- The paper's fingerprints: twenty equal bytes.
+abbrev pub fingerprint : ℕ → List ℕ
+fingerprint n = replicate 20 n
+
+-- The small vault: chunks XAB, ABAX, A at 92, 95, 99.
+abbrev pub store : List ℕ
+store =
+    storeMark ++ (3 ∷ 0 ∷ 0 ∷ 0 ∷ [])
+    ++ fingerprint 1 ++ (92 ∷ 0 ∷ 0 ∷ 0 ∷ 3 ∷ 0 ∷ 0 ∷ 0 ∷ [])
+    ++ fingerprint 2 ++ (95 ∷ 0 ∷ 0 ∷ 0 ∷ 4 ∷ 0 ∷ 0 ∷ 0 ∷ [])
+    ++ fingerprint 3 ++ (99 ∷ 0 ∷ 0 ∷ 0 ∷ 1 ∷ 0 ∷ 0 ∷ 0 ∷ [])
+    ++ (0x58 ∷ 0x41 ∷ 0x42 ∷ [])
+    ++ (0x41 ∷ 0x42 ∷ 0x41 ∷ 0x58 ∷ [])
+    ++ (0x41 ∷ [])
+
+-- Its keywords: ABA, AA.
+abbrev pub keywords : List ℕ
+keywords = 0x02 ∷ 0x00 ∷ 0x03 ∷ 0x41 ∷ 0x42 ∷ 0x41 ∷ 0x02 ∷ 0x41 ∷ 0x41 ∷ []
+
+-- A file of a recipe, by the fingerprints that it names; recipes of files.
+abbrev pub fileOf : List ℕ → List ℕ
+fileOf names = leBytes 4 (length names) ++ joined (map fingerprint names)
+
+abbrev pub recipesOf : List (List ℕ) → List ℕ
+recipesOf files = leBytes 4 (length files) ++ joined (map fileOf files)
+
+-- File 0 is XAB, ABAX; file 1 is A, A; file 2 is empty.
+abbrev pub recipes : List ℕ
+recipes = recipesOf ((1 ∷ 2 ∷ []) ∷ (3 ∷ 3 ∷ []) ∷ [] ∷ [])
+
+abbrev pub index : List ℕ
+index = scanIndex form1 keywords store
+
+-- A store of one chunk with fewer than 256 bytes, and one keyword with a flag.
+abbrev pub oneChunk : List ℕ → List ℕ
+oneChunk chunk = storeMark ++ (1 ∷ 0 ∷ 0 ∷ 0 ∷ []) ++ fingerprint 1 ++ (36 ∷ 0 ∷ 0 ∷ 0 ∷ length chunk ∷ 0 ∷ 0 ∷ 0 ∷ []) ++ chunk
+
+abbrev pub oneKeyword : ℕ → List ℕ → List ℕ
+oneKeyword flag keyword = 1 ∷ flag ∷ length keyword ∷ keyword
+
+-- The body that a scan writes for it.
+abbrev pub bodyFor : List ℕ → List ℕ → List ℕ
+bodyFor keyword chunk = bodyAt (scanIndex form1 (oneKeyword 0 keyword) (oneChunk chunk)) 0
+
+-- What a join of its index says of the file that is this chunk.
+abbrev pub countFor : ℕ → List ℕ → List ℕ → Outcome
+countFor flag keyword chunk = joinOutcome form1 (scanIndex form1 (oneKeyword flag keyword) (oneChunk chunk)) (recipesOf ((1 ∷ []) ∷ [])) 65536
+
+-- The cells of a keyword's table that hold something, by i and then by j, each from 0 to n - 1.
+abbrev pub filledCells : List ℕ → List (ℕ × ℕ × List ℕ)
+filledCells keyword =
+    each (λ i. each (λ j. keep (ltb 0 (length (cellOf keyword i j))) (i, j, cellOf keyword i j)) 0 (length keyword)) 0 (length keyword)
+
+-- An occurrence as the join writes it.
+abbrev pub nine : ℕ → ℕ → ℕ → List ℕ
+nine file offset keyword = leBytes 4 file ++ leBytes 4 offset ++ leBytes 1 keyword
+
+-- ---- the cases
+
+pub record Cases : Type 0 where
+  -- the store has 100 bytes, the index 136, and both are good
+  pub sizes : (length store ≡ 100) × (scanOutcome form1 keywords store 136 ≡ Done 136) × (scanOutcome form1 keywords store 135 ≡ Refused 9) × (indexCode form1 index ≡ 0)
+  -- * XAB, ABAX and A: the bodies, at 113, 120 and 130
+  pub xab : (offsetAt (indexLayout index) index 0 ≡ 113) × (bodyAt index 0 ≡ 0x00 ∷ 0x01 ∷ 0x02 ∷ 0x00 ∷ 0x00 ∷ 0x00 ∷ 0x00 ∷ [])
+  pub abax : (offsetAt (indexLayout index) index 1 ≡ 120) × (bodyAt index 1 ≡ 0x00 ∷ 0x01 ∷ 0x00 ∷ 0x01 ∷ 0x01 ∷ 0x00 ∷ 0x00 ∷ 0x01 ∷ 0x00 ∷ 0x02 ∷ [])
+  pub a : (offsetAt (indexLayout index) index 2 ≡ 130) × (bodyAt index 2 ≡ 0x00 ∷ 0x00 ∷ 0x03 ∷ 0x01 ∷ 0x00 ∷ 0x03 ∷ [])
+  -- the small vault's list, in a buffer of 30 bytes: 27 are written
+  pub list : (joinOutcome form1 index recipes 30 ≡ Done 3) × (joinBuffer form1 index recipes (replicate 30 7) ≡ nine 0 1 0 ++ nine 0 3 0 ++ nine 1 0 1 ++ replicate 3 7)
+  -- * DEDUP's five cells, and no others
+  pub dedup : filledCells (0x44 ∷ 0x45 ∷ 0x44 ∷ 0x55 ∷ 0x50 ∷ [])
+      ≡ (1, 4, 0 ∷ []) ∷ (2, 3, 0 ∷ []) ∷ (3, 2, 0 ∷ []) ∷ (3, 4, 2 ∷ []) ∷ (4, 1, 0 ∷ []) ∷ []
+  -- * AAAA's (3,3)
+  pub aaaa : cellOf (replicate 4 0x41) 3 3 ≡ 0 ∷ 1 ∷ 2 ∷ []
+  -- * AA in AAA: 0, 1; kind 2, prefix 1, suffix 1, count 2, 0, then 0 and 1
+  pub aaInAaa : (offsetsOf (0x41 ∷ 0x41 ∷ []) (replicate 3 0x41) ≡ 0 ∷ 1 ∷ [])
+      × (bodyFor (0x41 ∷ 0x41 ∷ []) (replicate 3 0x41) ≡ 0x00 ∷ 0x02 ∷ 0x01 ∷ 0x01 ∷ 0x02 ∷ 0x00 ∷ 0x00 ∷ 0x00 ∷ 0x00 ∷ 0x01 ∷ 0x00 ∷ [])
+  -- * file XAB, A: ABA at 1
+  pub xabThenA : (joinOutcome form1 index (recipesOf ((1 ∷ 3 ∷ []) ∷ [])) 9 ≡ Done 1) × (joinBuffer form1 index (recipesOf ((1 ∷ 3 ∷ []) ∷ [])) (replicate 9 7) ≡ nine 0 1 0)
+  -- * XAB, A, ABAX is refused with 17
+  pub innerShort : (joinOutcome form1 index (recipesOf ((1 ∷ 3 ∷ 2 ∷ []) ∷ [])) 65536 ≡ Refused 17)
+      × (joinBuffer form1 index (recipesOf ((1 ∷ 3 ∷ 2 ∷ []) ∷ [])) (replicate 30 7) ≡ replicate 30 7)
+  -- * 254 As and keyword A: kind 2, count FE, 0, then 0 to 253
+  pub as254 : bodyFor (0x41 ∷ []) (replicate 254 0x41) ≡ 0x00 ∷ 0x02 ∷ 0x00 ∷ 0x00 ∷ 0xFE ∷ 0x00 ∷ 0x00 ∷ fieldsBytes 2 (each (λ k. k ∷ []) 0 254)
+  -- * 255: kind 3, count FF, 0, the exact count, then 0 to 254
+  pub as255 : bodyFor (0x41 ∷ []) (replicate 255 0x41) ≡ 0x00 ∷ 0x03 ∷ 0x00 ∷ 0x00 ∷ 0xFF ∷ 0x00 ∷ 0x00 ∷ 0xFF ∷ 0x00 ∷ fieldsBytes 2 (each (λ k. k ∷ []) 0 255)
+  -- * flag 1: b matches B (with flag 0 it does not), { does not match [
+  pub bMatchesB : (countFor 1 (0x62 ∷ []) (0x42 ∷ []) ≡ Done 1) × (countFor 0 (0x62 ∷ []) (0x42 ∷ []) ≡ Done 0)
+  pub braceAndBracket : countFor 1 (0x7B ∷ []) (0x5B ∷ []) ≡ Done 0
+  -- * keywords Ab and aB: 4 with flag 1, accepted with 0
+  pub alike : (keywordCode (2 ∷ 1 ∷ 2 ∷ 0x41 ∷ 0x62 ∷ 2 ∷ 0x61 ∷ 0x42 ∷ []) ≡ 4) × (keywordCode (2 ∷ 0 ∷ 2 ∷ 0x41 ∷ 0x62 ∷ 2 ∷ 0x61 ∷ 0x42 ∷ []) ≡ 0)
