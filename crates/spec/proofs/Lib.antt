@@ -17,3 +17,4 @@ pub mod EntryLaws
 pub mod Seams
 pub mod WrittenEntries
 pub mod KeywordLaws
+pub mod KeywordReads
