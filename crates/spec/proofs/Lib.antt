@@ -3,6 +3,7 @@ pub mod Largest
 pub mod Begins
 pub mod Each
 pub mod Fields
+pub mod FieldLists
 pub mod Splices
 pub mod Folding
 pub mod Hits
@@ -18,3 +19,4 @@ pub mod Seams
 pub mod WrittenEntries
 pub mod KeywordLaws
 pub mod KeywordReads
+pub mod RecordLaws

@@ -4,6 +4,7 @@ pub mod Keywords
 pub mod Directory
 pub mod Store
 pub mod Records
+pub mod Steps
 pub mod Index
 pub mod Table
 pub mod Recipes

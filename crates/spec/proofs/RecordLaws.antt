@@ -1,0 +1,441 @@
+-- Match records and bodies: what is written reads back as the same, and a body has one written form. A record's head says its kind, so each
+-- law goes by the three kinds of a full record and the tiny one; bodies follow by induction on the keywords. Assumes nothing.
+use mathlib.Core.Path.{_≡_, refl, sym, ap, ap₂, _∙_, subst}
+use mathlib.Core.Logic.{_≢_, _⊎_, inl, inr}
+use mathlib.Core.Bool.{Bool, true, false, _&&_, _||_, not, cond, and-true, and-false, and-assoc, false≢true, true≢false}
+use mathlib.Core.List.{List, [], _∷_, _++_, append-assoc}
+use Prim.Native.Nat.{ℕ, zero, suc, _+_, _-_, _*_, _/_, _%_, _^_, _≤_, _<_, min}
+use native.Mathlib.Nat.{add-mul-div-left, add-mul-mod-self-left, mod-eq-of-lt, div-eq-of-lt, zero-add, add-zero}
+use native.Mathlib.Omega.{arith}
+use lib.Dec.{eqb, leb, ltb, eqb→eq, leb→le, ltb→lt, leb·zero, eqb·suc-zero}
+use lib.ListN.{length, take, drop, getD, length-append, length-drop, take-append-drop}
+use lib.Seq.{take-at, drop-at, drop-drop}
+use Rattle.spec.specs.Bytes.{leValue, leBytes, fieldAt, fieldsOf, fieldsBytes, same, begins, rising, every}
+use Rattle.spec.specs.Records.{MatchRecord, emptyRecord, Form, form1, isEmpty, isTiny, reach, inRange, kindOf, offsetsBytes, fullBytes, tinyBytes, recordBytes, bodyFrom, bodyBytes, readOffsets, readRecord, recordSize, readFrom, readBody, allInRange, goodBody}
+use Rattle.spec.specs.Steps.{goodFrom, recordGood}
+use Rattle.spec.proofs.Tests.{le-or-lt, T-of, and-left, and-right, leb-true, leb-false, eqb-same, eqb-ne, bool-cases, le-of-and}
+use Rattle.spec.proofs.Same.{same-eq, same-of, same-refl}
+use Rattle.spec.proofs.Fields.{length-leBytes, leValue-leBytes}
+use Rattle.spec.proofs.FieldLists.{length-fieldsBytes, fieldsOf-fieldsBytes}
+
+-- ---- tests
+
+-- two tests that imply each other are the same
+pub bool-ext : (a b : Bool) → (a ≡ true → b ≡ true) → (b ≡ true → a ≡ true) → a ≡ b
+bool-ext true b f g = sym (f refl)
+bool-ext false true f g = g refl
+bool-ext false false f g = refl
+
+pub and-intro : (a b : Bool) → a ≡ true → b ≡ true → (a && b) ≡ true
+and-intro a b p q = rw (p, q)
+
+eq-of : (m n : ℕ) → eqb m n ≡ true → m ≡ n
+eq-of m n e = eqb→eq m n (T-of (eqb m n) e)
+
+le-of : (m n : ℕ) → leb m n ≡ true → m ≤ n
+le-of m n e = leb→le m n (T-of (leb m n) e)
+
+not-false : (b : Bool) → not b ≡ true → b ≡ false
+not-false true e = absurd (false≢true e)
+not-false false e = refl
+
+-- ---- forms
+
+-- What the laws ask of a form: offsets and exact counts fit their fields, and the tiny byte can be taken apart.
+pub record FormGood (f : Form) : Type 0 where
+  pub fits : f .longestChunk < 256 ^ f .width
+  pub apart : (n : ℕ) → f .tinyMost n < f .tinyStep
+
+pub form1-good : FormGood form1
+form1-good = record { fits = omega arith; apart = λ n. omega arith }
+
+-- ---- records in range
+
+no-offsets : (offsets : List ℕ) → length offsets ≡ 0 → offsets ≡ []
+no-offsets [] e = refl
+no-offsets (x ∷ offsets) e = let z : ⊥ = omega arith in absurd z
+
+pub empty-is : (r : MatchRecord) → isEmpty r ≡ true → r ≡ emptyRecord
+empty-is r e =
+    let a = and-left (eqb (r .prefix) 0 && eqb (r .suffix) 0) (eqb (length (r .offsets)) 0) e in
+    let p : r .prefix ≡ 0 = eq-of (r .prefix) 0 (and-left (eqb (r .prefix) 0) (eqb (r .suffix) 0) a) in
+    let s : r .suffix ≡ 0 = eq-of (r .suffix) 0 (and-right (eqb (r .prefix) 0) (eqb (r .suffix) 0) a) in
+    let o : r .offsets ≡ [] = no-offsets (r .offsets) (eq-of (length (r .offsets)) 0 (and-right (eqb (r .prefix) 0 && eqb (r .suffix) 0) (eqb (length (r .offsets)) 0) e)) in
+    λ i. record { prefix = p i; suffix = s i; offsets = o i }
+
+-- the parts of a record in range
+module _ (n size : ℕ) (r : MatchRecord) (e : inRange n size r ≡ true) where
+  pub prefix-in : r .prefix ≤ reach n size
+  unfolding inRange
+  prefix-in = le-of (r .prefix) (reach n size) (and-left _ _ (and-left _ _ (and-left _ _ e)))
+
+  pub suffix-in : r .suffix ≤ reach n size
+  unfolding inRange
+  suffix-in = le-of (r .suffix) (reach n size) (and-right (leb (r .prefix) (reach n size)) _ (and-left _ _ (and-left _ _ e)))
+
+  pub offsets-rise : rising (r .offsets) ≡ true
+  unfolding inRange
+  offsets-rise = and-right (leb (r .prefix) (reach n size) && leb (r .suffix) (reach n size)) _ (and-left _ _ e)
+
+  pub offsets-in : every (λ at. leb (at + n) size) (r .offsets) ≡ true
+  unfolding inRange
+  offsets-in = and-right (leb (r .prefix) (reach n size) && leb (r .suffix) (reach n size) && rising (r .offsets)) _ e
+
+-- rising offsets that leave room for n bytes, each, are at most size + 1 - n many
+pub offsets-many : (n size x : ℕ) (xs : List ℕ) → rising (x ∷ xs) ≡ true → every (λ at. leb (at + n) size) (x ∷ xs) ≡ true → x + length xs + n ≤ size
+offsets-many n size x [] r e = rw add-zero (le-of-and (x + n) size true e)
+offsets-many n size x (y ∷ xs) r e =
+    let l : x < y = ltb→lt x y (T-of (ltb x y) (and-left (ltb x y) (rising (y ∷ xs)) r)) in
+    let m : y + length xs + n ≤ size =
+    offsets-many n size y xs (and-right (ltb x y) (rising (y ∷ xs)) r) (and-right (leb (x + n) size) (every (λ at. leb (at + n) size) (y ∷ xs)) e) in
+    omega arith
+
+pub offsets-count : (n size : ℕ) (xs : List ℕ) → 1 ≤ n → rising xs ≡ true → every (λ at. leb (at + n) size) xs ≡ true → length xs ≤ size
+offsets-count n size [] h r e = omega arith
+offsets-count n size (x ∷ xs) h r e = omega (arith, offsets-many n size x xs r e)
+
+every-imp {ℓ} : {A : Type ℓ} (p q : A → Bool) (xs : List A) → ((x : A) → p x ≡ true → q x ≡ true) → every p xs ≡ true → every q xs ≡ true
+every-imp p q [] f e = refl
+every-imp p q (x ∷ xs) f e = and-intro (q x) (every q xs) (f x (and-left (p x) (every p xs) e)) (every-imp p q xs f (and-right (p x) (every p xs) e))
+
+-- ---- a written record reads back
+
+kinds : (count : ℕ) → (count ≤ 1) ⊎ ((1 < count × count ≤ 254) ⊎ (254 < count))
+kinds count = go (le-or-lt count 1) (le-or-lt count 254)
+  where
+    go : (count ≤ 1) ⊎ (1 < count) → (count ≤ 254) ⊎ (254 < count) → (count ≤ 1) ⊎ ((1 < count × count ≤ 254) ⊎ (254 < count))
+    go (inl h) _ = inl h
+    go (inr l) (inl h) = inr (inl (l, h))
+    go (inr l) (inr h) = inr (inr h)
+
+-- kind 2 has the offsets alone; kind 3 the exact count, then the offsets
+module _ (f : Form) (offsets : List ℕ) where
+  pub offsets-one : length offsets ≤ 1 → offsetsBytes f offsets ≡ []
+  unfolding offsetsBytes
+  offsets-one h = rw (leb-true (length offsets) 1 h)
+
+  pub offsets-two : 1 < length offsets → length offsets ≤ 254 → offsetsBytes f offsets ≡ fieldsBytes (f .width) offsets
+  unfolding offsetsBytes
+  offsets-two l h = rw (leb-false (length offsets) 1 l, leb-true (length offsets) 254 h)
+
+  pub offsets-three : 254 < length offsets → offsetsBytes f offsets ≡ leBytes (f .width) (length offsets) ++ fieldsBytes (f .width) offsets
+  unfolding offsetsBytes
+  offsets-three h = let l : 1 < length offsets = omega arith in rw (leb-false (length offsets) 1 l, leb-false (length offsets) 254 h)
+
+-- a head with the fields behind it, and what reading finds there
+module _ (f : Form) (k kind p s count : ℕ) where
+  abbrev laid : List ℕ → List ℕ → List ℕ
+  laid offsets rest = k ∷ kind ∷ p ∷ s ∷ count ∷ (leBytes (f .width) (getD offsets 0 0) ++ (offsetsBytes f offsets ++ rest))
+
+  first : (offsets rest : List ℕ) → getD offsets 0 0 < 256 ^ f .width → fieldAt (laid offsets rest) 5 (f .width) ≡ getD offsets 0 0
+  first offsets rest h =
+      ap leValue (take-at (leBytes (f .width) (getD offsets 0 0)) (offsetsBytes f offsets ++ rest) (f .width) (length-leBytes (f .width) (getD offsets 0 0)))
+      ∙ leValue-leBytes (f .width) (getD offsets 0 0) h
+
+  behind : (offsets rest : List ℕ) → drop (5 + f .width) (laid offsets rest) ≡ offsetsBytes f offsets ++ rest
+  behind offsets rest =
+      sym (drop-drop (f .width) 5 (laid offsets rest))
+      ∙ drop-at (leBytes (f .width) (getD offsets 0 0)) (offsetsBytes f offsets ++ rest) (f .width) (length-leBytes (f .width) (getD offsets 0 0))
+
+  -- the exact count of kind 3, and what is behind it
+  exact : (offsets rest : List ℕ) → 254 < length offsets → length offsets < 256 ^ f .width → fieldAt (laid offsets rest) (5 + f .width) (f .width) ≡ length offsets
+  exact offsets rest h l =
+      rw (
+        behind offsets rest,
+        offsets-three f offsets h,
+        append-assoc (leBytes (f .width) (length offsets)) (fieldsBytes (f .width) offsets) rest,
+        take-at (leBytes (f .width) (length offsets)) (fieldsBytes (f .width) offsets ++ rest) (f .width) (length-leBytes (f .width) (length offsets)),
+      )
+      (leValue-leBytes (f .width) (length offsets) l)
+
+  behind-exact : (offsets rest : List ℕ) → 254 < length offsets → drop (5 + 2 * f .width) (laid offsets rest) ≡ fieldsBytes (f .width) offsets ++ rest
+  behind-exact offsets rest h =
+      let e : 5 + 2 * f .width ≡ 5 + f .width + f .width = omega arith in
+      rw (
+        e,
+        ← drop-drop (f .width) (5 + f .width) (laid offsets rest),
+        behind offsets rest,
+        offsets-three f offsets h,
+        append-assoc (leBytes (f .width) (length offsets)) (fieldsBytes (f .width) offsets) rest,
+        drop-at (leBytes (f .width) (length offsets)) (fieldsBytes (f .width) offsets ++ rest) (f .width) (length-leBytes (f .width) (length offsets)),
+      )
+
+module _ (f : Form) (k p s : ℕ) where
+  read-one : (offsets rest : List ℕ) → length offsets ≤ 1 → every (λ x. ltb x (256 ^ f .width)) offsets ≡ true
+      → readOffsets f (laid f k 1 p s (length offsets) offsets rest) ≡ offsets
+  unfolding readOffsets
+  read-one [] rest h b = refl
+  read-one (x ∷ []) rest h b =
+      ap {B = List ℕ} (λ y. y ∷ []) (first f k 1 p s 1 (x ∷ []) rest (ltb→lt x (256 ^ f .width) (T-of _ (and-left (ltb x (256 ^ f .width)) true b))))
+  read-one (x ∷ y ∷ offsets) rest h b = let z : ⊥ = omega arith in absurd z
+
+  read-two : (offsets rest : List ℕ) → 1 < length offsets → length offsets ≤ 254 → every (λ x. ltb x (256 ^ f .width)) offsets ≡ true
+      → readOffsets f (laid f k 2 p s (length offsets) offsets rest) ≡ offsets
+  unfolding readOffsets
+  read-two offsets rest l h b = rw (behind f k 2 p s (length offsets) offsets rest, offsets-two f offsets l h) (fieldsOf-fieldsBytes (f .width) offsets rest b)
+
+  read-three : (offsets rest : List ℕ) → 254 < length offsets → length offsets < 256 ^ f .width → every (λ x. ltb x (256 ^ f .width)) offsets ≡ true
+      → readOffsets f (laid f k 3 p s 255 offsets rest) ≡ offsets
+  unfolding readOffsets
+  read-three offsets rest h few b =
+      rw (exact f k 3 p s 255 offsets rest h few, behind-exact f k 3 p s 255 offsets rest h) (fieldsOf-fieldsBytes (f .width) offsets rest b)
+
+  read-laid : (offsets rest : List ℕ) → every (λ x. ltb x (256 ^ f .width)) offsets ≡ true → length offsets < 256 ^ f .width
+      → readRecord f (laid f k (kindOf (length offsets)) p s (min (length offsets) 255) offsets rest) ≡ record { prefix = p; suffix = s; offsets = offsets }
+  unfolding readRecord
+  read-laid offsets rest b few = go (kinds (length offsets))
+    where
+      go : (length offsets ≤ 1) ⊎ ((1 < length offsets × length offsets ≤ 254) ⊎ (254 < length offsets))
+          → readRecord f (laid f k (kindOf (length offsets)) p s (min (length offsets) 255) offsets rest) ≡ record { prefix = p; suffix = s; offsets = offsets }
+      go (inl h) =
+          let m : min (length offsets) 255 ≡ length offsets = omega arith in
+          rw (leb-true (length offsets) 1 h, m, read-one offsets rest h b)
+      go (inr (inl (l, h))) =
+          let m : min (length offsets) 255 ≡ length offsets = omega arith in
+          rw (leb-false (length offsets) 1 l, leb-true (length offsets) 254 h, m, read-two offsets rest l h b)
+      go (inr (inr h)) =
+          let l : 1 < length offsets = omega arith in
+          let m : min (length offsets) 255 ≡ 255 = omega arith in
+          rw (leb-false (length offsets) 1 l, leb-false (length offsets) 254 h, m, read-three offsets rest h few b)
+
+  size-laid : (offsets rest : List ℕ) → length offsets < 256 ^ f .width
+      → recordSize f (laid f k (kindOf (length offsets)) p s (min (length offsets) 255) offsets rest) ≡ 5 + (f .width + length (offsetsBytes f offsets))
+  unfolding recordSize
+  size-laid offsets rest few = go (kinds (length offsets))
+    where
+      go : (length offsets ≤ 1) ⊎ ((1 < length offsets × length offsets ≤ 254) ⊎ (254 < length offsets))
+          → recordSize f (laid f k (kindOf (length offsets)) p s (min (length offsets) 255) offsets rest) ≡ 5 + (f .width + length (offsetsBytes f offsets))
+      go (inl h) = rw (leb-true (length offsets) 1 h, offsets-one f offsets h) (omega arith)
+      go (inr (inl (l, h))) =
+          let m : min (length offsets) 255 ≡ length offsets = omega arith in
+          rw (leb-false (length offsets) 1 l, leb-true (length offsets) 254 h, m, offsets-two f offsets l h, length-fieldsBytes) (omega arith)
+      go (inr (inr h)) =
+          let l : 1 < length offsets = omega arith in
+          let m : min (length offsets) 255 ≡ 255 = omega arith in
+          rw (leb-false (length offsets) 1 l, leb-false (length offsets) 254 h, m, exact f k 3 p s 255 offsets rest h few, offsets-three f offsets h, length-append, length-leBytes, length-fieldsBytes) (omega arith)
+
+-- a full record with bytes behind it
+full-laid : (f : Form) (k : ℕ) (r : MatchRecord) (rest : List ℕ)
+    → fullBytes f k r ++ rest ≡ laid f k (kindOf (length (r .offsets))) (r .prefix) (r .suffix) (min (length (r .offsets)) 255) (r .offsets) rest
+unfolding fullBytes
+full-laid f k r rest =
+    ap {B = List ℕ} (λ t. k ∷ kindOf (length (r .offsets)) ∷ r .prefix ∷ r .suffix ∷ min (length (r .offsets)) 255 ∷ t)
+    (append-assoc (leBytes (f .width) (getD (r .offsets) 0 0)) (offsetsBytes f (r .offsets)) rest)
+
+pub length-full : (f : Form) (k : ℕ) (r : MatchRecord) → length (fullBytes f k r) ≡ 5 + (f .width + length (offsetsBytes f (r .offsets)))
+unfolding fullBytes
+length-full f k r = rw (length-append, length-leBytes) (omega arith)
+
+-- which of the written forms a record has
+two-conds {ℓ} : {A : Type ℓ} (b c : Bool) (x y z : A) → (b ≡ true → cond b x (cond c y z) ≡ x) × (b ≡ false → c ≡ true → cond b x (cond c y z) ≡ y) × (b ≡ false → c ≡ false → cond b x (cond c y z) ≡ z)
+two-conds b c x y z = (λ p. rw p, λ p q. rw (p, q), λ p q. rw (p, q))
+
+module _ (f : Form) (n k : ℕ) (r : MatchRecord) where
+  pub written-empty : isEmpty r ≡ true → recordBytes f n k r ≡ []
+  unfolding recordBytes
+  written-empty e = two-conds (isEmpty r) (isTiny f n r) [] (tinyBytes f k r) (fullBytes f k r) .0 e
+
+  tiny-some : isTiny f n r ≡ true → isEmpty r ≡ false
+  tiny-some e =
+      not-false (isEmpty r) (and-right (eqb (length (r .offsets)) 0 && leb (r .prefix) (f .tinyMost n) && leb (r .suffix) (f .tinyMost n)) (not (isEmpty r)) e)
+
+  pub written-tiny : isTiny f n r ≡ true → recordBytes f n k r ≡ tinyBytes f k r
+  unfolding recordBytes
+  written-tiny e = two-conds (isEmpty r) (isTiny f n r) [] (tinyBytes f k r) (fullBytes f k r) .1 (tiny-some e) e
+
+  pub written-full : isEmpty r ≡ false → isTiny f n r ≡ false → recordBytes f n k r ≡ fullBytes f k r
+  unfolding recordBytes
+  written-full p q = two-conds (isEmpty r) (isTiny f n r) [] (tinyBytes f k r) (fullBytes f k r) .2 p q
+
+-- a record that is written starts with its keyword's number
+pub begins-some : (f : Form) (n k j : ℕ) (r : MatchRecord) → isEmpty r ≡ false → (rest : List ℕ) → begins (j ∷ []) (recordBytes f n k r ++ rest) ≡ eqb j k
+begins-some f n k j r some rest = go (bool-cases (isTiny f n r))
+  where
+    go : (isTiny f n r ≡ true) ⊎ (isTiny f n r ≡ false) → begins (j ∷ []) (recordBytes f n k r ++ rest) ≡ eqb j k
+    go (inl e) = rw (written-tiny f n k r e) (and-true (eqb j k))
+    go (inr e) = rw (written-full f n k r some e, full-laid f k r rest) (and-true (eqb j k))
+
+-- ---- the tiny byte
+
+tiny-apart : (p s step : ℕ) → p < step → ((p + step * s) % step ≡ p) × ((p + step * s) / step ≡ s)
+tiny-apart p s step h =
+    (add-mul-mod-self-left p step s ∙ mod-eq-of-lt h, add-mul-div-left p s {y = step} (omega arith) ∙ rw (div-eq-of-lt h) (zero-add s))
+
+read-tiny : (f : Form) → FormGood f → (n k : ℕ) (r : MatchRecord) → isTiny f n r ≡ true → (rest : List ℕ) → readRecord f (tinyBytes f k r ++ rest) ≡ r
+unfolding readRecord
+read-tiny f good n k r e rest =
+    let a = and-left (eqb (length (r .offsets)) 0 && leb (r .prefix) (f .tinyMost n)) (leb (r .suffix) (f .tinyMost n)) (and-left _ (not (isEmpty r)) e) in
+    let o : r .offsets ≡ [] = no-offsets (r .offsets) (eq-of (length (r .offsets)) 0 (and-left (eqb (length (r .offsets)) 0) (leb (r .prefix) (f .tinyMost n)) a)) in
+    let p : r .prefix ≤ f .tinyMost n = le-of (r .prefix) (f .tinyMost n) (and-right (eqb (length (r .offsets)) 0) (leb (r .prefix) (f .tinyMost n)) a) in
+    let q = tiny-apart (r .prefix) (r .suffix) (f .tinyStep) (omega (arith, good .apart n)) in
+    λ i. record { prefix = q .0 i; suffix = q .1 i; offsets = sym o i }
+
+size-tiny : (f : Form) (n k : ℕ) (r : MatchRecord) (rest : List ℕ) → recordSize f (tinyBytes f k r ++ rest) ≡ 3
+unfolding recordSize
+size-tiny f n k r rest = refl
+
+-- ---- any record
+
+module _ (f : Form) (good : FormGood f) (n size k : ℕ) (positive : 1 ≤ n) (fit : size ≤ f .longestChunk) where
+  -- offsets in range, and their count, fit a field
+  offsets-below : (offsets : List ℕ) → every (λ at. leb (at + n) size) offsets ≡ true → every (λ x. ltb x (256 ^ f .width)) offsets ≡ true
+  offsets-below offsets e =
+      every-imp (λ at. leb (at + n) size) (λ x. ltb x (256 ^ f .width)) offsets
+      (λ x t. let l : x + n ≤ size = le-of (x + n) size t in leb-true (suc x) (256 ^ f .width) (omega (arith, good .fits)))
+      e
+
+  module _ (r : MatchRecord) (within : inRange n size r ≡ true) (some : isEmpty r ≡ false) (rest : List ℕ) where
+    few : length (r .offsets) < 256 ^ f .width
+    few = omega (arith, good .fits, offsets-count n size (r .offsets) positive (offsets-rise n size r within) (offsets-in n size r within))
+
+    below : every (λ x. ltb x (256 ^ f .width)) (r .offsets) ≡ true
+    below = offsets-below (r .offsets) (offsets-in n size r within)
+
+    pub read-written : readRecord f (recordBytes f n k r ++ rest) ≡ r
+    read-written = go (bool-cases (isTiny f n r))
+      where
+        go : (isTiny f n r ≡ true) ⊎ (isTiny f n r ≡ false) → readRecord f (recordBytes f n k r ++ rest) ≡ r
+        go (inl e) = rw (written-tiny f n k r e) (read-tiny f good n k r e rest)
+        go (inr e) = rw (written-full f n k r some e, full-laid f k r rest) (read-laid f k (r .prefix) (r .suffix) (r .offsets) rest below few)
+
+    pub size-written : recordSize f (recordBytes f n k r ++ rest) ≡ length (recordBytes f n k r)
+    size-written = go (bool-cases (isTiny f n r))
+      where
+        go : (isTiny f n r ≡ true) ⊎ (isTiny f n r ≡ false) → recordSize f (recordBytes f n k r ++ rest) ≡ length (recordBytes f n k r)
+        go (inl e) = rw (written-tiny f n k r e) (size-tiny f n k r rest)
+        go (inr e) =
+            rw (written-full f n k r some e, full-laid f k r rest)
+            (size-laid f k (r .prefix) (r .suffix) (r .offsets) rest few ∙ sym (length-full f k r))
+
+    pub begins-written : begins (k ∷ []) (recordBytes f n k r ++ rest) ≡ true
+    begins-written = rw (begins-some f n k k r some rest) (eqb-same k)
+
+-- ---- bodies
+
+-- Every length is above 0, as a checked keyword's is.
+abbrev pub allPositive : List ℕ → Bool
+allPositive lengths = every (λ n. ltb 0 n) lengths
+
+-- a body from keyword k on does not start with a number below k
+pub body-begins : (f : Form) (j k : ℕ) (lengths : List ℕ) (records : List MatchRecord) → j < k → begins (j ∷ []) (bodyFrom f k lengths records) ≡ false
+unfolding bodyFrom
+body-begins f j k [] records l = refl
+body-begins f j k (n ∷ lengths) [] l = refl
+body-begins f j k (n ∷ lengths) (r ∷ records) l = go (bool-cases (isEmpty r)) (body-begins f j (suc k) lengths records (omega arith))
+  where
+    go : (isEmpty r ≡ true) ⊎ (isEmpty r ≡ false) → begins (j ∷ []) (bodyFrom f (suc k) lengths records) ≡ false
+        → begins (j ∷ []) (recordBytes f n k r ++ bodyFrom f (suc k) lengths records) ≡ false
+    go (inl e) ih = rw (written-empty f n k r e) ih
+    go (inr e) ih = rw (begins-some f n k j r e (bodyFrom f (suc k) lengths records)) (eqb-ne j k (omega arith))
+
+pub good-is-from : (f : Form) (lengths : List ℕ) (size : ℕ) (body : List ℕ) → goodBody f lengths size body ≡ goodFrom f 0 lengths size body
+unfolding goodBody goodFrom
+good-is-from f lengths size body = refl
+
+module _ (f : Form) (good : FormGood f) (size : ℕ) (fit : size ≤ f .longestChunk) where
+  -- written records read back as the same records
+  pub body-read : (k : ℕ) (lengths : List ℕ) (records : List MatchRecord) → allPositive lengths ≡ true → allInRange size lengths records ≡ true → length records ≡ length lengths
+      → readFrom f k (length lengths) (bodyFrom f k lengths records) ≡ records
+  unfolding bodyFrom readFrom allInRange
+  body-read k [] [] p e l = refl
+  body-read k [] (r ∷ records) p e l = let z : ⊥ = omega arith in absurd z
+  body-read k (n ∷ lengths) [] p e l = let z : ⊥ = omega arith in absurd z
+  body-read k (n ∷ lengths) (r ∷ records) p e l =
+      go (bool-cases (isEmpty r))
+      (body-read (suc k) lengths records (and-right (ltb 0 n) (allPositive lengths) p) (and-right (inRange n size r) (allInRange size lengths records) e) (omega arith))
+    where
+      positive : 1 ≤ n
+      positive = le-of-and 1 n (allPositive lengths) p
+
+      within : inRange n size r ≡ true
+      within = and-left (inRange n size r) (allInRange size lengths records) e
+
+      go : (isEmpty r ≡ true) ⊎ (isEmpty r ≡ false) → readFrom f (suc k) (length lengths) (bodyFrom f (suc k) lengths records) ≡ records
+          → readFrom f k (suc (length lengths)) (recordBytes f n k r ++ bodyFrom f (suc k) lengths records) ≡ r ∷ records
+      go (inl t) ih =
+          rw (written-empty f n k r t, body-begins f k (suc k) lengths records (omega arith), ih, empty-is r t)
+      go (inr t) ih =
+          let rest = bodyFrom f (suc k) lengths records in
+          rw (
+            begins-written f good n size k positive fit r within t rest,
+            read-written f good n size k positive fit r within t rest,
+            size-written f good n size k positive fit r within t rest,
+            drop-at (recordBytes f n k r) rest (length (recordBytes f n k r)) refl,
+            ih,
+          )
+
+  -- the writing of records in range is good
+  pub good-written : (lengths : List ℕ) (records : List MatchRecord) → allPositive lengths ≡ true → allInRange size lengths records ≡ true → length records ≡ length lengths
+      → goodBody f lengths size (bodyBytes f lengths records) ≡ true
+  unfolding goodBody
+  good-written lengths records p e l = rw (body-read 0 lengths records p e l, same-refl (bodyBytes f lengths records), e)
+
+-- a good body is the writing of records in range
+pub good-is-written : (f : Form) (lengths : List ℕ) (size : ℕ) (body : List ℕ) → goodBody f lengths size body ≡ true
+    → (body ≡ bodyBytes f lengths (readBody f (length lengths) body)) × (allInRange size lengths (readBody f (length lengths) body) ≡ true)
+unfolding goodBody
+good-is-written f lengths size body e = (
+  sym (same-eq _ _ (and-left (same (bodyBytes f lengths (readBody f (length lengths) body)) body) _ e)),
+  and-right (same (bodyBytes f lengths (readBody f (length lengths) body)) body) _ e,
+)
+
+-- two good bodies that say the same records are the same
+pub one-written-form : (f : Form) (lengths : List ℕ) (size size′ : ℕ) (body body′ : List ℕ) → goodBody f lengths size body ≡ true → goodBody f lengths size′ body′ ≡ true
+    → readBody f (length lengths) body ≡ readBody f (length lengths) body′ → body ≡ body′
+one-written-form f lengths size size′ body body′ e e′ q =
+    good-is-written f lengths size body e .0 ∙ ap (bodyBytes f lengths) q ∙ sym (good-is-written f lengths size′ body′ e′ .0)
+
+-- ---- the body check, keyword by keyword
+
+pub good-end : (f : Form) (k size : ℕ) (bytes : List ℕ) → goodFrom f k [] size bytes ≡ eqb (length bytes) 0
+unfolding goodFrom bodyFrom readFrom allInRange
+good-end f k size [] = refl
+good-end f k size (b ∷ bytes) = sym (eqb·suc-zero (length bytes))
+
+-- the next number is not the keyword's: its record is empty
+pub good-absent : (f : Form) (k n : ℕ) (lengths : List ℕ) (size : ℕ) (bytes : List ℕ) → begins (k ∷ []) bytes ≡ false
+    → goodFrom f k (n ∷ lengths) size bytes ≡ goodFrom f (suc k) lengths size bytes
+unfolding goodFrom bodyFrom readFrom allInRange inRange recordBytes
+good-absent f k n lengths size bytes e = rw (e, leb·zero (reach n size))
+
+-- two parts are the whole exactly if each is its part of it, where the first part's length is known once they are the whole
+parts-same : (x y bytes : List ℕ) (s : ℕ) (i j : Bool) → (x ++ y ≡ bytes → i ≡ true → s ≡ length x)
+    → (same (x ++ y) bytes && (i && j)) ≡ (same x (take s bytes) && i && (same y (drop s bytes) && j))
+parts-same x y bytes s i j size = bool-ext (same (x ++ y) bytes && (i && j)) (same x (take s bytes) && i && (same y (drop s bytes) && j)) there back
+  where
+    there : (same (x ++ y) bytes && (i && j)) ≡ true → (same x (take s bytes) && i && (same y (drop s bytes) && j)) ≡ true
+    there e =
+        let w : x ++ y ≡ bytes = same-eq (x ++ y) bytes (and-left (same (x ++ y) bytes) (i && j) e) in
+        let ij = and-right (same (x ++ y) bytes) (i && j) e in
+        let l : length x ≡ s = sym (size w (and-left i j ij)) in
+        rw (← w, take-at x y s l, drop-at x y s l, same-refl x, same-refl y, and-left i j ij, and-right i j ij)
+
+    back : (same x (take s bytes) && i && (same y (drop s bytes) && j)) ≡ true → (same (x ++ y) bytes && (i && j)) ≡ true
+    back e =
+        let a = and-left (same x (take s bytes) && i) (same y (drop s bytes) && j) e in
+        let b = and-right (same x (take s bytes) && i) (same y (drop s bytes) && j) e in
+        let p : x ≡ take s bytes = same-eq x (take s bytes) (and-left (same x (take s bytes)) i a) in
+        let q : y ≡ drop s bytes = same-eq y (drop s bytes) (and-left (same y (drop s bytes)) j b) in
+        let w : x ++ y ≡ bytes = ap₂ {C = List ℕ} (λ u v. u ++ v) p q ∙ take-append-drop s bytes in
+        rw (w, same-refl bytes, and-right (same x (take s bytes)) i a, and-right (same y (drop s bytes)) j b)
+
+-- the next number is the keyword's: a record, and the bytes behind it
+module _ (f : Form) (good : FormGood f) (k n : ℕ) (lengths : List ℕ) (size : ℕ) (bytes : List ℕ) (positive : 1 ≤ n) (fit : size ≤ f .longestChunk) (here : begins (k ∷ []) bytes ≡ true) where
+  -- a record in range that starts the bytes takes as many of them as its head says; it is not empty, as what follows starts above k
+  here-size : (r : MatchRecord) (records : List MatchRecord) → recordBytes f n k r ++ bodyFrom f (suc k) lengths records ≡ bytes → inRange n size r ≡ true
+      → recordSize f bytes ≡ length (recordBytes f n k r)
+  here-size r records w within = go (bool-cases (isEmpty r))
+    where
+      go : (isEmpty r ≡ true) ⊎ (isEmpty r ≡ false) → recordSize f bytes ≡ length (recordBytes f n k r)
+      go (inl e) =
+          let z : bodyFrom f (suc k) lengths records ≡ bytes = rw (written-empty f n k r e) at w in
+          absurd (false≢true (sym (body-begins f k (suc k) lengths records (omega arith)) ∙ rw z here))
+      go (inr e) = rw (← w) (size-written f good n size k positive fit r within e (bodyFrom f (suc k) lengths records))
+
+  pub good-here : goodFrom f k (n ∷ lengths) size bytes ≡ (recordGood f n k size bytes && goodFrom f (suc k) lengths size (drop (recordSize f bytes) bytes))
+  unfolding goodFrom bodyFrom readFrom allInRange recordGood
+  good-here =
+      let records = readFrom f (suc k) (length lengths) (drop (recordSize f bytes) bytes) in
+      let r = readRecord f bytes in
+      rw here
+      (parts-same (recordBytes f n k r) (bodyFrom f (suc k) lengths records) bytes (recordSize f bytes) (inRange n size r) (allInRange size lengths records) (here-size r records))
