@@ -20,3 +20,4 @@ pub mod WrittenEntries
 pub mod KeywordLaws
 pub mod KeywordReads
 pub mod RecordLaws
+pub mod IndexLaws
