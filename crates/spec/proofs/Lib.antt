@@ -21,3 +21,4 @@ pub mod KeywordLaws
 pub mod KeywordReads
 pub mod RecordLaws
 pub mod IndexLaws
+pub mod RecordRanges
