@@ -22,3 +22,4 @@ pub mod KeywordReads
 pub mod RecordLaws
 pub mod IndexLaws
 pub mod RecordRanges
+pub mod StoreLaws
