@@ -23,3 +23,4 @@ pub mod RecordLaws
 pub mod IndexLaws
 pub mod RecordRanges
 pub mod StoreLaws
+pub mod Tabulated
