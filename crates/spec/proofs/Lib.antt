@@ -24,3 +24,4 @@ pub mod IndexLaws
 pub mod RecordRanges
 pub mod StoreLaws
 pub mod Tabulated
+pub mod IndexChecks
