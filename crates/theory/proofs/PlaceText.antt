@@ -1,0 +1,100 @@
+-- What the join lists of one keyword at one place is document 01's text, for all records in range, also those that no chunk gives: the laws of
+-- the stream of one keyword (spec's Stream), with the cell as the list of its starts. Assumes nothing.
+use mathlib.Core.Path.{_≡_, refl, sym, ap, ap₂, _∙_}
+use mathlib.Core.Bool.{Bool, true, false, _&&_, _||_, or-false}
+use mathlib.Core.List.{List, [], _∷_, _++_, map, append-nil}
+use Prim.Native.Nat.{ℕ, zero, suc, _+_, _-_, _≤_, _<_, min}
+use native.Mathlib.Nat.{zero-add}
+use native.Mathlib.Omega.{arith}
+use lib.ListN.{length, take, drop, length-append, length-take, length-drop}
+use lib.Dec.{leb, ltb}
+use borrow.Author.Tests.{leb-true, lt-ltb}
+use Rattle.spec.specs.Bytes.{each, keep, member, every, rising}
+use Rattle.spec.specs.Records.{MatchRecord, ChunkRecords, recordAt, reach, inRange, offsetsOf}
+use Rattle.spec.specs.Table.{seam, cellOf, inCell}
+use Rattle.spec.specs.Join.{keywordAt, crosses, listed}
+use Rattle.spec.proofs.Tests.{and-left, and-right}
+use Rattle.spec.proofs.Each.{each-match, each-append, each-none, passing}
+use Rattle.spec.proofs.Rising.{allBelow, passing-member}
+use Rattle.spec.proofs.RecordLaws.{prefix-in, suffix-in, offsets-rise, offsets-in}
+use Rattle.spec.proofs.Stream.{stream, cell-beyond, cell-no-suffix}
+use Rattle.theory.specs.PlaceText.{listedOf, crossings, PlaceText}
+
+-- ---- what the ranges give
+
+all-below : (n size i : ℕ) (offsets : List ℕ) → i < n → every (λ at. leb (at + n) size) offsets ≡ true → allBelow (size - i) offsets ≡ true
+all-below n size i [] l e = refl
+all-below n size i (x ∷ xs) l e =
+    let h : x + n ≤ size = leb-true (x + n) size (and-left (leb (x + n) size) (every (λ at. leb (at + n) size) xs) e) in
+    rw (lt-ltb x (size - i) (omega arith), all-below n size i xs l (and-right (leb (x + n) size) (every (λ at. leb (at + n) size) xs) e))
+
+record InRange (n size : ℕ) (r : MatchRecord) : Type 0 where
+  shortPrefix : r .prefix < n
+  fits : r .prefix ≤ size
+  shortSuffix : r .suffix < n
+  up : rising (r .offsets) ≡ true
+  low : (i : ℕ) → i < n → allBelow (size - i) (r .offsets) ≡ true
+
+ranges : (n size : ℕ) (r : MatchRecord) → 1 ≤ n → inRange n size r ≡ true → InRange n size r
+unfolding reach
+ranges n size r hn e =
+    let a : r .prefix ≤ min (n - 1) size = prefix-in n size r e in
+    let b : r .suffix ≤ min (n - 1) size = suffix-in n size r e in
+    record {
+      shortPrefix = omega arith;
+      fits = omega arith;
+      shortSuffix = omega arith;
+      up = offsets-rise n size r e;
+      low = λ i l. all-below n size i (r .offsets) l (offsets-in n size r e);
+    }
+
+-- ---- the cell as the list of its starts
+
+map-append : (f : ℕ → ℕ) (a b : List ℕ) → map f (a ++ b) ≡ map f a ++ map f b
+map-append f [] b = refl
+map-append f (x ∷ a) b = ap {B = List ℕ} (λ l. f x ∷ l) (map-append f a b)
+
+map-keep : (f : ℕ → ℕ) (b : Bool) (x : ℕ) → map f (keep b x) ≡ keep b (f x)
+map-keep f true x = refl
+map-keep f false x = refl
+
+map-passing : (f : ℕ → ℕ) (t : ℕ → Bool) (a n : ℕ) → map f (passing t a n) ≡ each (λ s. keep (t s) (f s)) a n
+map-passing f t a zero = refl
+map-passing f t a (suc n) = map-append f (keep (t a) a) (passing t (suc a) n) ∙ rw (map-keep, map-passing f t (suc a) n)
+
+module _ (w : List ℕ) (i j : ℕ) (hi : i < length w) (hj : j < length w) where
+  -- its starts lie in the first i bytes
+  cell-starts : cellOf w i j ≡ passing (inCell w i j) 0 i
+  unfolding cellOf offsetsOf inCell
+  cell-starts =
+      let n : length (seam w i j) ≡ i + j = simp (length-append, length-take, length-drop) (omega arith) in
+      rw (n, each-append)
+      (ap (λ (l : List ℕ). passing (inCell w i j) 0 i ++ l) (each-none _ (0 + i) j (λ p a b. rw (cell-beyond w i j p hj (omega arith)))) ∙ append-nil (passing (inCell w i j) 0 i))
+
+  cell-none : (i ≡ 0) → cellOf w i j ≡ []
+  cell-none e = cell-starts ∙ rw e
+
+  cell-none′ : (j ≡ 0) → cellOf w i j ≡ []
+  cell-none′ e = cell-starts ∙ each-none _ 0 i (λ p a b. rw (e, cell-no-suffix w i p hi))
+
+-- ---- one place
+
+module _ (keywords : List (List ℕ)) (here next : ChunkRecords) (rest : List ChunkRecords) (k : ℕ) where
+  pub stream-is-text : 1 ≤ length (keywordAt keywords k) → inRange (length (keywordAt keywords k)) (here .size) (recordAt here k) ≡ true
+      → inRange (length (keywordAt keywords k)) (next .size) (recordAt next k) ≡ true → PlaceText keywords here next rest k
+  unfolding listed
+  stream-is-text h e f =
+      let a : InRange (length (keywordAt keywords k)) (here .size) (recordAt here k) = ranges (length (keywordAt keywords k)) (here .size) (recordAt here k) h e in
+      let b : InRange (length (keywordAt keywords k)) (next .size) (recordAt next k) = ranges (length (keywordAt keywords k)) (next .size) (recordAt next k) h f in
+      record {
+        followed =
+            stream (keywordAt keywords k) (recordAt here k .offsets) (recordAt here k .prefix) (recordAt next k .suffix) (here .size) (a .up) (a .low (recordAt here k .prefix) (a .shortPrefix)) (a .fits)
+            ∙ ap (λ (l : List ℕ). recordAt here k .offsets ++ l)
+            (sym (map-passing (λ s. here .size - recordAt here k .prefix + s) (inCell (keywordAt keywords k) (recordAt here k .prefix) (recordAt next k .suffix)) 0 (recordAt here k .prefix))
+            ∙ ap (map (λ s. here .size - recordAt here k .prefix + s)) (sym (cell-starts (keywordAt keywords k) (recordAt here k .prefix) (recordAt next k .suffix) (a .shortPrefix) (b .shortSuffix))));
+        last =
+            each-match _ _ 0 0 (here .size) (λ p l. rw or-false)
+            ∙ passing-member (here .size) 0 (recordAt here k .offsets) (a .up) (let z : 0 + here .size ≡ here .size - 0 = omega arith in rw z (a .low 0 (omega arith))) (λ _. omega arith);
+        noPrefix = λ z. ap (map (λ s. here .size - recordAt here k .prefix + s)) (cell-none (keywordAt keywords k) (recordAt here k .prefix) (recordAt next k .suffix) (a .shortPrefix) (b .shortSuffix) z);
+        noSuffix = λ z. ap (map (λ s. here .size - recordAt here k .prefix + s)) (cell-none′ (keywordAt keywords k) (recordAt here k .prefix) (recordAt next k .suffix) (a .shortPrefix) (b .shortSuffix) z);
+      }
