@@ -25,3 +25,4 @@ pub mod RecordRanges
 pub mod StoreLaws
 pub mod Tabulated
 pub mod IndexChecks
+pub mod ScanLaws
