@@ -26,6 +26,8 @@ pub record IndexGood (f : Form) (index : List ℕ) : Type 0 where
   pub list : keywordFrontCode (listIn index) ≡ 0
   pub room : directoryEnd (indexLayout index) (chunkCount index) ≤ length index
   pub entries : Entries (indexLayout index) index (f .longestChunk) (chunkCount index) 0 (directoryEnd (indexLayout index) (chunkCount index))
+  -- the walk along the entries itself
+  pub walk : entriesCode (indexLayout index) index (f .longestChunk) 11 (chunkCount index) 0 (directoryEnd (indexLayout index) (chunkCount index)) ≡ 0
   pub differ : twice (indexKeys index) ≡ false
   pub bodies : (k : ℕ) → k < chunkCount index → goodAt f index k ≡ true
 
@@ -46,6 +48,7 @@ index-good f index e =
       list = b .0;
       room = ltb-false (length index) (directoryEnd (indexLayout index) (chunkCount index)) (c .0);
       entries = entries-good (indexLayout index) index (f .longestChunk) 11 (omega arith) (chunkCount index) 0 (directoryEnd (indexLayout index) (chunkCount index)) (d .0);
+      walk = d .0;
       differ = g .0;
       bodies = λ k l. rw zero-add at (every-range-at (goodAt f index) 0 (chunkCount index) (not-false (allGood f index) (h .0)) k l);
     }

@@ -26,3 +26,4 @@ pub mod StoreLaws
 pub mod Tabulated
 pub mod IndexChecks
 pub mod ScanLaws
+pub mod OneForm

@@ -49,7 +49,7 @@ length-directory at (e ∷ es) fit =
     simp (length-append, length-leBytes, length-directory (at + length (e .body)) es (every-tail Fits e es fit)) (omega arith)
 
 -- the next entry, and what follows it
-directory-cons : (at : ℕ) (e : Entry) (es : List Entry) (rest : List ℕ)
+pub directory-cons : (at : ℕ) (e : Entry) (es : List Entry) (rest : List ℕ)
     → directoryBytes at (e ∷ es) ++ rest
     ≡ e .key ++ (leBytes 4 (e .size) ++ (leBytes 4 at ++ (leBytes 4 (length (e .body)) ++ (directoryBytes (at + length (e .body)) es ++ rest))))
 unfolding directoryBytes
