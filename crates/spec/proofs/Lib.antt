@@ -27,3 +27,4 @@ pub mod Tabulated
 pub mod IndexChecks
 pub mod ScanLaws
 pub mod OneForm
+pub mod Borders
