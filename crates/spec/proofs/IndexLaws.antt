@@ -5,6 +5,7 @@ use mathlib.Core.List.{List, [], _∷_, _++_, map, append-assoc}
 use Prim.Native.Nat.{ℕ, zero, suc, _+_, _*_, _^_, _≤_, _<_}
 use native.Mathlib.Omega.{arith}
 use lib.ListN.{length, take, drop, getD, length-append, length-drop, length-map}
+use lib.Seq.{take-at}
 use Rattle.spec.specs.Bytes.{part, fieldAt, leBytes}
 use Rattle.spec.specs.Keywords.{keywordsOf, listSize, keywordCode}
 use Rattle.spec.specs.Directory.{Layout, directoryEnd, sizeAt, offsetAt, lengthAt, pointedAt, keysIn, entriesCode}
@@ -71,6 +72,10 @@ module _ (f : Form) (list : List ℕ) (entries : List Entry) where
 
     pub index-list-size : listSize (listIn (indexBytes f list entries)) ≡ length list
     index-list-size = index-list .size ∙ keyword-whole list (w .accepted)
+
+    -- the list's own bytes
+    pub index-list-bytes : take (listSize (listIn (indexBytes f list entries))) (listIn (indexBytes f list entries)) ≡ list
+    index-list-bytes = rw (index-list-size, at8) (take-at list tail (length list) refl)
 
     pub index-layout : indexLayout (indexBytes f list entries) ≡ entryLayout directoryStart
     unfolding indexLayout

@@ -158,3 +158,9 @@ list-front list rest e =
 -- the list's own bytes are accepted, with nothing left over
 pub list-taken : (bytes : List ℕ) → keywordFrontCode bytes ≡ 0 → keywordCode (take (listSize bytes) bytes) ≡ 0
 list-taken bytes e = by-header (λ l. keywordFrontCode l ≡ 0 → keywordCode (take (listSize l) l) ≡ 0) taken-cons bytes (accepted bytes e .header) e
+
+-- so the bytes say what the list's own bytes say
+pub own-list : (bytes : List ℕ) → keywordFrontCode bytes ≡ 0 → SameList (take (listSize bytes) bytes) bytes
+own-list bytes e =
+    subst (SameList (take (listSize bytes) bytes)) (take-append-drop (listSize bytes) bytes)
+    (list-front (take (listSize bytes) bytes) (drop (listSize bytes) bytes) (keyword-front (take (listSize bytes) bytes) (list-taken bytes e)))
