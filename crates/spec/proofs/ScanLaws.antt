@@ -10,7 +10,7 @@ use borrow.Author.Tests.{lt-ltb}
 use lib.Dec.{ltb}
 use lib.ListN.{length, take, drop, getD, length-map}
 use Rattle.spec.specs.Bytes.{each, every, twice}
-use Rattle.spec.specs.Keywords.{countOf, flagOf, folded, foldedKeywords, keywordsOf, keywordCode, keywordFrontCode}
+use Rattle.spec.specs.Keywords.{countOf, flagOf, folded, foldedKeywords, keywordsOf, listSize, keywordCode, keywordFrontCode}
 use Rattle.spec.specs.Directory.{Layout, directoryEnd, sizeAt}
 use Rattle.spec.specs.Store.{storeLayout, chunkCount, mostChunks, storeKeys, chunkAt, storeCode}
 use Rattle.spec.specs.Records.{Form, form1, newest, MatchRecord, ChunkRecords, recordOf, recordsOf, bodyBytes, readBody, allInRange, goodBody}
@@ -24,7 +24,7 @@ use Rattle.spec.proofs.RecordRanges.{records-in-range}
 use Rattle.spec.proofs.StoreLaws.{StoreGood, store-good, length-storeKeys, store-key-length, store-size-some, store-size-most, chunk-length}
 use Rattle.spec.proofs.Tabulated.{tabulated, length-tabulated, tabulated-at, tabulated-getD, map-tabulated}
 use Rattle.spec.proofs.WrittenEntries.{Fits, noEntry, Every, SizeIn}
-use Rattle.spec.proofs.IndexLaws.{Writable, index-length, index-mark, index-count, index-list, index-list-size, index-layout, index-keys, index-lengths, index-size, index-body, index-entries}
+use Rattle.spec.proofs.IndexLaws.{Writable, index-length, index-mark, index-count, index-list, index-list-bytes, index-layout, index-keys, index-lengths, index-size, index-body, index-entries}
 use Rattle.spec.proofs.IndexChecks.{index-passes}
 
 -- ---- forms that a scan can write
@@ -83,6 +83,7 @@ pub record ScanReads (f : Form) (list store index : List ℕ) : Type 0 where
   pub count : chunkCount index ≡ chunkCount store
   -- keyword count, flag, keywords, folded keywords: those of the list
   pub listed : SameList list (listIn index)
+  pub own : take (listSize (listIn index)) (listIn index) ≡ list
   pub keys : indexKeys index ≡ storeKeys store
   pub sizes : (k : ℕ) → k < chunkCount store → sizeAt (indexLayout index) index k ≡ sizeAt storeLayout store k
   pub bodies : (k : ℕ) → k < chunkCount store → bodyAt index k ≡ scanBody f list (chunkAt store k)
@@ -196,6 +197,7 @@ module _ (f : Form) (form : ScanForm f) (list store : List ℕ) (accept : keywor
           passes = code-passes;
           count = count-read;
           listed = index-list f list scanEntries writable;
+          own = index-list-bytes f list scanEntries writable;
           keys = keys-of;
           sizes = size-read;
           bodies = body-of;
