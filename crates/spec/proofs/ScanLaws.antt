@@ -1,12 +1,12 @@
 -- The scan's index, read again: the store's fingerprints and lengths, and of every chunk the records that the chunk gives. It is a written
 -- index (IndexLaws) whose entries are the store's, and its bodies read back (RecordLaws). Assumes nothing.
 use mathlib.Core.Path.{_≡_, refl, sym, ap, ap₂, _∙_, subst}
-use mathlib.Core.Bool.{Bool, true, false, _&&_}
+use mathlib.Core.Bool.{Bool, true, false, _||_}
 use mathlib.Core.List.{List, [], _∷_, _++_, map}
 use Prim.Native.Nat.{ℕ, zero, suc, _+_, _*_, _^_, _≤_, _<_}
 use native.Mathlib.Nat.{zero-add, zero-lt-suc}
 use native.Mathlib.Omega.{arith}
-use borrow.Author.Tests.{lt-ltb}
+use borrow.Author.Tests.{lt-ltb, ltb-false}
 use lib.Dec.{ltb}
 use lib.ListN.{length, take, drop, getD, length-map}
 use Rattle.spec.specs.Bytes.{each, every, twice}
@@ -15,7 +15,9 @@ use Rattle.spec.specs.Directory.{Layout, directoryEnd, sizeAt}
 use Rattle.spec.specs.Store.{storeLayout, chunkCount, mostChunks, storeKeys, chunkAt, storeCode}
 use Rattle.spec.specs.Records.{Form, form1, newest, MatchRecord, ChunkRecords, recordOf, recordsOf, bodyBytes, readBody, allInRange, goodBody}
 use Rattle.spec.specs.Index.{Entry, indexBytes, listIn, indexLayout, indexKeys, bodyAt, lengthsIn, indexRecords, goodAt, indexCode}
-use Rattle.spec.specs.Scan.{scanRecords, scanBody, scanEntry, scanIndex}
+use Rattle.spec.specs.Recipes.{largest32}
+use Rattle.spec.specs.Scan.{scanRecords, scanBody, scanEntry, scanIndex, scannableCode, scanCode}
+use Rattle.spec.proofs.Codes.{passed, passed-whole, or-left, or-right}
 use Rattle.spec.proofs.Folding.{folded-length}
 use Rattle.spec.proofs.KeywordLaws.{Proper, Accepted, accepted, keyword-front, keyword-whole, folded-count, folded-lengths, folded-proper}
 use Rattle.spec.proofs.KeywordReads.{SameList}
@@ -214,3 +216,32 @@ pub scan-reads : (f : Form) → ScanForm f → (list store : List ℕ) → keywo
     → ScanReads f list store (scanIndex f list store)
 unfolding scanIndex
 scan-reads f form list store accept good within = reads f form list store accept (store-good store good) within
+
+-- ---- the scan that does its work
+
+-- A scan that refuses nothing.
+pub record Scanned (f : Form) (list store : List ℕ) (room : ℕ) : Type 0 where
+  pub accepted : keywordCode list ≡ 0
+  pub stored : storeCode store ≡ 0
+  pub fits : length (scanIndex f list store) ≤ room
+  pub within : length (scanIndex f list store) ≤ 4294967295
+
+pub scan-done : (f : Form) (list store : List ℕ) (room : ℕ) → scanCode f list store room ≡ 0 → Scanned f list store room
+unfolding scanCode scannableCode
+scan-done f list store room e =
+    let a = passed-whole (scannableCode list store) _ e in
+    let b = passed-whole (keywordCode list) _ (a .0) in
+    let c = passed-whole (storeCode store) _ (b .1) in
+    let d = passed (ltb room (length (scanIndex f list store)) || ltb largest32 (length (scanIndex f list store))) 9 _ (omega arith) (a .1) in
+    record {
+      accepted = b .0;
+      stored = c .0;
+      fits = ltb-false room (length (scanIndex f list store)) (or-left (ltb room (length (scanIndex f list store))) _ (d .0));
+      within = ltb-false largest32 (length (scanIndex f list store)) (or-right (ltb room (length (scanIndex f list store))) _ (d .0));
+    }
+
+-- Its index, read again.
+pub scan-done-reads : (f : Form) → ScanForm f → (list store : List ℕ) (room : ℕ) → scanCode f list store room ≡ 0 → ScanReads f list store (scanIndex f list store)
+scan-done-reads f form list store room e =
+    let s = scan-done f list store room e in
+    scan-reads f form list store (s .accepted) (s .stored) (s .within)

@@ -2,23 +2,19 @@
 -- that a scan writes passes the index check and says what its chunks give. The laws are those of spec/proofs; here stand the claims.
 -- Assumes nothing.
 use mathlib.Core.Path.{_≡_, refl, sym, ap, ap₂, _∙_, subst}
-use mathlib.Core.Bool.{Bool, true, false, _||_}
+use mathlib.Core.Bool.{Bool, true, false}
 use mathlib.Core.List.{List, [], _∷_, _++_, map}
 use Prim.Native.Nat.{ℕ, zero, suc, _+_, _*_, _^_, _≤_, _<_}
 use native.Mathlib.Nat.{zero-add}
 use native.Mathlib.Omega.{arith}
-use lib.Dec.{ltb}
 use lib.ListN.{length, take, drop, getD, length-map}
-use borrow.Author.Tests.{ltb-false}
-use Rattle.spec.specs.Bytes.{occursAt, twice, member}
+use Rattle.spec.specs.Bytes.{twice}
 use Rattle.spec.specs.Keywords.{keywordsOf, foldedKeywords, listSize, keywordCode}
 use Rattle.spec.specs.Directory.{directoryEnd, sizeAt}
 use Rattle.spec.specs.Store.{storeLayout, chunkCount, mostChunks, storeKeys, chunkAt, storeCode}
-use Rattle.spec.specs.Records.{Form, form1, MatchRecord, ChunkRecords, reach, endsWith, startsWith, prefixOf, suffixOf, offsetsOf, recordOf, bodyBytes, readBody, allInRange, goodBody}
+use Rattle.spec.specs.Records.{Form, MatchRecord, ChunkRecords, bodyBytes, readBody, allInRange, goodBody}
 use Rattle.spec.specs.Index.{Entry, indexBytes, listIn, indexLayout, indexKeys, bodyAt, lengthsIn, indexRecords, goodAt, indexCode}
-use Rattle.spec.specs.Recipes.{largest32}
-use Rattle.spec.specs.Scan.{scanRecords, scanIndex, scannableCode, scanCode}
-use Rattle.spec.proofs.Codes.{passed, passed-whole, or-left, or-right}
+use Rattle.spec.specs.Scan.{scanRecords, scanIndex, scanCode}
 use Rattle.spec.proofs.FieldLists.{AllBytes}
 use Rattle.spec.proofs.JoinIsSearch.{getD-map}
 use Rattle.spec.proofs.KeywordLaws.{folded-lengths}
@@ -28,7 +24,7 @@ use Rattle.spec.proofs.Tabulated.{tabulated, length-tabulated, tabulated-at, ta
 use Rattle.spec.proofs.WrittenEntries.{Fits, noEntry, Every, SizeIn}
 use Rattle.spec.proofs.IndexLaws.{Writable, index-length, index-mark, index-count, index-list, index-list-bytes, index-layout, index-keys, index-lengths, index-size, index-body, index-entries}
 use Rattle.spec.proofs.IndexChecks.{IndexGood, index-good, index-passes, length-indexKeys}
-use Rattle.spec.proofs.ScanLaws.{ScanForm, form1-scans, scan-positive, ScanReads, scan-reads}
+use Rattle.spec.proofs.ScanLaws.{ScanForm, scan-positive, ScanReads, scan-done-reads}
 use Rattle.spec.proofs.OneForm.{listBytesIn, entryOf, checked-is-written}
 
 -- ---- what an index says
@@ -201,10 +197,46 @@ module _ (f : Form) (list : List ℕ) (said : List Said) (index : List ℕ) (say
       ∙ sym (map-tabulated (entryFor f list) (λ k. getD said k nothing) 0 (length said))
       ∙ ap (map (entryFor f list)) (tabulated-getD said nothing (length said) refl)))
 
+-- What an accepted file says.
+unfoldable pub saidIn : Form → List ℕ → List Said
+saidIn f index = tabulated (λ k. record { key = getD (indexKeys index) k []; chunk = indexRecords f index k }) 0 (chunkCount index)
+
+module _ (f : Form) (index : List ℕ) where
+  abbrev reading : ℕ → Said
+  reading k = record { key = getD (indexKeys index) k []; chunk = indexRecords f index k }
+
+  said-count : length (saidIn f index) ≡ chunkCount index
+  unfolding saidIn
+  said-count = length-tabulated reading 0 (chunkCount index)
+
+  said-keys : indexKeys index ≡ map (λ s. s .key) (saidIn f index)
+  unfolding saidIn
+  said-keys = sym (map-tabulated (λ s. s .key) reading 0 (chunkCount index) ∙ tabulated-getD (indexKeys index) [] (chunkCount index) (length-indexKeys index))
+
+  said-at : (k : ℕ) → k < chunkCount index → getD (saidIn f index) k nothing ≡ reading k
+  unfolding saidIn
+  said-at k l = rw zero-add at (tabulated-at reading 0 (chunkCount index) k nothing l)
+
+  said-records : (k : ℕ) → k < length (saidIn f index) → indexRecords f index k ≡ getD (saidIn f index) k nothing .chunk
+  said-records k l = let m : k < chunkCount index = omega (arith, said-count) in ap (λ (s : Said). s .chunk) (sym (said-at k m))
+
 -- Two files of bytes that are accepted and say the same are the same.
 pub same-index : (f : Form) (list : List ℕ) (said : List Said) (index other : List ℕ) → Says f list said index → Says f list said other → AllBytes index → AllBytes other
     → index ≡ other
 same-index f list said index other s o b c = one-index-form f list said index s b ∙ sym (one-index-form f list said other o c)
+
+-- The same said by what is read: the keyword list's bytes, the fingerprints, and of every entry the length and the records.
+pub same-reading : (f : Form) (index other : List ℕ) → indexCode f index ≡ 0 → indexCode f other ≡ 0 → AllBytes index → AllBytes other
+    → listBytesIn index ≡ listBytesIn other → indexKeys index ≡ indexKeys other
+    → ((k : ℕ) → k < chunkCount index → indexRecords f index k ≡ indexRecords f other k) → index ≡ other
+same-reading f index other p q b c l keys records =
+    same-index f (listBytesIn other) (saidIn f other) index other
+    (record { passes = p; listed = l; keys = keys ∙ said-keys f other; records = λ k m. records k (omega (arith, said-count f other, count)) ∙ said-records f other k m })
+    (record { passes = q; listed = refl; keys = said-keys f other; records = said-records f other })
+    b c
+  where
+    count : chunkCount index ≡ chunkCount other
+    count = sym (length-indexKeys index) ∙ ap length keys ∙ length-indexKeys other
 
 -- ---- theorem 3, of one body
 
@@ -221,55 +253,42 @@ good-body-is-written = good-is-written
 
 -- ---- theorem 4: the scan
 
--- A scan that refuses nothing.
-pub record Scanned (f : Form) (list store : List ℕ) (room : ℕ) : Type 0 where
-  pub accepted : keywordCode list ≡ 0
-  pub stored : storeCode store ≡ 0
-  pub fits : length (scanIndex f list store) ≤ room
-  pub within : length (scanIndex f list store) ≤ 4294967295
-
-pub scan-done : (f : Form) (list store : List ℕ) (room : ℕ) → scanCode f list store room ≡ 0 → Scanned f list store room
-unfolding scanCode scannableCode
-scan-done f list store room e =
-    let a = passed-whole (scannableCode list store) _ e in
-    let b = passed-whole (keywordCode list) _ (a .0) in
-    let c = passed-whole (storeCode store) _ (b .1) in
-    let d = passed (ltb room (length (scanIndex f list store)) || ltb largest32 (length (scanIndex f list store))) 9 _ (omega arith) (a .1) in
-    record {
-      accepted = b .0;
-      stored = c .0;
-      fits = ltb-false room (length (scanIndex f list store)) (or-left (ltb room (length (scanIndex f list store))) _ (d .0));
-      within = ltb-false largest32 (length (scanIndex f list store)) (or-right (ltb room (length (scanIndex f list store))) _ (d .0));
-    }
-
--- What a join wants to know of the index of a scan that did its work.
-pub scan-read-again : (list store : List ℕ) (room : ℕ) → scanCode form1 list store room ≡ 0 → ScanReads form1 list store (scanIndex form1 list store)
-scan-read-again list store room e =
-    let s = scan-done form1 list store room e in
-    scan-reads form1 form1-scans list store (s .accepted) (s .stored) (s .within)
-
--- Its index passes the index check.
-pub scan-passes-check : (list store : List ℕ) (room : ℕ) → scanCode form1 list store room ≡ 0 → indexCode form1 (scanIndex form1 list store) ≡ 0
-scan-passes-check list store room e = scan-read-again list store room e .passes
-
--- It says of every chunk of the store, in the store's order, its fingerprint, its length and the records that the chunk gives.
+-- What a scan has to say: of every chunk of the store its fingerprint, its length and its records.
 unfoldable pub scannedRecords : List ℕ → List ℕ → List Said
 scannedRecords list store =
     tabulated (λ k. record { key = getD (storeKeys store) k []; chunk = scanRecords list (chunkAt store k) }) 0 (chunkCount store)
 
-pub scan-says : (list store : List ℕ) (room : ℕ) → scanCode form1 list store room ≡ 0
-    → Says form1 list (scannedRecords list store) (scanIndex form1 list store)
-unfolding scannedRecords
-scan-says list store room e =
-    let r = scan-read-again list store room e in
-    let saying : ℕ → Said = λ k. record { key = getD (storeKeys store) k []; chunk = scanRecords list (chunkAt store k) } in
-    let many : length (tabulated saying 0 (chunkCount store)) ≡ chunkCount store = length-tabulated saying 0 (chunkCount store) in
-    record {
-      passes = r .passes;
-      listed = r .own;
-      keys = r .keys ∙ sym (map-tabulated (λ s. s .key) saying 0 (chunkCount store) ∙ tabulated-getD (storeKeys store) [] (chunkCount store) (r .keyCount));
-      records = λ k l.
-          let m : k < chunkCount store = omega arith in
-          let at : getD (tabulated saying 0 (chunkCount store)) k nothing ≡ saying k = rw zero-add at (tabulated-at saying 0 (chunkCount store) k nothing m) in
-          r .records k m ∙ ap (λ (s : Said). s .chunk) (sym at);
-    }
+module _ (f : Form) (form : ScanForm f) (list store : List ℕ) (room : ℕ) (done : scanCode f list store room ≡ 0) where
+  -- The index of a scan that did its work passes the index check.
+  pub scan-passes-check : indexCode f (scanIndex f list store) ≡ 0
+  scan-passes-check = scan-done-reads f form list store room done .passes
+
+  abbrev saying : ℕ → Said
+  saying k = record { key = getD (storeKeys store) k []; chunk = scanRecords list (chunkAt store k) }
+
+  saying-at : (k : ℕ) → k < chunkCount store → getD (scannedRecords list store) k nothing ≡ saying k
+  unfolding scannedRecords
+  saying-at k l = rw zero-add at (tabulated-at saying 0 (chunkCount store) k nothing l)
+
+  saying-keys : map (λ s. s .key) (scannedRecords list store) ≡ storeKeys store
+  unfolding scannedRecords
+  saying-keys =
+      map-tabulated (λ s. s .key) saying 0 (chunkCount store)
+      ∙ tabulated-getD (storeKeys store) [] (chunkCount store) (scan-done-reads f form list store room done .keyCount)
+
+  saying-count : length (scannedRecords list store) ≡ chunkCount store
+  unfolding scannedRecords
+  saying-count = length-tabulated saying 0 (chunkCount store)
+
+  -- It says of every chunk of the store, in the store's order, its fingerprint, its length and the records that the chunk gives.
+  pub scan-says : Says f list (scannedRecords list store) (scanIndex f list store)
+  scan-says =
+      let r = scan-done-reads f form list store room done in
+      record {
+        passes = r .passes;
+        listed = r .own;
+        keys = r .keys ∙ sym saying-keys;
+        records = λ k l.
+            let m : k < chunkCount store = omega (arith, saying-count) in
+            r .records k m ∙ ap (λ (s : Said). s .chunk) (sym (saying-at k m));
+      }
