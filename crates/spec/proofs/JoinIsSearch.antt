@@ -12,7 +12,7 @@ use lib.Seq.{drop-drop, drop-append-seam}
 use lib.Dec.{leb}
 use Rattle.spec.specs.Bytes.{begins, occursAt, each, member, every, joined}
 use Rattle.spec.specs.Keywords.{foldByte, folded, foldedAll, flagOf, keywordsOf, foldedKeywords, longest}
-use Rattle.spec.specs.Records.{form1, recordOf, recordsOf, recordAt, emptyRecord, prefixOf, suffixOf, offsetsOf}
+use Rattle.spec.specs.Records.{Form, recordOf, recordsOf, recordAt, emptyRecord, prefixOf, suffixOf, offsetsOf}
 use Rattle.spec.specs.Recipes.{allButLast, roomy}
 use Rattle.spec.specs.Join.{Occurrence, keywordAt, hits, crossesInto, listed, joinFrom, joinFile, joinFiles, due}
 use Rattle.spec.specs.Scan.{scanRecords}
@@ -168,15 +168,16 @@ module _ (flag : ℕ) where
         (one file cs (and-left (roomy m (map length cs)) (every (λ cs. roomy m (map length cs)) rest) e))
         (join-is-search (suc file) rest (and-right (roomy m (map length cs)) (every (λ cs. roomy m (map length cs)) rest) e))
 
--- ---- a keyword list: what refusal 17 asks of an inner chunk is enough
+-- ---- a keyword list: what refusal 17 asks of an inner chunk is enough, where records have no sets
 
-pub due-covers : (list : List ℕ) → longest (keywordsOf list) - 1 ≤ due form1 list
-unfolding due
-due-covers list = omega arith
+module _ (f : Form) (plain : f .sets ≡ false) where
+  pub due-covers : (list : List ℕ) → longest (keywordsOf list) - 1 ≤ due f list
+  unfolding due
+  due-covers list = rw plain (omega arith)
 
-pub scan-join-is-search : (list : List ℕ) (files : List (List (List ℕ))) → noneEmpty (keywordsOf list) ≡ true
-    → every (λ cs. roomy (due form1 list) (map length cs)) files ≡ true
-    → joinFiles 0 (foldedKeywords list) (map (map (scanRecords list)) files)
-    ≡ occurrencesInAll 0 (foldedKeywords list) (map (λ cs. folded (flagOf list) (joined cs)) files)
-unfolding foldedKeywords scanRecords
-scan-join-is-search list files ok e = join-is-search (flagOf list) (keywordsOf list) (due form1 list) ok (due-covers list) 0 files e
+  pub scan-join-is-search : (list : List ℕ) (files : List (List (List ℕ))) → noneEmpty (keywordsOf list) ≡ true
+      → every (λ cs. roomy (due f list) (map length cs)) files ≡ true
+      → joinFiles 0 (foldedKeywords list) (map (map (scanRecords list)) files)
+      ≡ occurrencesInAll 0 (foldedKeywords list) (map (λ cs. folded (flagOf list) (joined cs)) files)
+  unfolding foldedKeywords scanRecords
+  scan-join-is-search list files ok e = join-is-search (flagOf list) (keywordsOf list) (due f list) ok (due-covers list) 0 files e

@@ -2,3 +2,5 @@ pub mod Cases
 pub mod SearchList
 pub mod PlaceText
 pub mod IndexTheorems
+pub mod ScanThenJoin
+pub mod Demand3

@@ -1,3 +1,4 @@
 pub mod Cases
 pub mod SearchList
 pub mod PlaceText
+pub mod Demand3

@@ -1,0 +1,204 @@
+-- A join of the index that a scan wrote answers what the store says: its tests 15 to 17 read the store's fingerprints and lengths, and where they
+-- pass, its list is the direct search (theorem 1). Where one refuses the lists may differ, but the number is decided before. Assumes nothing.
+use mathlib.Core.Path.{_≡_, refl, sym, ap, ap₂, _∙_}
+use mathlib.Core.Logic.{_⊎_, inl, inr}
+use mathlib.Core.Bool.{Bool, true, false, _&&_, not}
+use mathlib.Core.List.{List, [], _∷_, map, map-map}
+use Prim.Native.Nat.{ℕ, zero, suc, _+_, _*_, _≤_, _<_}
+use native.Mathlib.Omega.{arith}
+use lib.ListN.{length, getD}
+use lib.Dec.{leb, ltb}
+use borrow.Author.Tests.{ltb-true, ltb-false, lt-ltb, le-ltb, le-leb, ne-eqb, not-false}
+use Rattle.spec.specs.declared.Outcome.{Outcome}
+use Rattle.spec.specs.Bytes.{written, contains, positionOf, every, sum, joined}
+use Rattle.spec.specs.Outcome.{firstOf, firstCode, whole, answer, unlessRefused}
+use Rattle.spec.specs.Keywords.{flagOf, folded, keywordsOf, foldedKeywords, keywordCode}
+use Rattle.spec.specs.Directory.{sizeAt}
+use Rattle.spec.specs.Store.{storeLayout, chunkCount, storeKeys, chunkAt}
+use Rattle.spec.specs.Records.{Form, ChunkRecords}
+use Rattle.spec.specs.Index.{listIn, indexLayout, indexKeys, indexRecords, indexCode}
+use Rattle.spec.specs.Recipes.{largest32, roomy, sizesIn, fileCode, filesCode, filesOf, recipesCode}
+use Rattle.spec.specs.Join.{Occurrence, joinFiles, fileRecords, joinList, listBytes, due, joinableCode, joinCode, joinOutcome, joinBuffer}
+use Rattle.spec.specs.Scan.{scanRecords}
+use Rattle.spec.specs.Search.{chunkNamed, restored, directSearch, searchJoinCode, occurrencesInAll}
+use Rattle.spec.proofs.Tests.{bool-cases, and-left, and-right}
+use Rattle.spec.proofs.Codes.{passed, passed-whole, passed-code}
+use Rattle.spec.proofs.EntryLaws.{contains-position}
+use Rattle.spec.proofs.KeywordLaws.{Proper, Accepted, accepted, keyword-front}
+use Rattle.spec.proofs.JoinIsSearch.{noneEmpty, scan-join-is-search}
+use Rattle.spec.proofs.ScanLaws.{ScanReads}
+
+-- ---- lists
+
+-- what is the same where a test passes is the same of a list that passes
+map-same : {A B : Type 0} (p : A → Bool) (f g : A → B) (l : List A) → every p l ≡ true → ((x : A) → p x ≡ true → f x ≡ g x) → map f l ≡ map g l
+map-same p f g [] e h = refl
+map-same {B = B} p f g (x ∷ l) e h =
+    ap₂ {C = List B} (λ a as′. a ∷ as′) (h x (and-left (p x) (every p l) e)) (map-same p f g l (and-right (p x) (every p l) e) h)
+
+pub none-empty : (keywords : List (List ℕ)) → ((k : ℕ) → k < length keywords → 1 ≤ length (getD keywords k [])) → noneEmpty keywords ≡ true
+none-empty [] h = refl
+none-empty (w ∷ ws) h = rw (le-leb 1 (length w) (h 0 (omega arith)), none-empty ws (λ k l. h (suc k) (omega arith)))
+
+pub accepted-none-empty : (list : List ℕ) → keywordCode list ≡ 0 → noneEmpty (keywordsOf list) ≡ true
+accepted-none-empty list e =
+    let a : Accepted list = accepted list (keyword-front list e) in
+    none-empty (keywordsOf list) (λ k l. a .proper k (omega (arith, a .count)) .0)
+
+-- ---- tests 15, 16 and 17
+
+position-in : (keys : List (List ℕ)) (key : List ℕ) → contains key keys ≡ true → positionOf key keys < length keys
+position-in keys key e = ltb-true (positionOf key keys) (length keys) (sym (contains-position key keys) ∙ e)
+
+pub record FileGood (keys : List (List ℕ)) (sizeOf : ℕ → ℕ) (m : ℕ) (file : List (List ℕ)) : Type 0 where
+  pub found : every (λ key. contains key keys) file ≡ true
+  pub short : sum (sizesIn keys sizeOf m file) ≤ largest32
+  pub roomed : roomy m (sizesIn keys sizeOf m file) ≡ true
+
+pub file-good : (keys : List (List ℕ)) (sizeOf : ℕ → ℕ) (m : ℕ) (file : List (List ℕ)) → fileCode keys sizeOf m file ≡ 0 → FileGood keys sizeOf m file
+unfolding fileCode
+file-good keys sizeOf m file e =
+    let a = passed (not (every (λ key. contains key keys) file)) 15 _ (omega arith) e in
+    let b = passed (ltb largest32 (sum (sizesIn keys sizeOf m file))) 16 _ (omega arith) (a .1) in
+    let c = passed (not (roomy m (sizesIn keys sizeOf m file))) 17 _ (omega arith) (b .1) in
+    record {
+      found = not-false _ (a .0);
+      short = ltb-false largest32 (sum (sizesIn keys sizeOf m file)) (b .0);
+      roomed = not-false _ (c .0);
+    }
+
+module _ (keys : List (List ℕ)) (s t : ℕ → ℕ) (m : ℕ) (h : (k : ℕ) → k < length keys → s k ≡ t k) where
+  sizes-same : (file : List (List ℕ)) → every (λ key. contains key keys) file ≡ true → sizesIn keys s m file ≡ sizesIn keys t m file
+  sizes-same file e = map-same (λ key. contains key keys) _ _ file e (λ key c. h (positionOf key keys) (position-in keys key c))
+
+  file-same : (file : List (List ℕ)) → fileCode keys s m file ≡ fileCode keys t m file
+  unfolding fileCode
+  file-same file = go (bool-cases (every (λ key. contains key keys) file))
+    where
+      go : (every (λ key. contains key keys) file ≡ true) ⊎ (every (λ key. contains key keys) file ≡ false) → fileCode keys s m file ≡ fileCode keys t m file
+      go (inl e) = rw (sizes-same file e)
+      go (inr e) = rw e
+
+  codes-same : (files : List (List (List ℕ))) → map (fileCode keys s m) files ≡ map (fileCode keys t m) files
+  codes-same [] = refl
+  codes-same (file ∷ files) = rw (file-same file, codes-same files)
+
+  files-same : (files : List (List (List ℕ))) → filesCode keys s m files ≡ filesCode keys t m files
+  unfolding filesCode
+  files-same files = ap firstCode (codes-same files)
+
+-- ---- the list
+
+module _ (f : Form) (plain : f .sets ≡ false) (list store index : List ℕ) (accept : keywordCode list ≡ 0) (reads : ScanReads f list store index) where
+  -- the tests 15 to 17 of a file and of all files, said of the store
+  abbrev storeFileCode : List (List ℕ) → ℕ
+  storeFileCode file = fileCode (storeKeys store) (sizeAt storeLayout store) (due f list) file
+
+  abbrev storeFilesCode : List (List (List ℕ)) → ℕ
+  storeFilesCode files = filesCode (storeKeys store) (sizeAt storeLayout store) (due f list) files
+
+  abbrev chunksNamed : List (List ℕ) → List (List ℕ)
+  chunksNamed file = map (chunkNamed store) file
+
+  in-store : (key : List ℕ) → contains key (storeKeys store) ≡ true → positionOf key (storeKeys store) < chunkCount store
+  in-store key e = omega (arith, position-in (storeKeys store) key e, reads .keyCount)
+
+  file-records : (file : List (List ℕ)) → every (λ key. contains key (storeKeys store)) file ≡ true → fileRecords f index file ≡ map (scanRecords list) (chunksNamed file)
+  unfolding fileRecords
+  file-records file e =
+      rw (reads .keys)
+      (map-same (λ key. contains key (storeKeys store)) _ _ file e (λ key c. reads .records (positionOf key (storeKeys store)) (in-store key c))
+      ∙ sym (map-map (scanRecords list) (chunkNamed store) file))
+
+  file-lengths : (file : List (List ℕ)) → every (λ key. contains key (storeKeys store)) file ≡ true
+      → map length (chunksNamed file) ≡ sizesIn (storeKeys store) (sizeAt storeLayout store) (due f list) file
+  file-lengths file e =
+      map-map length (chunkNamed store) file
+      ∙ map-same (λ key. contains key (storeKeys store)) _ _ file e (λ key c. reads .chunks (positionOf key (storeKeys store)) (in-store key c))
+
+  all-records : (files : List (List (List ℕ))) → storeFilesCode files ≡ 0 → map (fileRecords f index) files ≡ map (map (scanRecords list)) (map chunksNamed files)
+  unfolding filesCode
+  all-records [] e = refl
+  all-records (file ∷ files) e =
+      let p : (storeFileCode file ≡ 0) × (storeFilesCode files ≡ 0) = passed-code (storeFileCode file) (map storeFileCode files) e in
+      let g : FileGood (storeKeys store) (sizeAt storeLayout store) (due f list) file = file-good (storeKeys store) (sizeAt storeLayout store) (due f list) file (p .0) in
+      rw (file-records file (g .found), all-records files (p .1))
+
+  all-roomy : (files : List (List (List ℕ))) → storeFilesCode files ≡ 0 → every (λ cs. roomy (due f list) (map length cs)) (map chunksNamed files) ≡ true
+  unfolding filesCode
+  all-roomy [] e = refl
+  all-roomy (file ∷ files) e =
+      let p : (storeFileCode file ≡ 0) × (storeFilesCode files ≡ 0) = passed-code (storeFileCode file) (map storeFileCode files) e in
+      let g : FileGood (storeKeys store) (sizeAt storeLayout store) (due f list) file = file-good (storeKeys store) (sizeAt storeLayout store) (due f list) file (p .0) in
+      rw (file-lengths file (g .found), g .roomed, all-roomy files (p .1))
+
+  texts : (files : List (List (List ℕ))) → map (λ cs. folded (flagOf list) (joined cs)) (map chunksNamed files) ≡ map (λ file. folded (flagOf list) (restored store file)) files
+  unfolding restored
+  texts files = map-map (λ cs. folded (flagOf list) (joined cs)) chunksNamed files
+
+  pub lists-same : (recipes : List ℕ) → storeFilesCode (filesOf recipes) ≡ 0 → joinList f index recipes ≡ directSearch list store recipes
+  unfolding joinList directSearch
+  lists-same recipes e =
+      rw (reads .listed .folded, all-records (filesOf recipes) e)
+      (scan-join-is-search f plain list (map chunksNamed (filesOf recipes)) (accepted-none-empty list accept) (all-roomy (filesOf recipes) e)
+      ∙ ap (occurrencesInAll 0 (foldedKeywords list)) (texts (filesOf recipes)))
+
+  -- ---- the number
+
+  due-same : due f (listIn index) ≡ due f list
+  unfolding due
+  due-same = rw (reads .listed .keywords)
+
+  index-files : (files : List (List (List ℕ))) → filesCode (indexKeys index) (sizeAt (indexLayout index) index) (due f (listIn index)) files ≡ storeFilesCode files
+  index-files files =
+      rw (reads .keys, due-same)
+      (files-same (storeKeys store) (sizeAt (indexLayout index) index) (sizeAt storeLayout store) (due f list) (λ k l. reads .sizes k (omega (arith, reads .keyCount))) files)
+
+  chain : (r c n : ℕ) (b d : Bool) → (r ≡ 0 → c ≡ 0 → b ≡ d)
+      → firstOf (whole (firstOf (whole 0 ∷ whole r ∷ whole c ∷ [])) ∷ (b, n) ∷ []) ≡ firstOf (whole r ∷ whole c ∷ (d, n) ∷ [])
+  chain zero zero n b d h = rw (h refl refl)
+  chain zero (suc c) n b d h = rw (lt-ltb 0 (suc c) (omega arith), lt-ltb 0 (suc c) (omega arith))
+  chain (suc r) c n b d h = rw (lt-ltb 0 (suc r) (omega arith), lt-ltb 0 (suc r) (omega arith))
+
+  pub codes-agree : (recipes : List ℕ) (room : ℕ) → joinCode f index recipes room ≡ searchJoinCode f list store recipes room
+  unfolding joinCode joinableCode searchJoinCode
+  codes-agree recipes room =
+      rw (reads .passes, index-files (filesOf recipes))
+      (chain (recipesCode recipes) (storeFilesCode (filesOf recipes)) 18 (ltb room (9 * length (joinList f index recipes))) (ltb room (9 * length (directSearch list store recipes)))
+      (λ _ e. ap (λ (l : List Occurrence). ltb room (9 * length l)) (lists-same recipes e)))
+
+  -- where the number is 0 the lists are the same
+  pub done-same : (recipes : List ℕ) (room : ℕ) → searchJoinCode f list store recipes room ≡ 0 → joinList f index recipes ≡ directSearch list store recipes
+  unfolding searchJoinCode
+  done-same recipes room e =
+      let a = passed-whole (recipesCode recipes) _ e in
+      lists-same recipes (passed-whole (storeFilesCode (filesOf recipes)) _ (a .1) .0)
+
+  -- ---- the answer and the buffer
+
+  answer-same : (c d v w : ℕ) → c ≡ d → (d ≡ 0 → v ≡ w) → answer c v ≡ answer d w
+  unfolding answer
+  answer-same c zero v w e h = rw (e, h refl)
+  answer-same c (suc d) v w e h = rw (e, ne-eqb (suc d) 0 (λ z. let y : ⊥ = omega arith in absurd y))
+
+  buffer-same : (c d : ℕ) (v w out : List ℕ) → c ≡ d → (d ≡ 0 → v ≡ w) → unlessRefused c v out ≡ unlessRefused d w out
+  unfolding unlessRefused
+  buffer-same c zero v w out e h = rw (e, h refl)
+  buffer-same c (suc d) v w out e h = rw (e, ne-eqb (suc d) 0 (λ z. let y : ⊥ = omega arith in absurd y))
+
+  pub outcome-of-scan : (recipes : List ℕ) (room : ℕ)
+      → joinOutcome f index recipes room ≡ answer (searchJoinCode f list store recipes room) (length (directSearch list store recipes))
+  unfolding joinOutcome
+  outcome-of-scan recipes room =
+      answer-same (joinCode f index recipes room) (searchJoinCode f list store recipes room) (length (joinList f index recipes)) (length (directSearch list store recipes))
+      (codes-agree recipes room)
+      (λ e. ap length (done-same recipes room e))
+
+  pub buffer-of-scan : (recipes out : List ℕ)
+      → joinBuffer f index recipes out ≡ unlessRefused (searchJoinCode f list store recipes (length out)) (written out (listBytes (directSearch list store recipes))) out
+  unfolding joinBuffer
+  buffer-of-scan recipes out =
+      buffer-same (joinCode f index recipes (length out)) (searchJoinCode f list store recipes (length out))
+      (written out (listBytes (joinList f index recipes))) (written out (listBytes (directSearch list store recipes))) out
+      (codes-agree recipes (length out))
+      (λ e. ap (λ (l : List Occurrence). written out (listBytes l)) (done-same recipes (length out) e))

@@ -1,0 +1,59 @@
+-- Demand 3, one claim on a scan and any join of its index: for every store, keyword list, recipes and buffers.
+use mathlib.Core.Path.{_≡_}
+use mathlib.Core.Logic.{_↔_}
+use mathlib.Core.List.{List, map}
+use Prim.Native.Nat.{ℕ, _*_, _≤_}
+use lib.ListN.{length, take}
+use Rattle.spec.specs.Bytes.{written}
+use Rattle.spec.specs.Outcome.{codeOf, valueOf, answer, unlessRefused}
+use Rattle.spec.specs.Keywords.{flagOf, folded, foldedKeywords, keywordCode}
+use Rattle.spec.specs.Directory.{sizeAt}
+use Rattle.spec.specs.Store.{storeLayout, storeKeys, storeCode}
+use Rattle.spec.specs.Records.{form1}
+use Rattle.spec.specs.Recipes.{largest32, filesOf, recipesCode, filesCode}
+use Rattle.spec.specs.Join.{listBytes, due, joinOutcome, joinBuffer}
+use Rattle.spec.specs.Scan.{scanIndex, scanOutcome, scanBuffer}
+use Rattle.spec.specs.Search.{restored, directSearch, searchJoinCode}
+use Rattle.theory.specs.SearchList.{SearchList}
+
+-- No refusal of the scan holds, for a buffer of `room` bytes: the keyword check and the store check find nothing, and the index has room.
+abbrev pub NoScanRefusal : List ℕ → List ℕ → ℕ → Type 0
+NoScanRefusal list store room =
+    (keywordCode list ≡ 0)
+    × (storeCode store ≡ 0)
+    × (length (scanIndex form1 list store) ≤ room)
+    × (length (scanIndex form1 list store) ≤ largest32)
+
+-- No refusal of the join holds, said of the store: 14; 15, 16 and 17; 18.
+abbrev pub NoJoinRefusal : List ℕ → List ℕ → List ℕ → ℕ → Type 0
+NoJoinRefusal list store recipes room =
+    (recipesCode recipes ≡ 0)
+    × (filesCode (storeKeys store) (sizeAt storeLayout store) (due form1 list) (filesOf recipes) ≡ 0)
+    × (9 * length (directSearch list store recipes) ≤ room)
+
+-- The restored files, as they compare.
+abbrev pub restoredFiles : List ℕ → List ℕ → List ℕ → List (List ℕ)
+restoredFiles list store recipes = map (λ file. folded (flagOf list) (restored store file)) (filesOf recipes)
+
+-- The join's index: the bytes that the scan wrote into its buffer, of the length it reported.
+abbrev pub scanned : List ℕ → List ℕ → List ℕ → List ℕ
+scanned list store buffer = take (valueOf (scanOutcome form1 list store (length buffer))) (scanBuffer form1 list store buffer)
+
+-- What holds of a join once the scan has done its work.
+pub record JoinOfScan (list store recipes buffer out : List ℕ) : Type 0 where
+  -- the join does its work exactly when none of its refusals holds
+  pub done : (codeOf (joinOutcome form1 (scanned list store buffer) recipes (length out)) ≡ 0) ↔ NoJoinRefusal list store recipes (length out)
+  -- its answer: the refusal's number, or the length of the direct search's list
+  pub outcome : joinOutcome form1 (scanned list store buffer) recipes (length out)
+      ≡ answer (searchJoinCode form1 list store recipes (length out)) (length (directSearch list store recipes))
+  -- its buffer: as it was on a refusal, or the direct search's list and the rest as it was
+  pub bytes : joinBuffer form1 (scanned list store buffer) recipes out
+      ≡ unlessRefused (searchJoinCode form1 list store recipes (length out)) (written out (listBytes (directSearch list store recipes))) out
+
+pub record Demand3 (list store recipes buffer out : List ℕ) : Type 0 where
+  -- the scan does its work exactly when none of its refusals holds
+  pub scan : (codeOf (scanOutcome form1 list store (length buffer)) ≡ 0) ↔ NoScanRefusal list store (length buffer)
+  -- and then a join of what it wrote answers by the restored files
+  pub join : codeOf (scanOutcome form1 list store (length buffer)) ≡ 0 → JoinOfScan list store recipes buffer out
+  -- whose direct search lists every occurrence once, in order, and nothing else
+  pub search : SearchList (foldedKeywords list) (restoredFiles list store recipes) (directSearch list store recipes)
