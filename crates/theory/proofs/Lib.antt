@@ -4,3 +4,4 @@ pub mod PlaceText
 pub mod IndexTheorems
 pub mod ScanThenJoin
 pub mod Demand3
+pub mod RecordTheorems
