@@ -1,19 +1,19 @@
 -- What the index check's 0 gives, and what gives it. Assumes nothing.
-use mathlib.Core.Path.{_≡_, refl, sym, ap, _∙_}
-use mathlib.Core.Bool.{Bool, true, false, _||_, not}
-use mathlib.Core.List.{List, [], _∷_, map}
-use Prim.Native.Nat.{ℕ, zero, suc, _+_, _*_, _-_, _≤_, _<_}
+use mathlib.Core.Path.{_≡_}
+use mathlib.Core.Bool.{true, false, _||_, not}
+use mathlib.Core.List.{List}
+use Prim.Native.Nat.{ℕ, _-_, _≤_, _<_}
 use native.Mathlib.Nat.{zero-add}
 use native.Mathlib.Omega.{arith}
 use borrow.Author.Tests.{ltb-false, le-ltb, not-false}
 use lib.Dec.{ltb}
-use lib.ListN.{length, take, drop, getD}
+use lib.ListN.{length, take}
 use Rattle.spec.specs.Bytes.{same, twice}
-use Rattle.spec.specs.Keywords.{listSize, keywordFrontCode}
-use Rattle.spec.specs.Directory.{directoryEnd, sizeAt, entriesCode}
+use Rattle.spec.specs.Keywords.{keywordFrontCode}
+use Rattle.spec.specs.Directory.{directoryEnd, entriesCode}
 use Rattle.spec.specs.Store.{chunkCount, mostChunks}
-use Rattle.spec.specs.Records.{Form, goodBody}
-use Rattle.spec.specs.Index.{listIn, indexLayout, indexKeys, bodyAt, lengthsIn, goodAt, allGood, indexCode}
+use Rattle.spec.specs.Records.{Form}
+use Rattle.spec.specs.Index.{listIn, indexLayout, indexKeys, goodAt, allGood, indexCode}
 use Rattle.spec.proofs.Codes.{passed, passed-whole, or-left, or-right}
 use Rattle.spec.proofs.EntryLaws.{Entries, entries-good, length-keysIn}
 use Rattle.spec.proofs.Same.{same-eq, same-of}

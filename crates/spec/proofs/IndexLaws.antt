@@ -1,14 +1,14 @@
 -- A written index is read as it was written: mark, chunk count, keyword list, fingerprints, lengths and bodies; and its entries pass the
 -- check. The bytes are known behind each part in turn (Seams), the directory and the bodies are those of WrittenEntries. Assumes nothing.
-use mathlib.Core.Path.{_≡_, refl, sym, ap, ap₂, _∙_, subst}
-use mathlib.Core.List.{List, [], _∷_, _++_, map, append-assoc}
-use Prim.Native.Nat.{ℕ, zero, suc, _+_, _*_, _^_, _≤_, _<_}
+use mathlib.Core.Path.{_≡_, refl, sym, ap, _∙_}
+use mathlib.Core.List.{List, _++_, map, append-assoc}
+use Prim.Native.Nat.{ℕ, _+_, _*_, _≤_, _<_}
 use native.Mathlib.Omega.{arith}
-use lib.ListN.{length, take, drop, getD, length-append, length-drop, length-map}
+use lib.ListN.{length, take, drop, getD, length-append}
 use lib.Seq.{take-at}
-use Rattle.spec.specs.Bytes.{part, fieldAt, leBytes}
+use Rattle.spec.specs.Bytes.{leBytes}
 use Rattle.spec.specs.Keywords.{keywordsOf, listSize, keywordCode}
-use Rattle.spec.specs.Directory.{Layout, directoryEnd, sizeAt, offsetAt, lengthAt, pointedAt, keysIn, entriesCode}
+use Rattle.spec.specs.Directory.{directoryEnd, sizeAt, offsetAt, lengthAt, entriesCode}
 use Rattle.spec.specs.Store.{chunkCount}
 use Rattle.spec.specs.Records.{Form}
 use Rattle.spec.specs.Index.{Entry, directoryBytes, indexBytes, listIn, indexLayout, indexKeys, bodyAt, lengthsIn}

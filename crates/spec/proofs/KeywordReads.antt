@@ -1,20 +1,19 @@
 -- A keyword list is read from the front: what follows it does not matter, and an accepted list is told from its own bytes. Each law goes
 -- keyword by keyword (`read-step` of KeywordLaws). Assumes nothing.
-use mathlib.Core.Path.{_≡_, refl, sym, ap, ap₂, _∙_, subst}
-use mathlib.Core.Bool.{Bool, true, false, _||_}
-use mathlib.Core.List.{List, [], _∷_, _++_, map}
-use Prim.Native.Nat.{ℕ, zero, suc, _+_, _-_, _≤_, _<_}
-use native.Mathlib.Nat.{suc-add, not-suc-le-zero}
+use mathlib.Core.Path.{_≡_, refl, sym, ap, _∙_, subst}
+use mathlib.Core.Bool.{false}
+use mathlib.Core.List.{List, [], _∷_, _++_}
+use Prim.Native.Nat.{ℕ, zero, suc, _+_, _-_, _≤_}
+use native.Mathlib.Nat.{suc-add}
 use native.Mathlib.Omega.{arith}
-use borrow.Author.Tests.{ne-eqb, le-ltb, ltb-false}
-use lib.Dec.{eqb, ltb}
-use lib.ListN.{length, take, drop, getD, length-append, length-take, length-drop, take-append-drop}
-use lib.Seq.{take-append-le, drop-append-le, take-add, drop-at, length-take-le, drop-drop}
+use borrow.Author.Tests.{ne-eqb, le-ltb}
+use lib.Dec.{ltb}
+use lib.ListN.{length, take, drop, length-append, length-take, take-append-drop}
+use lib.Seq.{take-append-le, drop-append-le, take-add, drop-at, length-take-le}
 use Rattle.spec.specs.Bytes.{twice}
-use Rattle.spec.specs.Outcome.{firstOf, whole}
-use Rattle.spec.specs.Keywords.{foldedAll, countOf, flagOf, readKeywords, keywordsSize, keywordsOf, listSize, foldedKeywords, readCode, headerWrong, frontTests, alikeTest, keywordCode, keywordFrontCode}
-use Rattle.spec.proofs.Codes.{passed, passed-whole, all-passed, all-passed-whole}
-use Rattle.spec.proofs.KeywordLaws.{Step, read-step, read-absent, read-room, Accepted, accepted, keyword-front, keyword-whole}
+use Rattle.spec.specs.Keywords.{foldedAll, countOf, flagOf, readKeywords, keywordsSize, keywordsOf, listSize, foldedKeywords, readCode, headerWrong, keywordCode, keywordFrontCode}
+use Rattle.spec.proofs.Codes.{passed}
+use Rattle.spec.proofs.KeywordLaws.{read-step, read-absent, read-room, accepted, keyword-front}
 
 -- ---- the reading
 

@@ -1,28 +1,26 @@
 -- An index has one form: one that passes the index check is the writing of what it says, so two that say the same are the same bytes.
 -- The directory and the bodies are put together entry by entry, from the place where each starts. Elements must be bytes, since a field
 -- says its value only then in one way. Assumes nothing.
-use mathlib.Core.Path.{_≡_, refl, sym, ap, ap₂, _∙_, subst}
-use mathlib.Core.Bool.{Bool, true, false}
-use mathlib.Core.List.{List, [], _∷_, _++_, map, append-assoc}
+use mathlib.Core.Path.{_≡_, refl, sym, ap, ap₂, _∙_}
+use mathlib.Core.List.{List, [], _++_, append-assoc}
 use Prim.Native.Nat.{ℕ, zero, suc, _+_, _*_, _≤_, _<_}
-use native.Mathlib.Nat.{add-zero, zero-add, add-assoc}
+use native.Mathlib.Nat.{add-zero}
 use native.Mathlib.Omega.{arith}
 use lib.ListN.{length, take, drop, getD, length-take, length-drop, take-append-drop}
 use lib.Seq.{drop-drop, drop-length, length-take-le}
-use Rattle.spec.specs.Bytes.{part, fieldAt, leBytes, joined}
-use Rattle.spec.specs.Keywords.{keywordsOf, listSize, keywordCode, keywordFrontCode}
-use Rattle.spec.specs.Directory.{Layout, directoryEnd, sizeAt, offsetAt, lengthAt, pointedAt, keysIn, entriesCode}
+use Rattle.spec.specs.Bytes.{part, fieldAt, leBytes}
+use Rattle.spec.specs.Keywords.{listSize}
+use Rattle.spec.specs.Directory.{sizeAt, offsetAt, lengthAt, pointedAt, entriesCode}
 use Rattle.spec.specs.Store.{chunkCount}
-use Rattle.spec.specs.Records.{Form, ChunkRecords, bodyBytes, readBody, goodBody}
-use Rattle.spec.specs.Index.{Entry, directoryBytes, indexBytes, listIn, indexLayout, indexKeys, bodyAt, lengthsIn, indexRecords, indexCode}
+use Rattle.spec.specs.Records.{Form, bodyBytes}
+use Rattle.spec.specs.Index.{Entry, directoryBytes, indexBytes, listIn, indexLayout, indexKeys, bodyAt, lengthsIn, indexRecords}
 use Rattle.spec.proofs.FieldLists.{AllBytes, bytes-drop, leBytes-take}
 use Rattle.spec.proofs.EntryLaws.{entries-step, entries-last, keyIn-at}
-use Rattle.spec.proofs.KeywordLaws.{Accepted, accepted, keyword-front}
-use Rattle.spec.proofs.KeywordReads.{SameList, list-front, list-taken}
+use Rattle.spec.proofs.KeywordLaws.{accepted}
 use Rattle.spec.proofs.RecordLaws.{good-is-written}
 use Rattle.spec.proofs.Tabulated.{tabulated, length-tabulated, tabulated-same}
 use Rattle.spec.proofs.WrittenEntries.{bodiesOf, entryLayout, directory-cons}
-use Rattle.spec.proofs.IndexChecks.{IndexGood, index-good}
+use Rattle.spec.proofs.IndexChecks.{IndexGood}
 
 -- ---- bytes taken apart
 

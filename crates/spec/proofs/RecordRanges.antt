@@ -1,18 +1,18 @@
 -- The records of a real chunk keep the ranges of document 01: prefix and suffix in reach, offsets rising, and each keyword inside the
 -- chunk. The offsets are the numbers of a range that pass a test, so they rise. Assumes nothing.
-use mathlib.Core.Path.{_≡_, refl, sym, ap, ap₂, _∙_, subst}
-use mathlib.Core.Logic.{_⊎_, inl, inr, ⊎-elim}
-use mathlib.Core.Bool.{Bool, true, false, _&&_, true≢false, false≢true}
+use mathlib.Core.Path.{_≡_, refl, sym, _∙_}
+use mathlib.Core.Logic.{_⊎_, ⊎-elim}
+use mathlib.Core.Bool.{Bool, true, false, false≢true}
 use mathlib.Core.List.{List, [], _∷_, _++_, map}
 use Prim.Native.Nat.{ℕ, zero, suc, _+_, _-_, _≤_, _<_}
 use native.Mathlib.Nat.{zero-lt-suc}
 use native.Mathlib.Omega.{arith}
 use borrow.Author.Tests.{lt-ltb}
-use lib.Dec.{leb, ltb}
+use lib.Dec.{leb}
 use lib.ListN.{length, getD, drop, length-drop}
 use Rattle.spec.specs.Bytes.{occursAt, keep, rising, every}
 use Rattle.spec.specs.Records.{reach, endsWith, startsWith, prefixOf, suffixOf, offsetsOf, recordOf, inRange, allInRange}
-use Rattle.spec.proofs.Tests.{leb-true, le-or-lt, bool-cases}
+use Rattle.spec.proofs.Tests.{leb-true, le-or-lt}
 use Rattle.spec.proofs.Largest.{largest-le}
 use Rattle.spec.proofs.Begins.{begins-short}
 use Rattle.spec.proofs.Each.{passing}

@@ -1,25 +1,25 @@
 -- The scan's index, read again: the store's fingerprints and lengths, and of every chunk the records that the chunk gives. It is a written
 -- index (IndexLaws) whose entries are the store's, and its bodies read back (RecordLaws). Assumes nothing.
-use mathlib.Core.Path.{_≡_, refl, sym, ap, ap₂, _∙_, subst}
-use mathlib.Core.Bool.{Bool, true, false, _||_}
-use mathlib.Core.List.{List, [], _∷_, _++_, map}
-use Prim.Native.Nat.{ℕ, zero, suc, _+_, _*_, _^_, _≤_, _<_}
+use mathlib.Core.Path.{_≡_, refl, sym, ap, _∙_}
+use mathlib.Core.Bool.{true, false, _||_}
+use mathlib.Core.List.{List, [], _∷_, map}
+use Prim.Native.Nat.{ℕ, suc, _^_, _≤_, _<_}
 use native.Mathlib.Nat.{zero-add, zero-lt-suc}
 use native.Mathlib.Omega.{arith}
 use borrow.Author.Tests.{lt-ltb, ltb-false}
 use lib.Dec.{ltb}
-use lib.ListN.{length, take, drop, getD, length-map}
-use Rattle.spec.specs.Bytes.{each, every, twice}
-use Rattle.spec.specs.Keywords.{countOf, flagOf, folded, foldedKeywords, keywordsOf, listSize, keywordCode, keywordFrontCode}
-use Rattle.spec.specs.Directory.{Layout, directoryEnd, sizeAt}
-use Rattle.spec.specs.Store.{storeLayout, chunkCount, mostChunks, storeKeys, chunkAt, storeCode}
-use Rattle.spec.specs.Records.{Form, form1, newest, MatchRecord, ChunkRecords, recordOf, recordsOf, bodyBytes, readBody, allInRange, goodBody}
+use lib.ListN.{length, take, getD, length-map}
+use Rattle.spec.specs.Bytes.{twice}
+use Rattle.spec.specs.Keywords.{flagOf, folded, foldedKeywords, listSize, keywordCode}
+use Rattle.spec.specs.Directory.{sizeAt}
+use Rattle.spec.specs.Store.{storeLayout, chunkCount, storeKeys, chunkAt, storeCode}
+use Rattle.spec.specs.Records.{Form, form1, newest, recordOf, recordsOf, readBody, allInRange, goodBody}
 use Rattle.spec.specs.Index.{Entry, indexBytes, listIn, indexLayout, indexKeys, bodyAt, lengthsIn, indexRecords, goodAt, indexCode}
 use Rattle.spec.specs.Recipes.{largest32}
 use Rattle.spec.specs.Scan.{scanRecords, scanBody, scanEntry, scanIndex, scannableCode, scanCode}
 use Rattle.spec.proofs.Codes.{passed, passed-whole, or-left, or-right}
 use Rattle.spec.proofs.Folding.{folded-length}
-use Rattle.spec.proofs.KeywordLaws.{Proper, Accepted, accepted, keyword-front, keyword-whole, folded-count, folded-lengths, folded-proper}
+use Rattle.spec.proofs.KeywordLaws.{Proper, accepted, keyword-front, folded-count, folded-lengths, folded-proper}
 use Rattle.spec.proofs.KeywordReads.{SameList}
 use Rattle.spec.proofs.RecordLaws.{FormGood, form1-good, allPositive, body-read, good-written}
 use Rattle.spec.proofs.RecordRanges.{records-in-range}

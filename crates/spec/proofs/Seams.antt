@@ -1,8 +1,8 @@
 -- Reading bytes that are known from some place on: what stands there first, and what follows it. Assumes nothing.
-use mathlib.Core.Path.{_≡_, refl, sym, ap, _∙_}
-use mathlib.Core.List.{List, [], _∷_, _++_}
-use Prim.Native.Nat.{ℕ, zero, suc, _+_, _^_, _≤_, _<_}
-use lib.ListN.{length, take, drop}
+use mathlib.Core.Path.{_≡_, sym, ap, _∙_}
+use mathlib.Core.List.{List, _++_}
+use Prim.Native.Nat.{ℕ, _+_, _^_, _<_}
+use lib.ListN.{length, drop}
 use lib.Seq.{take-at, drop-at, drop-drop}
 use Rattle.spec.specs.Bytes.{part, fieldAt, leValue, leBytes}
 use Rattle.spec.proofs.Fields.{length-leBytes, leValue-leBytes}

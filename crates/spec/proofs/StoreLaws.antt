@@ -1,14 +1,14 @@
 -- What the store check's 0 gives: the header, the entries, and of each chunk that it has the length its entry says. Assumes nothing.
-use mathlib.Core.Path.{_≡_, refl, sym, ap, _∙_}
-use mathlib.Core.Bool.{Bool, true, false, _||_, not}
-use mathlib.Core.List.{List, [], _∷_}
-use Prim.Native.Nat.{ℕ, zero, suc, _+_, _*_, _-_, _≤_, _<_}
+use mathlib.Core.Path.{_≡_}
+use mathlib.Core.Bool.{false, _||_, not}
+use mathlib.Core.List.{List, []}
+use Prim.Native.Nat.{ℕ, _-_, _≤_, _<_}
 use native.Mathlib.Omega.{arith}
 use borrow.Author.Tests.{ltb-false, not-false}
 use lib.Dec.{ltb}
-use lib.ListN.{length, take, drop, getD, length-take, length-drop}
-use Rattle.spec.specs.Bytes.{part, same, twice}
-use Rattle.spec.specs.Directory.{directoryEnd, sizeAt, offsetAt, lengthAt, entriesCode}
+use lib.ListN.{length, take, getD, length-take, length-drop}
+use Rattle.spec.specs.Bytes.{same, twice}
+use Rattle.spec.specs.Directory.{directoryEnd, sizeAt, entriesCode}
 use Rattle.spec.specs.Store.{storeMark, storeLayout, chunkCount, mostChunks, storeKeys, chunkAt, storeCode}
 use Rattle.spec.specs.Records.{newest}
 use Rattle.spec.proofs.Codes.{passed, passed-whole, or-left, or-right}

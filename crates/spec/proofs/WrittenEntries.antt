@@ -1,18 +1,18 @@
 -- A written directory of an index, and its bodies, are read as they were written. Each law goes through the entries from the front,
 -- with the bytes known from the directory's next entry on and from its body on, so that every step is a reading at a seam.
 -- Assumes nothing.
-use mathlib.Core.Path.{_≡_, refl, sym, ap, ap₂, _∙_, subst}
-use mathlib.Core.Bool.{Bool, true, false, _||_, not}
-use mathlib.Core.List.{List, [], _∷_, _++_, map, append-assoc, append-nil}
+use mathlib.Core.Path.{_≡_, refl, ap₂, _∙_}
+use mathlib.Core.Bool.{_||_, not}
+use mathlib.Core.List.{List, [], _∷_, _++_, map, append-assoc}
 use Prim.Native.Nat.{ℕ, zero, suc, _+_, _*_, _-_, _^_, _≤_, _<_}
-use native.Mathlib.Nat.{add-zero, add-assoc, not-suc-le-zero, le-of-suc-le-suc, zero-lt-suc}
+use native.Mathlib.Nat.{add-assoc, not-suc-le-zero, le-of-suc-le-suc, zero-lt-suc}
 use native.Mathlib.Omega.{arith}
-use lib.ListN.{length, take, drop, getD, length-append, length-drop}
-use lib.Seq.{take-at, drop-at, drop-drop}
+use lib.ListN.{length, drop, getD, length-append}
+use lib.Seq.{drop-drop}
 use lib.Dec.{eqb, ltb}
-use Rattle.spec.specs.Bytes.{part, fieldAt, leValue, leBytes, joined}
+use Rattle.spec.specs.Bytes.{part, fieldAt, leBytes, joined}
 use Rattle.spec.specs.Outcome.{firstOf, whole}
-use Rattle.spec.specs.Directory.{Layout, keysOf, directoryEnd, entryField, sizeAt, offsetAt, lengthAt, pointedAt, entriesCode}
+use Rattle.spec.specs.Directory.{Layout, keysOf, sizeAt, lengthAt, entriesCode}
 use Rattle.spec.specs.Index.{Entry, directoryBytes}
 use Rattle.spec.proofs.Fields.{length-leBytes}
 use Rattle.spec.proofs.Tests.{eqb-same, eqb-ne, leb-false}

@@ -1,30 +1,30 @@
 -- Theorems 3 and 4, demand 2 on index files: what is written reads back as the same, a set of records has one written form, and the index
 -- that a scan writes passes the index check and says what its chunks give. The laws are those of spec/proofs; here stand the claims.
 -- Assumes nothing.
-use mathlib.Core.Path.{_≡_, refl, sym, ap, ap₂, _∙_, subst}
-use mathlib.Core.Bool.{Bool, true, false}
-use mathlib.Core.List.{List, [], _∷_, _++_, map}
-use Prim.Native.Nat.{ℕ, zero, suc, _+_, _*_, _^_, _≤_, _<_}
+use mathlib.Core.Path.{_≡_, refl, sym, ap, _∙_}
+use mathlib.Core.Bool.{true, false}
+use mathlib.Core.List.{List, [], _∷_, map}
+use Prim.Native.Nat.{ℕ, _≤_, _<_}
 use native.Mathlib.Nat.{zero-add}
 use native.Mathlib.Omega.{arith}
-use lib.ListN.{length, take, drop, getD, length-map}
+use lib.ListN.{length, getD, length-map}
 use Rattle.spec.specs.Bytes.{twice}
-use Rattle.spec.specs.Keywords.{keywordsOf, foldedKeywords, listSize, keywordCode}
-use Rattle.spec.specs.Directory.{directoryEnd, sizeAt}
-use Rattle.spec.specs.Store.{storeLayout, chunkCount, mostChunks, storeKeys, chunkAt, storeCode}
+use Rattle.spec.specs.Keywords.{keywordsOf, keywordCode}
+use Rattle.spec.specs.Directory.{sizeAt}
+use Rattle.spec.specs.Store.{chunkCount, mostChunks, storeKeys, chunkAt}
 use Rattle.spec.specs.Records.{Form, MatchRecord, ChunkRecords, bodyBytes, readBody, allInRange, goodBody}
 use Rattle.spec.specs.Index.{Entry, indexBytes, listIn, indexLayout, indexKeys, bodyAt, lengthsIn, indexRecords, goodAt, indexCode}
 use Rattle.spec.specs.Scan.{scanRecords, scanIndex, scanCode}
 use Rattle.spec.proofs.FieldLists.{AllBytes}
 use Rattle.spec.proofs.JoinIsSearch.{getD-map}
 use Rattle.spec.proofs.KeywordLaws.{folded-lengths}
-use Rattle.spec.proofs.KeywordReads.{SameList, own-list}
-use Rattle.spec.proofs.RecordLaws.{FormGood, allPositive, body-read, good-written, good-is-written, one-written-form}
+use Rattle.spec.proofs.KeywordReads.{own-list}
+use Rattle.spec.proofs.RecordLaws.{FormGood, allPositive, body-read, good-written, good-is-written}
 use Rattle.spec.proofs.Tabulated.{tabulated, length-tabulated, tabulated-at, tabulated-getD, tabulated-same, map-tabulated}
 use Rattle.spec.proofs.WrittenEntries.{Fits, noEntry, Every, SizeIn}
 use Rattle.spec.proofs.IndexLaws.{Writable, index-length, index-mark, index-count, index-list, index-list-bytes, index-layout, index-keys, index-lengths, index-size, index-body, index-entries}
 use Rattle.spec.proofs.IndexChecks.{IndexGood, index-good, index-passes, length-indexKeys}
-use Rattle.spec.proofs.ScanLaws.{ScanForm, scan-positive, ScanReads, scan-done-reads}
+use Rattle.spec.proofs.ScanLaws.{ScanForm, scan-positive, scan-done-reads}
 use Rattle.spec.proofs.OneForm.{listBytesIn, entryOf, checked-is-written}
 
 -- ---- what an index says

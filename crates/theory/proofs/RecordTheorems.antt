@@ -1,20 +1,19 @@
 -- Demand 2, first half: the record of a chunk and a keyword is the published method's, said by parts of lists alone, without a test or a
 -- search: the longest beginning of the keyword, short of the whole, at the chunk's end; the longest ending at its start; every occurrence.
 -- Exactly one record is so. Assumes nothing.
-use mathlib.Core.Path.{_≡_, refl, sym, ap, ap₂, _∙_, subst}
-use mathlib.Core.Logic.{_⊎_, inl, inr, ⊎-elim}
-use mathlib.Core.Bool.{Bool, true, false, _&&_, _||_, or-true, true≢false, false≢true}
+use mathlib.Core.Path.{_≡_, refl, sym, ap, _∙_}
+use mathlib.Core.Logic.{_⊎_, ⊎-elim}
+use mathlib.Core.Bool.{Bool, true, or-true, true≢false, false≢true}
 use mathlib.Core.List.{List, [], _∷_, _++_}
-use Prim.Native.Nat.{ℕ, zero, suc, _+_, _-_, _≤_, _<_, min}
+use Prim.Native.Nat.{ℕ, _+_, _-_, _≤_, _<_}
 use native.Mathlib.Nat.{zero-add, le-refl}
 use native.Mathlib.Omega.{arith}
 use borrow.Author.Tests.{lt-ltb}
-use lib.Dec.{eqb, ltb}
-use lib.ListN.{length, take, drop, getD, length-take, length-drop, take-append-drop, drop-of-length-le}
-use lib.Seq.{take-at, take-all, length-take-le}
+use lib.ListN.{length, take, drop, length-take, length-drop, take-append-drop, drop-of-length-le}
+use lib.Seq.{take-at, take-all}
 use Rattle.spec.specs.Bytes.{begins, occursAt, largest, member, rising}
 use Rattle.spec.specs.Records.{MatchRecord, reach, endsWith, startsWith, prefixOf, suffixOf, offsetsOf, recordOf}
-use Rattle.spec.proofs.Tests.{bool-cases, le-or-lt, eqb-same}
+use Rattle.spec.proofs.Tests.{le-or-lt, eqb-same}
 use Rattle.spec.proofs.Begins.{begins-front, begins-split, begins-short}
 use Rattle.spec.proofs.Each.{passing, each-match, member-passing, member-above}
 use Rattle.spec.proofs.Largest.{largest-passes, largest-le, largest-max}
