@@ -28,3 +28,4 @@ pub mod IndexChecks
 pub mod ScanLaws
 pub mod OneForm
 pub mod Borders
+pub mod Writing

@@ -1,0 +1,130 @@
+-- How many occurrences a place gives: as many as its streams have numbers. Assumes nothing.
+use mathlib.Core.Path.{_≡_, refl, sym, ap, ap₂, _∙_}
+use mathlib.Core.Bool.{Bool, true, false, _&&_}
+use mathlib.Core.List.{List, [], _∷_, _++_}
+use Prim.Native.Nat.{ℕ, zero, suc, _+_, _-_, _*_, _^_, _≤_, _<_}
+use native.Mathlib.Nat.{zero-add, add-zero, add-mul, one-mul}
+use native.Mathlib.Numerals.{add-one}
+use native.Mathlib.Omega.{arith}
+use lib.ListN.{length, getD, drop, length-append}
+use lib.Dec.{ltb}
+use lib.Count.{ones}
+use Rattle.spec.specs.Bytes.{fieldsOf, each, keep, member, rising, sum}
+use Rattle.spec.specs.Join.{Occurrence, hits}
+use Rattle.spec.proofs.Rising.{allBelow, passing-member}
+use Rattle.listing.specs.Streams.{below, bits, unread, streamOf, unreadAt, occurrences, numbers, total, Ready, Readable, small}
+use Rattle.listing.proofs.Digits.{bits-length}
+
+pub below-same : (n : ℕ) (xs : List ℕ) → allBelow n xs ≡ below n xs
+below-same n [] = refl
+below-same n (x ∷ xs) = ap (λ (b : Bool). ltb x n && b) (below-same n xs)
+
+-- ---- sums over a range
+
+abbrev sumUp : (ℕ → ℕ) → ℕ → ℕ → ℕ
+sumUp g a n = sum (each (λ k. g k ∷ []) a n)
+
+sum-same : (f g : ℕ → ℕ) (a n : ℕ) → ((p : ℕ) → a ≤ p → p < a + n → f p ≡ g p) → sumUp f a n ≡ sumUp g a n
+sum-same f g a zero h = refl
+sum-same f g a (suc n) h = ap₂ (λ (x y : ℕ). x + y) (h a (omega arith) (omega arith)) (sum-same f g (suc a) n (λ p u v. h p (omega arith) (omega arith)))
+
+sum-none : (a n : ℕ) → sumUp (λ k. 0) a n ≡ 0
+sum-none a zero = refl
+sum-none a (suc n) = zero-add (sumUp (λ k. 0) (suc a) n) ∙ sum-none (suc a) n
+
+sum-add : (f g : ℕ → ℕ) (a n : ℕ) → sumUp (λ k. f k + g k) a n ≡ sumUp f a n + sumUp g a n
+sum-add f g a zero = refl
+sum-add f g a (suc n) = omega (arith, sum-add f g (suc a) n)
+
+sum-swap : (g : ℕ → ℕ → ℕ) (a n b m : ℕ) → sumUp (λ p. sumUp (g p) b m) a n ≡ sumUp (λ k. sumUp (λ p. g p k) a n) b m
+sum-swap g a zero b m = sym (sum-none b m)
+sum-swap g a (suc n) b m = ap (λ (x : ℕ). sumUp (g a) b m + x) (sum-swap g (suc a) n b m) ∙ sym (sum-add (g a) (λ k. sumUp (λ p. g p k) (suc a) n) b m)
+
+sum-last : (f : ℕ → ℕ) (a n : ℕ) → sumUp f a (suc n) ≡ sumUp f a n + f (a + n)
+sum-last f a zero = rw (add-zero, add-zero, zero-add)
+sum-last f a (suc n) =
+    let e : suc a + n ≡ a + suc n = omega arith in
+    omega (arith, sum-last f (suc a) n, ap f e)
+
+sum-most : (f : ℕ → ℕ) (most a n : ℕ) → ((p : ℕ) → a ≤ p → p < a + n → f p ≤ most) → sumUp f a n ≤ n * most
+sum-most f most a zero h = omega arith
+sum-most f most a (suc n) h = omega (arith, h a (omega arith) (omega arith), sum-most f most (suc a) n (λ p u v. h p (omega arith) (omega arith)), add-mul 1 n most, one-mul most, step)
+  where
+    step : suc n * most ≡ most + n * most
+    step = let e : suc n ≡ 1 + n = omega arith in rw (e, add-mul, one-mul)
+
+length-each {ℓ} : {A : Type ℓ} (f : ℕ → List A) (a n : ℕ) → length (each f a n) ≡ sumUp (λ p. length (f p)) a n
+length-each f a zero = refl
+length-each f a (suc n) = length-append (f a) (each f (suc a) n) ∙ ap (λ (x : ℕ). length (f a) + x) (length-each f (suc a) n)
+
+length-keep {ℓ m} : {A : Type ℓ} {B : Type m} (b : Bool) (x : A) (y : B) → length (keep b x) ≡ length (keep b y)
+length-keep true x y = refl
+length-keep false x y = refl
+
+keep-le : (b : Bool) (x : ℕ) → length (keep b x) ≤ 1
+keep-le true x = omega arith
+keep-le false x = omega arith
+
+-- ---- occurrences and numbers
+
+-- neither the file's number nor the base bears on how many there are
+pub occurrences-length : (file base file′ base′ count size : ℕ) (s : ℕ → List ℕ) → length (occurrences file count base size s) ≡ length (occurrences file′ count base′ size s)
+unfolding occurrences hits
+occurrences-length file base file′ base′ count size s =
+    length-each _ 0 size
+    ∙ sum-same _ _ 0 size (λ p u v. length-each _ 0 count ∙ sum-same _ _ 0 count (λ k x y. length-keep (member p (s k)) _ _) ∙ sym (length-each _ 0 count))
+    ∙ sym (length-each _ 0 size)
+
+module _ (size : ℕ) where
+  abbrev at-offset : List ℕ → ℕ → ℕ
+  at-offset xs p = length (keep (member p xs) p)
+
+  stream-length : (xs : List ℕ) → rising xs ≡ true → below size xs ≡ true → sumUp (at-offset xs) 0 size ≡ length xs
+  stream-length xs up under =
+      sym (length-each (λ p. keep (member p xs) p) 0 size) ∙ ap length (passing-member size 0 xs up (rw zero-add (below-same size xs ∙ under)) (λ _. omega arith))
+
+  -- a stream has at most one number for each offset
+  length-le : (xs : List ℕ) → rising xs ≡ true → below size xs ≡ true → length xs ≤ size
+  length-le xs up under = omega (arith, stream-length xs up under, sum-most (at-offset xs) 1 0 size (λ p _ _. keep-le (member p xs) p))
+
+  -- by swapping the sum over offsets and the one over keywords
+  sum-is : (file count base : ℕ) (s : ℕ → List ℕ) → ((k : ℕ) → k < count → rising (s k) ≡ true) → ((k : ℕ) → k < count → below size (s k) ≡ true)
+      → length (occurrences file count base size s) ≡ sumUp (λ k. length (s k)) 0 count
+  unfolding occurrences hits
+  sum-is file count base s up under =
+      length-each _ 0 size
+      ∙ sum-same _ (λ p. sumUp (λ k. at-offset (s k) p) 0 count) 0 size (λ p u v. length-each _ 0 count ∙ sum-same _ _ 0 count (λ k x y. length-keep (member p (s k)) _ p))
+      ∙ sum-swap (λ p k. at-offset (s k) p) 0 size 0 count
+      ∙ sum-same _ _ 0 count (λ k u v. stream-length (s k) (up k (omega arith)) (under k (omega arith)))
+
+fields-length : (width n : ℕ) (bytes : List ℕ) → length (fieldsOf width n bytes) ≡ n
+unfolding fieldsOf
+fields-length width zero bytes = refl
+fields-length width (suc n) bytes = ap suc (fields-length width n (drop width bytes))
+
+unread-length : (index : List ℕ) (width : ℕ) (s : List ℕ) → getD s 4 0 < 2 ^ 32 → length (unread index width s) ≡ numbers s
+unfolding unread
+unread-length index width s h =
+    length-append (fieldsOf width (getD s 2 0) (drop (getD s 1 0) index)) _ ∙ ap₂ (λ (x y : ℕ). x + y) (fields-length width (getD s 2 0) (drop (getD s 1 0) index)) (bits-length 32 (getD s 3 0) (getD s 4 0) h)
+
+module _ (index : List ℕ) (width size count : ℕ) (streams : List (List ℕ)) (ready : Ready index width size count streams) where
+  numbers-le : (k : ℕ) → k < count → numbers (streamOf streams k) ≤ size
+  numbers-le k h =
+      let r = ready .each k h in
+      omega (arith, unread-length index width (streamOf streams k) (r .set), length-le size (unreadAt index width streams k) (r .up) (r .under))
+
+  pub total-is : (file base : ℕ) → total streams count ≡ length (occurrences file count base size (unreadAt index width streams))
+  total-is file base =
+      sum-same _ _ 0 count (λ k u v. sym (unread-length index width (streamOf streams k) (ready .each k (omega arith) .set)))
+      ∙ sym (sum-is size file count base (unreadAt index width streams) (λ k h. ready .each k h .up) (λ k h. ready .each k h .under))
+
+  pub total-le : total streams count ≤ count * size
+  total-le = sum-most (λ k. numbers (streamOf streams k)) size 0 count (λ k u v. numbers-le k (omega arith))
+
+  pub all-small : size < 2 ^ 32 → (k : ℕ) → k < count → small (streamOf streams k)
+  all-small l k h = record { left = omega (arith, numbers-le k h); set = ready .each k h .set }
+
+-- ---- one stream more is counted
+
+pub total-more : (streams : List (List ℕ)) (k : ℕ) → total streams (k + 1) ≡ total streams k + numbers (streamOf streams k)
+total-more streams k = rw add-one (sum-last (λ j. numbers (streamOf streams j)) 0 k ∙ rw zero-add)

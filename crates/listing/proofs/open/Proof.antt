@@ -1,0 +1,75 @@
+-- `listing::open` meets its contract.
+use mathlib.Core.List.{List}
+use Prim.Native.Nat.{ℕ, _+_, _-_, _*_, _≤_, _<_}
+use native.Mathlib.Omega.{arith}
+use lib.ListN.{length, getD}
+use Rattle.listing.proofs.Stepping.{Opening, opening-start, opening-next, opening-on, opening-end}
+use Rattle.listing.proofs.open.Statement.{statement}
+use Rattle.listing.proofs.open.Tie as tie
+use Rattle.listing.proofs.open.Reads as reads
+use Rattle.listing.proofs.open.Lts as lts
+use Rattle.listing.proofs.pull.Reads as pull-reads
+
+abbrev Inv-loop : tie.InvT-loop
+Inv-loop index width size count streams₀ k₀ streams k = (k ≤ count) × Opening index width size count streams₀ streams k
+
+abbrev μ-loop : tie.MeasureT-loop
+μ-loop index width size count streams₀ k₀ streams k = count - k
+
+loop-holds : tie.Need-loop-holds Inv-loop μ-loop
+loop-holds c = let s = c .before in
+    let a = s .args in
+    (omega arith, opening-start (a .index .now) (a .width) (a .size) (a .count) (a .streams .now) (s .pre .2))
+
+mul-s : tie.Need-mul-s Inv-loop μ-loop
+mul-s c = omega arith
+
+element-copy-out-s : tie.Need-element-copy-out-s Inv-loop μ-loop
+element-copy-out-s c = omega arith
+
+pull-requires : tie.Need-pull-requires Inv-loop μ-loop
+pull-requires c κs = let p = c .before .before in
+    let s = p .before .before in
+    let a = s .args in
+    (s .pre .1, opening-next (a .index .now) (a .width) (a .size) (a .count) (a .streams .now) (s .pre .2) (p .loop .streams) (p .loop .k) (p .loop .inv .1) (c .before .loop-test .taken))
+
+mul-t9 : tie.Need-mul-t9 Inv-loop μ-loop
+mul-t9 c = omega arith
+
+element-set-from-streams : tie.Need-element-set-from-streams Inv-loop μ-loop
+element-set-from-streams c = omega arith
+
+add-k : tie.Need-add-k Inv-loop μ-loop
+add-k c = omega arith
+
+loop-less : tie.Need-loop-less Inv-loop μ-loop
+loop-less c = omega arith
+
+loop-again : tie.Need-loop-again Inv-loop μ-loop
+loop-again c = let p = c .before .before .before in
+    let s = p .before .before in
+    let a = s .args in
+    (omega arith, opening-on (a .index .now) (a .width) (a .size) (a .count) (a .streams .now) (s .pre .2) (p .loop .streams) (p .loop .k) (p .loop .inv .1) (c .pull .result) (c .before .before .loop-test .taken) (c .pull .ensures))
+
+returns : tie.Need-returns Inv-loop μ-loop
+returns c = let p = c .before in
+    let s = p .before .before in
+    let a = s .args in
+    opening-end (a .index .now) (a .width) (a .size) (a .count) (a .streams .now) (s .pre .2) (p .loop .streams) (p .loop .k) (p .loop .inv .1) (omega arith)
+
+pub open-spec : {M : Type 1} → statement M
+open-spec =
+    tie.close
+    (tie.spec
+    Inv-loop
+    μ-loop
+    loop-holds
+    mul-s
+    element-copy-out-s
+    pull-requires
+    mul-t9
+    element-set-from-streams
+    add-k
+    loop-less
+    loop-again
+    returns)

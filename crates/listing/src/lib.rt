@@ -1,0 +1,141 @@
+// The occurrences at one place of a file, one after the other. Each keyword has a stream of offsets in the place's chunk: first its
+// offsets inside the chunk, as the index holds them, then its starts that cross into the next chunk, as a set. The streams are merged.
+ghost use mathlib.Core.Path.{_≡_};
+ghost use mathlib.Core.List.{List};
+ghost use Prim.Native.Nat.{ℕ, _+_, _*_, _^_, _≤_, _<_};
+ghost use lib.ListN.{length, getD};
+ghost use Rattle.spec.specs.Bytes.{splice};
+ghost use Rattle.spec.specs.Join.{occurrenceBytes};
+ghost use Rattle.listing.specs.Streams.{Readable, Ready, Pulled, Least, Held, Opened, NextTaken, numbers, small, streamOf, total};
+
+// A stream is five numbers: its next offset (the chunk's size where it has ended); where the index has the offsets behind that, and how
+// many; where the starts are counted from, and the set of those that are left.
+const HEAD: usize = 0;
+
+const AT: usize = 1;
+
+const LEFT: usize = 2;
+
+const FROM: usize = 3;
+
+const SET: usize = 4;
+
+// The stream whose next offset is taken off what is unread.
+pub fn pull(index: &[u8], width: usize, size: usize, stream: [usize; 5]) -> [usize; 5]
+    requires { ⌜ (width ≤ 8) × Readable (now index) width size stream ⌝ }
+    ensures { λ r. ⌜ Pulled (now (index .entry)) width size stream r ⌝ }
+{
+    let at = stream[AT];
+    let left = stream[LEFT];
+    let from = stream[FROM];
+    let set = stream[SET];
+    if 0 < left {
+        let x = field::read(index, at, width) as usize;
+        return [x, at + width, left - 1, from, set];
+    }
+    if set == 0 {
+        return [size, at, left, from, set];
+    }
+    let z = u32::trailing_zeros(set as u32);
+    let y = from + z as usize;
+    [y, at, left, y + 1, (set >> z) / 2]
+}
+
+// The first of the streams whose next offsets are least.
+pub fn least(streams: &[[usize; 5]; 16], count: usize) -> usize
+    requires { ⌜ (0 < count) × (count ≤ 16) ⌝ }
+    ensures { λ r. ⌜ Least (now (streams .entry)) count r ⌝ }
+{
+    let mut k: usize = 0;
+    let mut y = streams[0][HEAD];
+    let mut i: usize = 1;
+    while i < count {
+        let x = streams[i][HEAD];
+        if x < y {
+            k = i;
+            y = x;
+        }
+        i += 1;
+    }
+    k
+}
+
+// The next occurrence at a place: its keyword, and its offset in the chunk, which is the chunk's size where there is none.
+pub struct Taken {
+    pub keyword: usize,
+    pub offset: usize,
+}
+
+pub fn next(
+    index: &[u8],
+    width: usize,
+    size: usize,
+    count: usize,
+    streams: &mut [[usize; 5]; 16],
+) -> Taken
+    requires { ⌜ (0 < count) × (count ≤ 16) × (width ≤ 8) × Held (now index) width size count (now streams) ⌝ }
+    ensures { λ r. ⌜ NextTaken (now (index .entry)) width size count (now (streams .entry)) (now (streams .exit)) (r .keyword) (r .offset) ⌝ }
+{
+    let k = least(streams, count);
+    let s = streams[k];
+    let y = s[HEAD];
+    if size <= y {
+        return Taken {
+            keyword: count,
+            offset: size,
+        };
+    }
+    streams[k] = pull(index, width, size, s);
+    Taken {
+        keyword: k,
+        offset: y,
+    }
+}
+
+// Opens the streams of a place: each has its first offset ready.
+pub fn open(index: &[u8], width: usize, size: usize, count: usize, streams: &mut [[usize; 5]; 16])
+    requires { ⌜ (count ≤ 16) × (width ≤ 8) × Ready (now index) width size count (now streams) ⌝ }
+    ensures { λ _. ⌜ Opened (now (index .entry)) width size count (now (streams .entry)) (now (streams .exit)) ⌝ }
+{
+    let mut k: usize = 0;
+    while k < count {
+        let s = streams[k];
+        streams[k] = pull(index, width, size, s);
+        k += 1;
+    }
+}
+
+// How many offsets a stream that is not open yet has.
+fn offsets_in(stream: [usize; 5]) -> usize
+    requires { ⌜ small stream ⌝ }
+    ensures { λ r. ⌜ r ≡ numbers stream ⌝ }
+{
+    let left = stream[LEFT];
+    let set = stream[SET];
+    left + u32::count_ones(set as u32) as usize
+}
+
+// How many occurrences a place gives whose streams are not open yet.
+pub fn count_all(streams: &[[usize; 5]; 16], count: usize) -> usize
+    requires { ⌜ (count ≤ 16) × ((k : ℕ) → k < count → small (streamOf (now streams) k)) ⌝ }
+    ensures { λ r. ⌜ r ≡ total (now (streams .entry)) count ⌝ }
+{
+    let mut sum: usize = 0;
+    let mut k: usize = 0;
+    while k < count {
+        let s = streams[k];
+        sum += offsets_in(s);
+        k += 1;
+    }
+    sum
+}
+
+// Writes an occurrence's 9 bytes.
+pub fn put(out: &mut [u8], place: usize, file: u64, offset: u64, keyword: usize)
+    requires { ⌜ (place + 9 ≤ length (now out)) × (keyword < 256) ⌝ }
+    ensures { λ _. ⌜ now (out .exit) ≡ splice (now (out .entry)) place (occurrenceBytes (record { file = file; offset = offset; keyword = keyword })) ⌝ }
+{
+    field::write(out, place, 4, file);
+    field::write(out, place + 4, 4, offset);
+    field::write(out, place + 8, 1, keyword as u64);
+}
