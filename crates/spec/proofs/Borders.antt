@@ -1,15 +1,15 @@
 -- Where the definitions change their answer, by computation: one law on each side of a border. The must-fail edits of this crate move these
 -- borders. Assumes nothing.
 use mathlib.Core.Path.{_≡_, refl}
-use mathlib.Core.Bool.{Bool, true, false}
-use mathlib.Core.List.{List, [], _∷_, map}
+use mathlib.Core.Bool.{true}
+use mathlib.Core.List.{List, [], _∷_}
 use Prim.Native.Nat.{ℕ}
 use lib.ListN.{length, replicate}
 use Rattle.spec.specs.Bytes.{leBytes, fieldsBytes}
 use Rattle.spec.specs.Keywords.{isUpper, foldByte, keywordsOf}
 use Rattle.spec.specs.Records.{form1, reach, prefixOf, suffixOf, offsetsOf, recordOf, recordsOf, kindOf, offsetsBytes, fullBytes, recordBytes}
 use Rattle.spec.specs.Table.{inCell}
-use Rattle.spec.specs.Join.{Occurrence, hits, crosses, listed, joinFrom, joinFiles, due}
+use Rattle.spec.specs.Join.{hits, crosses, listed, joinFrom, joinFiles, due}
 
 -- 40 and 5B stay, 41 and 5A are folded
 pub fold-borders : (foldByte 1 0x40 ≡ 0x40) × (foldByte 1 0x41 ≡ 0x61) × (foldByte 1 0x5A ≡ 0x7A) × (foldByte 1 0x5B ≡ 0x5B)

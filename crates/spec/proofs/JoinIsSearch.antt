@@ -2,17 +2,17 @@
 -- At each offset of a chunk a keyword lies inside the chunk or crosses its end, and then (17) ends in the next chunk: `listed-true` is one
 -- equation of two tests there, and the induction over the chunks only cuts the range of offsets at the chunk's end. Assumes nothing.
 use mathlib.Core.Path.{_≡_, refl, sym, ap, ap₂, _∙_}
-use mathlib.Core.Bool.{Bool, true, false, _&&_, _||_, and-false, or-false}
+use mathlib.Core.Bool.{Bool, true, false, _&&_, and-false}
 use mathlib.Core.List.{List, [], _∷_, _++_, append-nil, map}
-use Prim.Native.Nat.{ℕ, zero, suc, _+_, _-_, _≤_, _<_, max}
+use Prim.Native.Nat.{ℕ, zero, suc, _+_, _-_, _≤_, _<_}
 use native.Mathlib.Nat.{zero-add, le-of-suc-le-suc, not-suc-le-zero}
 use native.Mathlib.Omega.{arith}
-use lib.ListN.{length, take, drop, getD, length-drop, length-append}
+use lib.ListN.{length, drop, getD, length-drop, length-append}
 use lib.Seq.{drop-drop, drop-append-seam}
 use lib.Dec.{leb}
-use Rattle.spec.specs.Bytes.{begins, occursAt, each, member, every, joined}
+use Rattle.spec.specs.Bytes.{begins, occursAt, each, every, joined}
 use Rattle.spec.specs.Keywords.{foldByte, folded, foldedAll, flagOf, keywordsOf, foldedKeywords, longest}
-use Rattle.spec.specs.Records.{Form, recordOf, recordsOf, recordAt, emptyRecord, prefixOf, suffixOf, offsetsOf}
+use Rattle.spec.specs.Records.{Form, recordOf, recordsOf, recordAt, emptyRecord, prefixOf, suffixOf}
 use Rattle.spec.specs.Recipes.{allButLast, roomy}
 use Rattle.spec.specs.Join.{Occurrence, keywordAt, hits, crossesInto, listed, joinFrom, joinFile, joinFiles, due}
 use Rattle.spec.specs.Scan.{scanRecords}

@@ -1,15 +1,15 @@
 -- What the record of a chunk and a keyword says at one offset. The chunk's last bytes are the keyword's first exactly if the recorded prefix says
 -- so, its first bytes the rest of the keyword exactly if the recorded suffix does; a cell is cut at its seam into these two. Assumes nothing.
-use mathlib.Core.Path.{_≡_, refl, sym, ap, ap₂, _∙_, subst}
+use mathlib.Core.Path.{_≡_, refl, sym, ap, _∙_}
 use mathlib.Core.Logic.{_⊎_, inl, inr}
-use mathlib.Core.Bool.{Bool, true, false, _&&_, _||_, and-assoc, and-true, and-false, or-false}
-use mathlib.Core.List.{List, [], _∷_, _++_, append-nil}
-use Prim.Native.Nat.{ℕ, zero, suc, _+_, _-_, _≤_, _<_, min}
+use mathlib.Core.Bool.{Bool, true, false, _&&_, _||_, or-false}
+use mathlib.Core.List.{List, _++_, append-nil}
+use Prim.Native.Nat.{ℕ, _+_, _-_, _≤_, _<_, min}
 use native.Mathlib.Omega.{arith}
-use lib.ListN.{length, take, drop, length-take, length-drop, drop-of-length-le}
-use lib.Seq.{take-all, drop-drop, length-take-le, drop-append-le}
+use lib.ListN.{length, take, drop, length-drop, drop-of-length-le}
+use lib.Seq.{drop-drop, length-take-le, drop-append-le}
 use lib.Dec.{leb}
-use Rattle.spec.specs.Bytes.{begins, largest, occursAt, member}
+use Rattle.spec.specs.Bytes.{begins, occursAt, member}
 use Rattle.spec.specs.Records.{reach, endsWith, startsWith, prefixOf, suffixOf, offsetsOf}
 use Rattle.spec.specs.Table.{inCell}
 use Rattle.spec.specs.Join.{crosses}

@@ -1,13 +1,13 @@
 -- What `listed` gives of one keyword at one place is document 01's text: the chunk's offsets, and then every start in the cell, counted from
 -- i bytes before the chunk's end. For all records in range. Assumes nothing.
-use mathlib.Core.Path.{_≡_, refl, sym, ap, ap₂, _∙_}
-use mathlib.Core.Bool.{Bool, true, false, _&&_, _||_, and-false, or-false}
+use mathlib.Core.Path.{_≡_, refl, ap, ap₂, _∙_}
+use mathlib.Core.Bool.{Bool, true, false, _||_, or-false}
 use mathlib.Core.List.{List, [], _∷_, _++_}
-use Prim.Native.Nat.{ℕ, zero, suc, _+_, _-_, _≤_, _<_}
+use Prim.Native.Nat.{ℕ, suc, _+_, _-_, _≤_, _<_}
 use native.Mathlib.Nat.{zero-add}
 use native.Mathlib.Omega.{arith}
 use lib.ListN.{length, take, drop, length-drop, length-append, length-take}
-use lib.Dec.{leb, ltb}
+use lib.Dec.{ltb}
 use Rattle.spec.specs.Bytes.{each, keep, member, rising}
 use Rattle.spec.specs.Table.{inCell}
 use Rattle.spec.specs.Join.{crosses}

@@ -1,10 +1,10 @@
 -- Theorem 5: demand 3. The scan's number is 0 exactly when its tests pass; then its buffer holds the index, which reads as the store
 -- (ScanLaws), and a join of it answers as the direct search does (ScanThenJoin, theorem 2). Assumes nothing.
-use mathlib.Core.Path.{_≡_, refl, sym, ap, _∙_}
+use mathlib.Core.Path.{_≡_, refl, sym, ap, ap₂, _∙_}
 use mathlib.Core.Logic.{_↔_}
-use mathlib.Core.Bool.{Bool, true, false, _||_}
-use mathlib.Core.List.{List, [], _∷_, _++_}
-use Prim.Native.Nat.{ℕ, zero, suc, _+_, _*_, _≤_, _<_}
+use mathlib.Core.Bool.{_||_}
+use mathlib.Core.List.{List, _++_}
+use Prim.Native.Nat.{ℕ, zero, suc, _+_, _*_}
 use native.Mathlib.Omega.{arith}
 use lib.ListN.{length, take, drop}
 use lib.Seq.{take-at}
@@ -22,9 +22,10 @@ use Rattle.spec.specs.Scan.{scanIndex, scannableCode, scanCode, scanOutcome, sc
 use Rattle.spec.specs.Search.{directSearch, searchJoinCode}
 use Rattle.spec.proofs.Codes.{passed, passed-whole, or-left, or-right}
 use Rattle.spec.proofs.ScanLaws.{ScanReads, form1-scans, scan-reads}
-use Rattle.theory.specs.Demand3.{NoScanRefusal, NoJoinRefusal, scanned, JoinOfScan, Demand3}
+use Rattle.theory.specs.Demand3.{NoScanRefusal, NoJoinRefusal, scanned, readList, JoinOfScan, Demand3}
 use Rattle.theory.proofs.SearchList.{direct-search-list}
 use Rattle.theory.proofs.ScanThenJoin.{outcome-of-scan, buffer-of-scan}
+use Rattle.theory.proofs.ListRead.{list-read}
 
 -- the number of an answer is its tests' number; where that is 0 its value is the work's
 pub code-of-answer : (code value : ℕ) → codeOf (answer code value) ≡ code
@@ -40,6 +41,11 @@ value-of-answer code value e = rw e
 written-front : (buffer bytes : List ℕ) → take (length bytes) (written buffer bytes) ≡ bytes
 unfolding splice
 written-front buffer bytes = take-at bytes (drop (0 + length bytes) buffer) (length bytes) refl
+
+-- a buffer after work was done
+worked-buffer : (code : ℕ) (out bytes : List ℕ) → code ≡ 0 → unlessRefused code (written out bytes) out ≡ bytes ++ drop (0 + length bytes) out
+unfolding unlessRefused splice
+worked-buffer code out bytes e = rw e
 
 -- ---- the scan
 
@@ -113,6 +119,17 @@ module _ (list store : List ℕ) where
         done = (λ z. d .0 (sym q ∙ z), λ n. q ∙ d .1 n);
         outcome = o;
         bytes = join-buffer (length buffer) e (scanned list store buffer) recipes out p;
+        listed =
+            λ z.
+            let c : searchJoinCode form1 list store recipes (length out) ≡ 0 = sym q ∙ z in
+            let v : valueOf (joinOutcome form1 (scanned list store buffer) recipes (length out)) ≡ length (directSearch list store recipes) =
+            ap valueOf o ∙ value-of-answer (searchJoinCode form1 list store recipes (length out)) (length (directSearch list store recipes)) c in
+            let b : joinBuffer form1 (scanned list store buffer) recipes out ≡ listBytes (directSearch list store recipes) ++ drop (0 + length (listBytes (directSearch list store recipes))) out =
+            join-buffer (length buffer) e (scanned list store buffer) recipes out p
+            ∙ worked-buffer (searchJoinCode form1 list store recipes (length out)) out (listBytes (directSearch list store recipes)) c in
+            ap₂ readList v b
+            ∙ list-read form1 refl list store (scanIndex form1 list store) recipes (accepts (length buffer) e) (scan-is-read (length buffer) e) (d .0 c .0) (d .0 c .1)
+            (drop (0 + length (listBytes (directSearch list store recipes))) out);
       }
 
 pub demand-3 : (list store recipes buffer out : List ℕ) → Demand3 list store recipes buffer out

@@ -5,3 +5,4 @@ pub mod IndexTheorems
 pub mod ScanThenJoin
 pub mod Demand3
 pub mod RecordTheorems
+pub mod ListRead

@@ -1,24 +1,23 @@
 -- What the join lists of one keyword at one place is document 01's text, for all records in range, also those that no chunk gives: the laws of
 -- the stream of one keyword (spec's Stream), with the cell as the list of its starts. Assumes nothing.
-use mathlib.Core.Path.{_≡_, refl, sym, ap, ap₂, _∙_}
-use mathlib.Core.Bool.{Bool, true, false, _&&_, _||_, or-false}
+use mathlib.Core.Path.{_≡_, refl, sym, ap, _∙_}
+use mathlib.Core.Bool.{Bool, true, false, or-false}
 use mathlib.Core.List.{List, [], _∷_, _++_, map, append-nil}
 use Prim.Native.Nat.{ℕ, zero, suc, _+_, _-_, _≤_, _<_, min}
-use native.Mathlib.Nat.{zero-add}
 use native.Mathlib.Omega.{arith}
-use lib.ListN.{length, take, drop, length-append, length-take, length-drop}
-use lib.Dec.{leb, ltb}
+use lib.ListN.{length, length-append, length-take, length-drop}
+use lib.Dec.{leb}
 use borrow.Author.Tests.{leb-true, lt-ltb}
-use Rattle.spec.specs.Bytes.{each, keep, member, every, rising}
+use Rattle.spec.specs.Bytes.{each, keep, every, rising}
 use Rattle.spec.specs.Records.{MatchRecord, ChunkRecords, recordAt, reach, inRange, offsetsOf}
 use Rattle.spec.specs.Table.{seam, cellOf, inCell}
-use Rattle.spec.specs.Join.{keywordAt, crosses, listed}
+use Rattle.spec.specs.Join.{keywordAt, listed}
 use Rattle.spec.proofs.Tests.{and-left, and-right}
 use Rattle.spec.proofs.Each.{each-match, each-append, each-none, passing}
 use Rattle.spec.proofs.Rising.{allBelow, passing-member}
 use Rattle.spec.proofs.RecordLaws.{prefix-in, suffix-in, offsets-rise, offsets-in}
 use Rattle.spec.proofs.Stream.{stream, cell-beyond, cell-no-suffix}
-use Rattle.theory.specs.PlaceText.{listedOf, crossings, PlaceText}
+use Rattle.theory.specs.PlaceText.{PlaceText}
 
 -- ---- what the ranges give
 

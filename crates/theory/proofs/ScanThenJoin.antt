@@ -2,29 +2,28 @@
 -- pass, its list is the direct search (theorem 1). Where one refuses the lists may differ, but the number is decided before. Assumes nothing.
 use mathlib.Core.Path.{_≡_, refl, sym, ap, ap₂, _∙_}
 use mathlib.Core.Logic.{_⊎_, inl, inr}
-use mathlib.Core.Bool.{Bool, true, false, _&&_, not}
+use mathlib.Core.Bool.{Bool, true, false, not}
 use mathlib.Core.List.{List, [], _∷_, map, map-map}
-use Prim.Native.Nat.{ℕ, zero, suc, _+_, _*_, _≤_, _<_}
+use Prim.Native.Nat.{ℕ, zero, suc, _*_, _≤_, _<_}
 use native.Mathlib.Omega.{arith}
 use lib.ListN.{length, getD}
-use lib.Dec.{leb, ltb}
-use borrow.Author.Tests.{ltb-true, ltb-false, lt-ltb, le-ltb, le-leb, ne-eqb, not-false}
-use Rattle.spec.specs.declared.Outcome.{Outcome}
+use lib.Dec.{ltb}
+use borrow.Author.Tests.{ltb-true, ltb-false, lt-ltb, le-leb, ne-eqb, not-false}
 use Rattle.spec.specs.Bytes.{written, contains, positionOf, every, sum, joined}
 use Rattle.spec.specs.Outcome.{firstOf, firstCode, whole, answer, unlessRefused}
 use Rattle.spec.specs.Keywords.{flagOf, folded, keywordsOf, foldedKeywords, keywordCode}
 use Rattle.spec.specs.Directory.{sizeAt}
-use Rattle.spec.specs.Store.{storeLayout, chunkCount, storeKeys, chunkAt}
-use Rattle.spec.specs.Records.{Form, ChunkRecords}
-use Rattle.spec.specs.Index.{listIn, indexLayout, indexKeys, indexRecords, indexCode}
+use Rattle.spec.specs.Store.{storeLayout, chunkCount, storeKeys}
+use Rattle.spec.specs.Records.{Form}
+use Rattle.spec.specs.Index.{listIn, indexLayout, indexKeys}
 use Rattle.spec.specs.Recipes.{largest32, roomy, sizesIn, fileCode, filesCode, filesOf, recipesCode}
-use Rattle.spec.specs.Join.{Occurrence, joinFiles, fileRecords, joinList, listBytes, due, joinableCode, joinCode, joinOutcome, joinBuffer}
+use Rattle.spec.specs.Join.{Occurrence, fileRecords, joinList, listBytes, due, joinableCode, joinCode, joinOutcome, joinBuffer}
 use Rattle.spec.specs.Scan.{scanRecords}
 use Rattle.spec.specs.Search.{chunkNamed, restored, directSearch, searchJoinCode, occurrencesInAll}
 use Rattle.spec.proofs.Tests.{bool-cases, and-left, and-right}
 use Rattle.spec.proofs.Codes.{passed, passed-whole, passed-code}
 use Rattle.spec.proofs.EntryLaws.{contains-position}
-use Rattle.spec.proofs.KeywordLaws.{Proper, Accepted, accepted, keyword-front}
+use Rattle.spec.proofs.KeywordLaws.{Accepted, accepted, keyword-front}
 use Rattle.spec.proofs.JoinIsSearch.{noneEmpty, scan-join-is-search}
 use Rattle.spec.proofs.ScanLaws.{ScanReads}
 
@@ -110,7 +109,7 @@ module _ (f : Form) (plain : f .sets ≡ false) (list store index : List ℕ) (a
       (map-same (λ key. contains key (storeKeys store)) _ _ file e (λ key c. reads .records (positionOf key (storeKeys store)) (in-store key c))
       ∙ sym (map-map (scanRecords list) (chunkNamed store) file))
 
-  file-lengths : (file : List (List ℕ)) → every (λ key. contains key (storeKeys store)) file ≡ true
+  pub file-lengths : (file : List (List ℕ)) → every (λ key. contains key (storeKeys store)) file ≡ true
       → map length (chunksNamed file) ≡ sizesIn (storeKeys store) (sizeAt storeLayout store) (due f list) file
   file-lengths file e =
       map-map length (chunkNamed store) file

@@ -17,7 +17,7 @@ use Rattle.spec.specs.Recipes.{filesOf}
 use Rattle.spec.specs.Join.{Occurrence, keywordAt, hits}
 use Rattle.spec.specs.Search.{occurrencesIn, occurrencesInAll, restored, directSearch}
 use Rattle.spec.proofs.Tests.{le-or-lt, and-left, and-right, eqb-same}
-use Rattle.theory.specs.SearchList.{sameOccurrence, isIn, lexical, before, inOrder, occursIn, SearchList}
+use Rattle.theory.specs.SearchList.{sameOccurrence, isIn, lexical, before, inOrder, SearchList}
 
 -- ---- the order
 
@@ -82,7 +82,7 @@ same-is a b e =
     let r : a .keyword ≡ b .keyword = eqb-true (a .keyword) (b .keyword) (and-right (eqb (a .file) (b .file) && eqb (a .offset) (b .offset)) (eqb (a .keyword) (b .keyword)) e) in
     λ i. record { file = p i; offset = q i; keyword = r i }
 
-same-self : (a : Occurrence) → sameOccurrence a a ≡ true
+pub same-self : (a : Occurrence) → sameOccurrence a a ≡ true
 same-self a = rw (eqb-same (a .file), eqb-same (a .offset), eqb-same (a .keyword))
 
 in-append : (o : Occurrence) (s t : List Occurrence) → isIn o (s ++ t) ≡ (isIn o s || isIn o t)

@@ -1,21 +1,20 @@
 -- The cases that document 01 marks with *, said of the byte-level definitions: one field for each marked line, in the paper's order.
 use mathlib.Core.Path.{_≡_}
-use mathlib.Core.Bool.{Bool}
 use mathlib.Core.List.{List, [], _∷_, _++_, map}
-use Prim.Native.Nat.{ℕ, zero, suc, _+_, _*_}
-use lib.ListN.{replicate, length, take, drop}
+use Prim.Native.Nat.{ℕ}
+use lib.ListN.{replicate, length}
 use lib.Dec.{ltb}
 use Rattle.spec.specs.declared.Outcome.{Outcome}
 use Rattle.spec.specs.declared.Outcome.the-variants.{Done, Refused}
 use Rattle.spec.specs.Bytes.{leBytes, fieldsBytes, each, keep, joined}
 use Rattle.spec.specs.Keywords.{keywordCode}
-use Rattle.spec.specs.Store.{storeMark, storeCode}
+use Rattle.spec.specs.Store.{storeMark}
 use Rattle.spec.specs.Directory.{offsetAt}
 use Rattle.spec.specs.Records.{form1, offsetsOf}
 use Rattle.spec.specs.Table.{cellOf}
 use Rattle.spec.specs.Index.{indexLayout, bodyAt, indexCode}
 use Rattle.spec.specs.Join.{joinOutcome, joinBuffer}
-use Rattle.spec.specs.Scan.{scanIndex, scanOutcome, scanBuffer}
+use Rattle.spec.specs.Scan.{scanIndex, scanOutcome}
 
 -- ---- the inputs
 

@@ -1,17 +1,17 @@
 -- Demand 3, one claim on a scan and any join of its index: for every store, keyword list, recipes and buffers.
 use mathlib.Core.Path.{_≡_}
 use mathlib.Core.Logic.{_↔_}
-use mathlib.Core.List.{List, map}
-use Prim.Native.Nat.{ℕ, _*_, _≤_}
-use lib.ListN.{length, take}
-use Rattle.spec.specs.Bytes.{written}
+use mathlib.Core.List.{List, [], _∷_, map}
+use Prim.Native.Nat.{ℕ, zero, suc, _*_, _≤_}
+use lib.ListN.{length, take, drop}
+use Rattle.spec.specs.Bytes.{fieldAt, written}
 use Rattle.spec.specs.Outcome.{codeOf, valueOf, answer, unlessRefused}
 use Rattle.spec.specs.Keywords.{flagOf, folded, foldedKeywords, keywordCode}
 use Rattle.spec.specs.Directory.{sizeAt}
 use Rattle.spec.specs.Store.{storeLayout, storeKeys, storeCode}
 use Rattle.spec.specs.Records.{form1}
 use Rattle.spec.specs.Recipes.{largest32, filesOf, recipesCode, filesCode}
-use Rattle.spec.specs.Join.{listBytes, due, joinOutcome, joinBuffer}
+use Rattle.spec.specs.Join.{Occurrence, listBytes, due, joinOutcome, joinBuffer}
 use Rattle.spec.specs.Scan.{scanIndex, scanOutcome, scanBuffer}
 use Rattle.spec.specs.Search.{restored, directSearch, searchJoinCode}
 use Rattle.theory.specs.SearchList.{SearchList}
@@ -39,6 +39,11 @@ restoredFiles list store recipes = map (λ file. folded (flagOf list) (restored 
 abbrev pub scanned : List ℕ → List ℕ → List ℕ → List ℕ
 scanned list store buffer = take (valueOf (scanOutcome form1 list store (length buffer))) (scanBuffer form1 list store buffer)
 
+-- The occurrences that n runs of 9 bytes say: file (4), offset (4), keyword (1).
+abbrev pub readList : ℕ → List ℕ → List Occurrence
+readList zero bytes = []
+readList (suc n) bytes = record { file = fieldAt bytes 0 4; offset = fieldAt bytes 4 4; keyword = fieldAt bytes 8 1 } ∷ readList n (drop 9 bytes)
+
 -- What holds of a join once the scan has done its work.
 pub record JoinOfScan (list store recipes buffer out : List ℕ) : Type 0 where
   -- the join does its work exactly when none of its refusals holds
@@ -49,6 +54,10 @@ pub record JoinOfScan (list store recipes buffer out : List ℕ) : Type 0 where
   -- its buffer: as it was on a refusal, or the direct search's list and the rest as it was
   pub bytes : joinBuffer form1 (scanned list store buffer) recipes out
       ≡ unlessRefused (searchJoinCode form1 list store recipes (length out)) (written out (listBytes (directSearch list store recipes))) out
+  -- where it does its work: the list, read from the buffer's first 9 × count bytes, is the direct search's
+  pub listed : codeOf (joinOutcome form1 (scanned list store buffer) recipes (length out)) ≡ 0
+      → readList (valueOf (joinOutcome form1 (scanned list store buffer) recipes (length out))) (joinBuffer form1 (scanned list store buffer) recipes out)
+      ≡ directSearch list store recipes
 
 pub record Demand3 (list store recipes buffer out : List ℕ) : Type 0 where
   -- the scan does its work exactly when none of its refusals holds

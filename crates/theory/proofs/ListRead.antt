@@ -1,0 +1,129 @@
+-- The list that a join writes reads back: every number of the direct search fits its field, since there are at most 65,535 files (14), no file has
+-- more than 4,294,967,295 bytes (16), and there are at most 16 keywords. Assumes nothing.
+use mathlib.Core.Path.{_≡_, refl, sym, ap, ap₂, _∙_}
+use mathlib.Core.Bool.{Bool, true, false, _&&_, or-true}
+use mathlib.Core.List.{List, [], _∷_, _++_, map, append-assoc}
+use Prim.Native.Nat.{ℕ, zero, suc, _+_, _*_, _^_, _≤_, _<_}
+use native.Mathlib.Nat.{not-suc-le-zero}
+use native.Mathlib.Omega.{arith}
+use lib.ListN.{length, getD, drop, length-append, length-map}
+use lib.Dec.{ltb}
+use borrow.Author.Tests.{ltb-true, ltb-false}
+use Rattle.spec.specs.Bytes.{fieldAt, leBytes, occursAt, sum, joined}
+use Rattle.spec.specs.Keywords.{flagOf, folded, foldedKeywords, keywordCode}
+use Rattle.spec.specs.Directory.{sizeAt}
+use Rattle.spec.specs.Store.{storeLayout, storeKeys}
+use Rattle.spec.specs.Records.{Form}
+use Rattle.spec.specs.Recipes.{largest32, mostFiles, fileCount, readFiles, fileCode, filesCode, filesOf, recipesCode}
+use Rattle.spec.specs.Join.{Occurrence, keywordAt, occurrenceBytes, listBytes, due}
+use Rattle.spec.specs.Search.{chunkNamed, restored, directSearch}
+use Rattle.spec.proofs.Tests.{and-left, and-right}
+use Rattle.spec.proofs.Codes.{passed, passed-code}
+use Rattle.spec.proofs.Folding.{folded-length}
+use Rattle.spec.proofs.JoinIsSearch.{getD-map}
+use Rattle.spec.proofs.KeywordLaws.{Accepted, accepted, keyword-front, folded-count}
+use Rattle.spec.proofs.ScanLaws.{ScanReads}
+use Rattle.spec.proofs.Seams.{field-seam, next-field}
+use Rattle.theory.specs.SearchList.{isIn}
+use Rattle.theory.specs.Demand3.{restoredFiles, readList}
+use Rattle.theory.proofs.SearchList.{same-self, direct-search-list}
+use Rattle.theory.proofs.ScanThenJoin.{FileGood, file-good, file-lengths}
+
+-- ---- written and read
+
+pub record Fits (o : Occurrence) : Type 0 where
+  pub file : o .file < 256 ^ 4
+  pub offset : o .offset < 256 ^ 4
+  pub keyword : o .keyword < 256 ^ 1
+
+pub read-written : (os : List Occurrence) (rest : List ℕ) → ((o : Occurrence) → isIn o os ≡ true → Fits o) → readList (length os) (listBytes os ++ rest) ≡ os
+unfolding listBytes occurrenceBytes
+read-written [] rest h = refl
+read-written (o ∷ os) rest h =
+    ap₂ {C = List Occurrence} (λ x xs. x ∷ xs) (λ i. record { file = file i; offset = offset i; keyword = keyword i })
+    (ap (readList (length os)) (next-field bytes 8 1 (o .keyword) (listBytes os ++ rest) at8) ∙ read-written os rest (λ p e. h p (rw (e, or-true))))
+  where
+    bytes : List ℕ
+    bytes = listBytes (o ∷ os) ++ rest
+
+    fits : Fits o
+    fits = h o (rw (same-self o))
+
+    at0 : bytes ≡ leBytes 4 (o .file) ++ (leBytes 4 (o .offset) ++ (leBytes 1 (o .keyword) ++ (listBytes os ++ rest)))
+    at0 = simp append-assoc
+
+    at4 : drop 4 bytes ≡ leBytes 4 (o .offset) ++ (leBytes 1 (o .keyword) ++ (listBytes os ++ rest))
+    at4 = next-field bytes 0 4 (o .file) (leBytes 4 (o .offset) ++ (leBytes 1 (o .keyword) ++ (listBytes os ++ rest))) at0
+
+    at8 : drop 8 bytes ≡ leBytes 1 (o .keyword) ++ (listBytes os ++ rest)
+    at8 = next-field bytes 4 4 (o .offset) (leBytes 1 (o .keyword) ++ (listBytes os ++ rest)) at4
+
+    file : fieldAt bytes 0 4 ≡ o .file
+    file = field-seam bytes 0 4 (o .file) (leBytes 4 (o .offset) ++ (leBytes 1 (o .keyword) ++ (listBytes os ++ rest))) (fits .file) at0
+
+    offset : fieldAt bytes 4 4 ≡ o .offset
+    offset = field-seam bytes 4 4 (o .offset) (leBytes 1 (o .keyword) ++ (listBytes os ++ rest)) (fits .offset) at4
+
+    keyword : fieldAt bytes 8 1 ≡ o .keyword
+    keyword = field-seam bytes 8 1 (o .keyword) (listBytes os ++ rest) (fits .keyword) at8
+
+-- ---- the bounds
+
+length-joined : (cs : List (List ℕ)) → length (joined cs) ≡ sum (map length cs)
+length-joined [] = refl
+length-joined (c ∷ cs) = length-append c (joined cs) ∙ rw (length-joined cs)
+
+length-files : (n : ℕ) (bytes : List ℕ) → length (readFiles n bytes) ≡ n
+length-files zero bytes = refl
+length-files (suc n) bytes = ap suc (length-files n (drop (4 + 20 * fieldAt bytes 0 4) bytes))
+
+few-files : (recipes : List ℕ) → recipesCode recipes ≡ 0 → length (filesOf recipes) ≤ mostFiles
+unfolding recipesCode filesOf
+few-files recipes e =
+    let a = passed (ltb (length recipes) 4) 14 _ (omega arith) e in
+    let b = passed (ltb mostFiles (fileCount recipes)) 14 _ (omega arith) (a .1) in
+    omega (arith, ltb-false mostFiles (fileCount recipes) (b .0), length-files (fileCount recipes) (drop 4 recipes))
+
+files-at : (keys : List (List ℕ)) (sizeOf : ℕ → ℕ) (m : ℕ) (files : List (List (List ℕ))) (n : ℕ) → filesCode keys sizeOf m files ≡ 0 → n < length files → fileCode keys sizeOf m (getD files n []) ≡ 0
+unfolding filesCode
+files-at keys sizeOf m [] n e l = absurd (not-suc-le-zero l)
+files-at keys sizeOf m (file ∷ files) zero e l = passed-code (fileCode keys sizeOf m file) (map (fileCode keys sizeOf m) files) e .0
+files-at keys sizeOf m (file ∷ files) (suc n) e l = files-at keys sizeOf m files n (passed-code (fileCode keys sizeOf m file) (map (fileCode keys sizeOf m) files) e .1) (omega arith)
+
+module _ (f : Form) (plain : f .sets ≡ false) (list store index recipes : List ℕ) (accept : keywordCode list ≡ 0) (reads : ScanReads f list store index)
+    (known : recipesCode recipes ≡ 0) (good : filesCode (storeKeys store) (sizeAt storeLayout store) (due f list) (filesOf recipes) ≡ 0) where
+  short-text : (n : ℕ) → n < length (filesOf recipes) → length (getD (restoredFiles list store recipes) n []) ≤ largest32
+  unfolding restored
+  short-text n l =
+      let g : FileGood (storeKeys store) (sizeAt storeLayout store) (due f list) (getD (filesOf recipes) n []) =
+      file-good (storeKeys store) (sizeAt storeLayout store) (due f list) (getD (filesOf recipes) n []) (files-at (storeKeys store) (sizeAt storeLayout store) (due f list) (filesOf recipes) n good l) in
+      rw (
+        getD-map (λ file. folded (flagOf list) (restored store file)) (filesOf recipes) n [] [] l,
+        folded-length,
+        length-joined (map (chunkNamed store) (getD (filesOf recipes) n [])),
+        file-lengths f plain list store index accept reads (getD (filesOf recipes) n []) (g .found),
+      )
+      (g .short)
+
+  occurrence-fits : (o : Occurrence) → isIn o (directSearch list store recipes) ≡ true → Fits o
+  occurrence-fits o e =
+      let a : Bool = ltb (o .file) (length (restoredFiles list store recipes)) in
+      let b : Bool = ltb (o .offset) (length (getD (restoredFiles list store recipes) (o .file) [])) in
+      let c : Bool = ltb (o .keyword) (length (foldedKeywords list)) in
+      let d : Bool = occursAt (keywordAt (foldedKeywords list) (o .keyword)) (getD (restoredFiles list store recipes) (o .file) []) (o .offset) in
+      let abcd : (a && b && c && d) ≡ true = sym (direct-search-list list store recipes .exactly o) ∙ e in
+      let abc : (a && b && c) ≡ true = and-left (a && b && c) d abcd in
+      let ab : (a && b) ≡ true = and-left (a && b) c abc in
+      let p : o .file < length (restoredFiles list store recipes) = ltb-true (o .file) (length (restoredFiles list store recipes)) (and-left a b ab) in
+      let q : o .offset < length (getD (restoredFiles list store recipes) (o .file) []) = ltb-true (o .offset) (length (getD (restoredFiles list store recipes) (o .file) [])) (and-right a b ab) in
+      let r : o .keyword < length (foldedKeywords list) = ltb-true (o .keyword) (length (foldedKeywords list)) (and-right (a && b) c abc) in
+      let n : o .file < length (filesOf recipes) = omega (arith, p, length-map (filesOf recipes) (λ file. folded (flagOf list) (restored store file))) in
+      let k : Accepted list = accepted list (keyword-front list accept) in
+      record {
+        file = omega (arith, n, few-files recipes known);
+        offset = omega (arith, q, short-text (o .file) n);
+        keyword = omega (arith, r, folded-count list, k .count, k .most);
+      }
+
+  pub list-read : (rest : List ℕ) → readList (length (directSearch list store recipes)) (listBytes (directSearch list store recipes) ++ rest) ≡ directSearch list store recipes
+  list-read rest = read-written (directSearch list store recipes) rest occurrence-fits
