@@ -238,3 +238,19 @@ entries-pass layout bytes most code (suc n) k at z o e =
     (λ e l h. z e (omega arith) (omega arith))
     (λ i h. rw (suc-add, ← add-suc) (o (suc i) (omega arith) ∙ sym (add-assoc at (lengthAt layout bytes k) (sum (lengthsFrom layout bytes (suc k) i)))))
     (add-assoc at (lengthAt layout bytes k) (sum (lengthsFrom layout bytes (suc k) n)) ∙ e)
+
+-- past the end of the bytes no later end can be right
+pub entries-past : (layout : Layout) (bytes : List ℕ) (most code n k at : ℕ) → length bytes < at → entriesCode layout bytes most code n k at ≡ code
+entries-past layout bytes most code zero k at h = entries-short layout bytes most code k at (λ e. omega arith)
+entries-past layout bytes most code (suc n) k at h =
+    ⊎-elim
+    (λ low. ⊎-elim
+    (λ high. ⊎-elim
+    (λ t. entries-more layout bytes most code n k at low high (eqb-true (offsetAt layout bytes k) at t)
+    ∙ entries-past layout bytes most code n (suc k) (at + lengthAt layout bytes k) (omega arith))
+    (λ f. entries-gap layout bytes most code n k at low high (eqb-false (offsetAt layout bytes k) at f))
+    (bool-cases (eqb (offsetAt layout bytes k) at)))
+    (λ long. entries-long layout bytes most code n k at long)
+    (le-or-lt (sizeAt layout bytes k) most))
+    (λ none. entries-none layout bytes most code n k at (omega arith))
+    (le-or-lt 1 (sizeAt layout bytes k))

@@ -1,0 +1,95 @@
+use borrow.Author.Needs.{needs}
+use mathlib.Core.Path.{_≡_, refl, sym, ap, _∙_, subst}
+use mathlib.Core.Bool.{Bool, true, false, _||_}
+use mathlib.Core.List.{List, []}
+use Prim.Native.Nat.{ℕ, suc, _+_, _*_, _-_, _≤_, _<_}
+use native.Mathlib.Omega.{arith}
+use lib.ListN.{length, getD, drop}
+use denote.Ref.{now}
+use Rattle.spec.specs.Bytes.{twice}
+use Rattle.directory.specs.Chains.{hashOf, keysFrom, placeFrom, Starts, Linked, Chained, Lies}
+use Rattle.directory.proofs.ChainLaws.{empty, twice-none, twice-step, length-from}
+use Rattle.directory.proofs.build.Statement.{statement}
+use Rattle.directory.proofs.build.Tie as tie
+use Rattle.directory.proofs.build.Reads as reads
+use Rattle.directory.proofs.build.Lts as lts
+use Rattle.directory.proofs.insert.Reads as insert-reads
+
+abbrev Inv-loop : tie.InvT-loop
+Inv-loop bytes start stride count heads₀ next₀ twin₀ e₀ heads next twin e =
+    let keys = keysFrom bytes start stride count in
+    (e ≤ count) × (length heads ≡ length heads₀) × (length next ≡ length next₀) × (twin ≡ twice (drop e keys)) × Chained keys e heads next
+
+abbrev μ-loop : tie.MeasureT-loop
+μ-loop bytes start stride count heads₀ next₀ twin₀ e₀ heads next twin e = e
+
+loop-holds : tie.Need-loop-holds Inv-loop μ-loop
+loop-holds c =
+    let start = c .before .before .before in
+    let a = start .args in
+    let keys = keysFrom (now (a .bytes)) (a .start) (a .stride) (a .count) in
+    let q = length-from (now (a .bytes)) (a .start) (a .stride) (a .count) (start .pre .0) in
+    (omega arith, refl, refl, twice-none keys (a .count) q, empty keys (now (a .heads)) (now (a .next)) (a .count) q (start .pre .0 .few) (start .pre .1))
+
+sub-e : tie.Need-sub-e Inv-loop μ-loop
+sub-e c = omega arith
+
+insert-requires : tie.Need-insert-requires Inv-loop μ-loop
+insert-requires c κs =
+    let at = c .before .before .before in
+    let start = at .before .before .before .before in
+    let a = start .args in
+    let s : at .loop .e ≡ suc (at .loop .e - 1) = omega arith in
+    (start .pre .0, (subst (λ (e : ℕ). Chained (keysFrom (now (a .bytes)) (a .start) (a .stride) (a .count)) e (at .loop .heads) (at .loop .next)) s (at .loop .inv .4), omega arith))
+
+loop-less : tie.Need-loop-less Inv-loop μ-loop
+loop-less c = omega arith
+
+loop-again : tie.Need-loop-again Inv-loop μ-loop
+loop-again c =
+    let called = c .before .before .before .before in
+    let at = called .before .before .before .before in
+    let start = at .before .before .before .before in
+    let a = start .args in
+    let keys = keysFrom (now (a .bytes)) (a .start) (a .stride) (a .count) in
+    let s : at .loop .e ≡ suc (at .loop .e - 1) = omega arith in
+    let q = length-from (now (a .bytes)) (a .start) (a .stride) (a .count) (start .pre .0) in (
+      omega arith,
+      called .insert .kept .1 .1 .1 .1 .1 .0 ∙ at .loop .inv .1,
+      called .insert .kept .1 .1 .1 .1 .1 .1 .0 ∙ at .loop .inv .2,
+      twice-step keys (at .loop .e - 1) (called .insert .result) (at .loop .twin) (omega (arith, q)) (called .insert .ensures .found)
+          (at .loop .inv .3 ∙ ap (λ (e : ℕ). twice (drop e keys)) s),
+      called .insert .ensures .chains,
+    )
+
+same-length : tie.Need-same-length Inv-loop μ-loop
+same-length c = search needs
+
+same-length-2 : tie.Need-same-length-2 Inv-loop μ-loop
+same-length-2 c = search needs
+
+returns : tie.Need-returns Inv-loop μ-loop
+returns c =
+    let at = c .before in
+    let a = at .before .before .before .before .args in
+    let keys = keysFrom (now (a .bytes)) (a .start) (a .stride) (a .count) in
+    let z : at .loop .e ≡ 0 = omega arith in
+    record {
+      found = at .loop .inv .3 ∙ ap (λ (e : ℕ). twice (drop e keys)) z;
+      chains = subst (λ (e : ℕ). Chained keys e (at .loop .heads) (at .loop .next)) z (at .loop .inv .4);
+    }
+
+pub build-spec : {M : Type 1} → statement M
+build-spec =
+    tie.close
+    (tie.spec
+    Inv-loop
+    μ-loop
+    loop-holds
+    sub-e
+    insert-requires
+    loop-less
+    loop-again
+    same-length
+    same-length-2
+    returns)

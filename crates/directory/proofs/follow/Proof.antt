@@ -1,0 +1,129 @@
+use mathlib.Core.Path.{_≡_, refl, sym, ap, _∙_, subst}
+use mathlib.Core.Bool.{Bool, true, false}
+use mathlib.Core.List.{List, []}
+use Prim.Native.Nat.{ℕ, suc, _+_, _*_, _-_, _≤_, _<_}
+use native.Mathlib.Omega.{arith}
+use lib.ListN.{length, getD}
+use denote.Ref.{now}
+use Rattle.spec.specs.Bytes.{part, same}
+use Rattle.directory.specs.Chains.{keysFrom, placeFrom, Starts, Linked, Lies}
+use Rattle.directory.proofs.ChainLaws.{Stepped, step, place-hit, place-none, length-from, key-room, key-in}
+use borrow.Author.Needs.{needs}
+use Rattle.directory.proofs.follow.Statement.{statement}
+use Rattle.directory.proofs.follow.Tie as tie
+use Rattle.directory.proofs.follow.Reads as reads
+use Rattle.directory.proofs.follow.Lts as lts
+use Rattle.directory.proofs.key.Reads as key-reads
+use Rattle.field.proofs.equal.Reads as equal-reads
+
+abbrev Inv-loop : tie.InvT-loop
+Inv-loop bytes start stride count next from probe n₀ n =
+    let keys = keysFrom bytes start stride count in
+    (n ≤ from) × (from ≤ count) × Starts probe keys n × (placeFrom probe keys (count - n) ≡ placeFrom probe keys (count - from))
+
+abbrev μ-loop : tie.MeasureT-loop
+μ-loop bytes start stride count next from probe n₀ n = n
+
+-- what the comparison of the keys says
+compared : (c : tie.After-equal Inv-loop μ-loop)
+    → let at = c .before .before .before in
+    let a = at .before .before .before .before .args in
+    same (now (a .probe)) (getD (keysFrom (now (a .bytes)) (a .start) (a .stride) (a .count)) (a .count - at .loop .n) []) ≡ c .equal .result
+compared c =
+    let at = c .before .before .before in
+    let start = at .before .before .before .before in
+    let a = start .args in
+    ap (same (now (a .probe))) (sym (c .before .key .ensures ∙ key-in (now (a .bytes)) (a .start) (a .stride) (a .count) (start .pre .0) (a .count - at .loop .n) (omega arith)))
+    ∙ sym (c .equal .ensures)
+
+-- the chain's next place
+stepped : (c : tie.Else1 Inv-loop μ-loop)
+    → let at = c .before .before .before .before in
+    let a = at .before .before .before .before .args in
+    Stepped (now (a .probe)) (keysFrom (now (a .bytes)) (a .start) (a .stride) (a .count)) (a .count) (at .loop .n) (getD (now (a .next)) (a .count - at .loop .n) 0)
+stepped c =
+    let at = c .before .before .before .before in
+    let start = at .before .before .before .before in
+    let a = start .args in
+    step (now (a .probe)) (keysFrom (now (a .bytes)) (a .start) (a .stride) (a .count)) (a .from) (at .loop .n) (now (a .next)) (a .count)
+    (length-from (now (a .bytes)) (a .start) (a .stride) (a .count) (start .pre .0)) (at .loop .inv .1) (at .loop .inv .0) (omega arith) (start .pre .1 .0) (at .loop .inv .2)
+    (compared (c .before) ∙ c .if1 .left)
+
+loop-holds : tie.Need-loop-holds Inv-loop μ-loop
+loop-holds c =
+    let start = c .before .before .before in
+    let a = start .args in
+    (omega arith, omega (arith, start .pre .1 .1 .within, length-from (now (a .bytes)) (a .start) (a .stride) (a .count) (start .pre .0)), start .pre .1 .1, refl)
+
+sub-e : tie.Need-sub-e Inv-loop μ-loop
+sub-e c = omega arith
+
+key-requires : tie.Need-key-requires Inv-loop μ-loop
+key-requires c κs =
+    let start = c .before .before .before .before .before in
+    let a = start .args in
+    key-room (now (a .bytes)) (a .start) (a .stride) (a .count) (start .pre .0) (a .count - c .before .loop .n) (omega arith)
+
+equal-requires : tie.Need-equal-requires Inv-loop μ-loop
+equal-requires c κs = tt
+
+returns : tie.Need-returns Inv-loop μ-loop
+returns c =
+    let at = c .before .before .before .before in
+    let start = at .before .before .before .before in
+    let a = start .args in
+    let keys = keysFrom (now (a .bytes)) (a .start) (a .stride) (a .count) in
+    sym (place-hit (now (a .probe)) keys (a .count - at .loop .n) (omega (arith, length-from (now (a .bytes)) (a .start) (a .stride) (a .count) (start .pre .0)))
+    (compared (c .before) ∙ c .if1 .taken))
+    ∙ at .loop .inv .3
+
+mul-n : tie.Need-mul-n Inv-loop μ-loop
+mul-n c = omega arith
+
+shared-slice-read-n : tie.Need-shared-slice-read-n Inv-loop μ-loop
+shared-slice-read-n c =
+    let start = c .before .before .before .before .before .before .before .before .before in
+    let a = start .args in
+    omega (arith, start .pre .1 .0 .long, length-from (now (a .bytes)) (a .start) (a .stride) (a .count) (start .pre .0))
+
+cast-n : tie.Need-cast-n Inv-loop μ-loop
+cast-n c =
+    let at = c .before .before .before .before .before in
+    omega (arith, c .shared-slice-known4 .given (at .before .before .before .before .args .count - at .loop .n))
+
+loop-less : tie.Need-loop-less Inv-loop μ-loop
+loop-less c = omega (arith, stepped (c .before) .less)
+
+loop-again : tie.Need-loop-again Inv-loop μ-loop
+loop-again c =
+    let at = c .before .before .before .before .before in
+    let s = stepped (c .before) in
+    (omega (arith, s .less), omega arith, s .starts, s .place ∙ at .loop .inv .3)
+
+returns-2 : tie.Need-returns-2 Inv-loop μ-loop
+returns-2 c =
+    let at = c .before in
+    let start = at .before .before .before .before in
+    let a = start .args in
+    let keys = keysFrom (now (a .bytes)) (a .start) (a .stride) (a .count) in
+    let z : a .count ≡ a .count - at .loop .n = omega arith in
+    sym (place-none (now (a .probe)) keys (a .count) (length-from (now (a .bytes)) (a .start) (a .stride) (a .count) (start .pre .0)))
+    ∙ ap (placeFrom (now (a .probe)) keys) z ∙ at .loop .inv .3
+
+pub follow-spec : {M : Type 1} → statement M
+follow-spec =
+    tie.close
+    (tie.spec
+    Inv-loop
+    μ-loop
+    loop-holds
+    sub-e
+    key-requires
+    equal-requires
+    returns
+    mul-n
+    shared-slice-read-n
+    cast-n
+    loop-less
+    loop-again
+    returns-2)

@@ -1,0 +1,84 @@
+-- Hash chains over the keys of a directory: how an entry is found by its key in expected constant time. Assumes nothing.
+-- An entry e is stored as the number of entries from e on (count - e), so that 0 is "none" and an array of zeros is the empty index.
+use mathlib.Core.Path.{_≡_}
+use mathlib.Core.Bool.{Bool, cond}
+use mathlib.Core.List.{List, [], _∷_}
+use Prim.Native.Nat.{ℕ, zero, suc, _+_, _*_, _-_, _%_, _≤_, _<_}
+use lib.ListN.{length, getD, drop}
+use lib.Dec.{eqb}
+use Rattle.spec.specs.Bytes.{fieldsOf, contains, twice, positionOf}
+use Rattle.spec.specs.Directory.{Layout, keysOf}
+
+-- ---- the hash of a key
+
+-- A hash with one more field; 65521 is the largest prime below 65536.
+abbrev pub mixed : ℕ → ℕ → ℕ
+mixed h field = (h * 2654435761 + field % 4294967296) % 65521
+
+abbrev pub mixedAll : ℕ → List ℕ → ℕ
+mixedAll h [] = h
+mixedAll h (field ∷ fields) = mixedAll (mixed h field) fields
+
+-- The hash of a key: over all its 20 bytes, as five fields.
+unfoldable pub hashOf : List ℕ → ℕ
+hashOf key = mixedAll 0 (fieldsOf 4 5 key)
+
+-- ---- chains
+
+-- The keys of a directory that starts at `start`.
+abbrev pub keysFrom : List ℕ → ℕ → ℕ → ℕ → List (List ℕ)
+keysFrom bytes start stride count = keysOf stride count (drop start bytes)
+
+-- How many keys there are from the first key with the hash h on; 0 where no key has it.
+abbrev pub tailWith : ℕ → List (List ℕ) → ℕ
+tailWith h [] = 0
+tailWith h (key ∷ keys) = cond (eqb (hashOf key) h) (suc (length keys)) (tailWith h keys)
+
+-- The position of the first key from entry e on that is the same as `key`; the number of keys where there is none.
+abbrev pub placeFrom : List ℕ → List (List ℕ) → ℕ → ℕ
+placeFrom key keys e = e + positionOf key (drop e keys)
+
+-- For each entry from k on, `next` has the first later one with the same hash.
+pub record Linked (keys : List (List ℕ)) (k : ℕ) (next : List ℕ) : Type 0 where
+  pub long : length keys ≤ length next
+  pub link : (e : ℕ) → k ≤ e → e < length keys → getD next e 0 ≡ tailWith (hashOf (getD keys e [])) (drop (suc e) keys)
+
+-- The entries from k on are in the index: `heads` has the first one of each hash.
+pub record Chained (keys : List (List ℕ)) (k : ℕ) (heads next : List ℕ) : Type 0 where
+  pub wide : length heads ≡ 65536
+  pub head : (h : ℕ) → h < 65536 → getD heads h 0 ≡ tailWith h (drop k keys)
+  pub links : Linked keys k next
+
+-- Entry k was put in front of those from k + 1 on; `twin` tells whether its key is one of theirs.
+pub record Inserted (keys : List (List ℕ)) (k : ℕ) (heads next : List ℕ) (twin : Bool) : Type 0 where
+  pub found : twin ≡ contains (getD keys k []) (drop (suc k) keys)
+  pub chains : Chained keys k heads next
+
+-- All entries are in the index; `twin` tells whether some two keys are the same.
+pub record Built (keys : List (List ℕ)) (heads next : List ℕ) (twin : Bool) : Type 0 where
+  pub found : twin ≡ twice keys
+  pub chains : Chained keys 0 heads next
+
+-- The last n of the keys begin with one of the key's hash, or are none: a place on the chain of the key's hash.
+pub record Starts (key : List ℕ) (keys : List (List ℕ)) (n : ℕ) : Type 0 where
+  pub within : n ≤ length keys
+  pub hash : 0 < n → hashOf (getD keys (length keys - n) []) ≡ hashOf key
+
+-- ---- what callers hand over
+
+-- A directory of `count` entries lies in the bytes.
+pub record Lies (bytes : List ℕ) (start stride count : ℕ) : Type 0 where
+  pub inside : start + stride * count ≤ length bytes
+  pub keyed : 20 ≤ stride
+  pub few : count ≤ 65000
+
+-- The arrays of an empty index.
+pub record Empty (heads next : List ℕ) : Type 0 where
+  pub wide : length heads ≡ 65536
+  pub none : (h : ℕ) → h < 65536 → getD heads h 0 ≡ 0
+  pub long : 65000 ≤ length next
+
+-- The layout whose parts are given one by one.
+abbrev pub layoutOf : ℕ → ℕ → ℕ → ℕ → ℕ → Layout
+layoutOf start stride sizeField offsetField lengthField =
+    record { start = start; stride = stride; sizeField = sizeField; offsetField = offsetField; lengthField = lengthField }

@@ -1,0 +1,173 @@
+// Directories: the entry of a fingerprint, whether a fingerprint is there twice, and the check of the entries.
+// Fingerprints are found by hash chains in two arrays of the caller, built from the last entry to the first.
+ghost use mathlib.Core.Path.{_≡_};
+ghost use Prim.Native.Nat.{suc, _+_, _-_, _*_, _≤_, _<_};
+ghost use lib.ListN.{length, getD, drop, take};
+ghost use Rattle.spec.specs.Bytes.{part, positionOf};
+ghost use Rattle.spec.specs.Directory.{entriesCode};
+ghost use Rattle.directory.specs.Chains.{mixed, hashOf, keysFrom, placeFrom, Starts, Linked, Chained, Inserted, Built, Lies, Empty, layoutOf};
+
+// A hash with one more field.
+fn mix(h: u64, field: u64) -> u64
+    requires { ⌜ h < 65521 ⌝ }
+    ensures { λ r. ⌜ r ≡ mixed h field ⌝ }
+{
+    (h * 2654435761 + field % 4294967296) % 65521
+}
+
+// The hash of a key of 20 bytes.
+fn hash(key: &[u8]) -> usize
+    requires { ⌜ length (now key) ≡ 20 ⌝ }
+    ensures { λ r. ⌜ r ≡ hashOf (now (key .entry)) ⌝ }
+{
+    let mut h = mix(0, field::read(key, 0, 4));
+    h = mix(h, field::read(key, 4, 4));
+    h = mix(h, field::read(key, 8, 4));
+    h = mix(h, field::read(key, 12, 4));
+    h = mix(h, field::read(key, 16, 4));
+    h as usize
+}
+
+// The key of entry e, a slice of the bytes.
+pub fn key(bytes: &[u8], start: usize, stride: usize, e: usize) -> &[u8]
+    requires { ⌜ start + stride * e + 20 ≤ length (now bytes) ⌝ }
+    ensures { λ r. ⌜ now r ≡ part (now (bytes .entry)) (start + stride * e) 20 ⌝ }
+{
+    let at = start + stride * e;
+    &bytes[at..at + 20]
+}
+
+// Follows a chain to the first entry with the key; `count` where there is none. `from` is the number of entries from the chain's first on.
+fn follow(
+    bytes: &[u8],
+    start: usize,
+    stride: usize,
+    count: usize,
+    next: &[u32],
+    from: usize,
+    probe: &[u8],
+) -> usize
+    requires { ⌜ Lies (now bytes) start stride count ⌝ }
+    requires { ⌜ Linked (keysFrom (now bytes) start stride count) (count - from) (now next) ⌝ }
+    requires { ⌜ Starts (now probe) (keysFrom (now bytes) start stride count) from ⌝ }
+    ensures { λ r. ⌜ r ≡ placeFrom (now (probe .entry)) (keysFrom (now (bytes .entry)) start stride count) (count - from) ⌝ }
+{
+    let mut n = from;
+    while 0 < n {
+        let e = count - n;
+        if field::equal(probe, key(bytes, start, stride, e)) {
+            return e;
+        }
+        n = next[e] as usize;
+    }
+    count
+}
+
+// The first entry with the key; `count` where there is none.
+pub fn find(
+    bytes: &[u8],
+    start: usize,
+    stride: usize,
+    count: usize,
+    heads: &[u32],
+    next: &[u32],
+    probe: &[u8],
+) -> usize
+    requires { ⌜ Lies (now bytes) start stride count ⌝ }
+    requires { ⌜ Chained (keysFrom (now bytes) start stride count) 0 (now heads) (now next) ⌝ }
+    requires { ⌜ length (now probe) ≡ 20 ⌝ }
+    ensures { λ r. ⌜ r ≡ positionOf (now (probe .entry)) (keysFrom (now (bytes .entry)) start stride count) ⌝ }
+{
+    let h = hash(probe);
+    follow(bytes, start, stride, count, next, heads[h] as usize, probe)
+}
+
+// Puts entry e in front of those after it; whether its key is one of theirs.
+fn insert(
+    bytes: &[u8],
+    start: usize,
+    stride: usize,
+    count: usize,
+    e: usize,
+    heads: &mut [u32],
+    next: &mut [u32],
+) -> bool
+    requires { ⌜ Lies (now bytes) start stride count ⌝ }
+    requires { ⌜ Chained (keysFrom (now bytes) start stride count) (suc e) (now heads) (now next) ⌝ }
+    requires { ⌜ e < count ⌝ }
+    ensures { λ r. ⌜ Inserted (keysFrom (now (bytes .entry)) start stride count) e (now (heads .exit)) (now (next .exit)) r ⌝ }
+{
+    let probe = key(bytes, start, stride, e);
+    let h = hash(probe);
+    let twin = follow(bytes, start, stride, count, next, heads[h] as usize, probe);
+    next[e] = heads[h];
+    heads[h] = (count - e) as u32;
+    twin < count
+}
+
+// Puts all entries into an empty index; whether some two keys are the same.
+pub fn build(
+    bytes: &[u8],
+    start: usize,
+    stride: usize,
+    count: usize,
+    heads: &mut [u32],
+    next: &mut [u32],
+) -> bool
+    requires { ⌜ Lies (now bytes) start stride count ⌝ }
+    requires { ⌜ Empty (now heads) (now next) ⌝ }
+    ensures { λ r. ⌜ Built (keysFrom (now (bytes .entry)) start stride count) (now (heads .exit)) (now (next .exit)) r ⌝ }
+{
+    let mut twin = false;
+    let mut e = count;
+    while 0 < e {
+        e -= 1;
+        let found = insert(bytes, start, stride, count, e, heads, next);
+        twin = found | twin;
+    }
+    twin
+}
+
+// The check of the entries, one after the other: lengths from 1 to `most`, offsets where the one before ended, and the last end.
+pub fn entries(
+    bytes: &[u8],
+    start: usize,
+    stride: usize,
+    sizes: usize,
+    offsets: usize,
+    lengths: usize,
+    most: usize,
+    code: u8,
+    count: usize,
+) -> u8
+    requires { ⌜ (start + stride * count ≤ length (now bytes)) × (sizes + 4 ≤ stride) × (offsets + 4 ≤ stride) × (lengths + 4 ≤ stride) ⌝ }
+    ensures { λ r. ⌜ r ≡ entriesCode (layoutOf start stride sizes offsets lengths) (now (bytes .entry)) most code count 0 (start + stride * count) ⌝ }
+{
+    let mut at = start + stride * count;
+    let mut base = start;
+    let mut k: usize = 0;
+    while k < count {
+        let size = field::read(bytes, base + sizes, 4) as usize;
+        if size == 0 {
+            return code;
+        }
+        if most < size {
+            return code;
+        }
+        if field::read(bytes, base + offsets, 4) as usize != at {
+            return code;
+        }
+        let long = field::read(bytes, base + lengths, 4) as usize;
+        // past the end no later end can be right, and the sum cannot wrap
+        if bytes.len() - at < long {
+            return code;
+        }
+        at += long;
+        base += stride;
+        k += 1;
+    }
+    if at != bytes.len() {
+        return code;
+    }
+    0
+}
