@@ -34,3 +34,11 @@ pub record Parsed (list : List ℕ) (count flag size most : ℕ) (start len : Li
   pub starts : length start ≡ 16
   pub lens : length len ≡ 16
   pub placed : (k : ℕ) → k < count → Placed list k (getD start k 0) (getD len k 0)
+
+-- The same of a list whose keywords may be alike, for their comparison.
+pub record Places (list : List ℕ) (flag count : ℕ) (start len : List ℕ) : Type 0 where
+  pub flags : flag ≡ flagOf list
+  pub few : count ≤ 16
+  pub counts : length (keywordsOf list) ≡ count
+  pub room : listSize list ≤ length list
+  pub placed : (k : ℕ) → k < count → Placed list k (getD start k 0) (getD len k 0)

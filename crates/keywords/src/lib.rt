@@ -1,8 +1,12 @@
 // Keyword lists: the fold of a byte, the keyword check, and where an accepted list has its keywords (document 01, "Words").
 ghost use mathlib.Core.Path.{_≡_};
-ghost use Prim.Native.Nat.{_+_, max};
-ghost use Rattle.spec.specs.Keywords.{foldByte, keywordFrontCode};
-ghost use Rattle.keywords.specs.Parsed.{Readable, Parsed};
+ghost use mathlib.Core.List.{[]};
+ghost use Prim.Native.Nat.{_+_, _≤_, _<_, max};
+ghost use lib.ListN.{length, drop, getD};
+ghost use Rattle.spec.specs.Bytes.{same, contains, twice};
+ghost use Rattle.spec.specs.Outcome.{firstOf};
+ghost use Rattle.spec.specs.Keywords.{foldByte, folded, foldedKeywords, readCode, frontTests, keywordCode, keywordFrontCode};
+ghost use Rattle.keywords.specs.Parsed.{Readable, Places, Parsed};
 
 // The byte as it compares.
 pub fn fold(flag: u8, b: u8) -> u8
@@ -75,4 +79,164 @@ pub fn parse(list: &[u8]) -> Keywords
     ensures { λ r. ⌜ Parsed (now (list .entry)) (r .count) (r .flag) (r .size) (r .most) (r .start) (r .len) ⌝ }
 {
     split(list)
+}
+
+// The code of the keywords behind the list's first two bytes.
+fn read_keywords(list: &[u8], count: usize) -> u8
+    requires { ⌜ 2 ≤ length (now list) ⌝ }
+    ensures { λ r. ⌜ r ≡ readCode count (drop 2 (now (list .entry))) ⌝ }
+{
+    let mut at: usize = 2;
+    let mut k: usize = 0;
+    while k < count {
+        if list.len() <= at {
+            return 1;
+        }
+        let n = list[at] as usize;
+        if n == 0 {
+            return 3;
+        }
+        if 32 < n {
+            return 3;
+        }
+        if list.len() - at <= n {
+            return 1;
+        }
+        at = at + 1 + n;
+        k += 1;
+    }
+    0
+}
+
+// The code of the tests that read the list from the front.
+fn read_front(list: &[u8]) -> u8
+    ensures { λ r. ⌜ r ≡ firstOf (frontTests (now (list .entry))) ⌝ }
+{
+    if list.len() < 2 {
+        return 1;
+    }
+    let count = list[0] as usize;
+    if count == 0 {
+        return 2;
+    }
+    if 16 < count {
+        return 2;
+    }
+    if 1 < list[1] {
+        return 2;
+    }
+    read_keywords(list, count)
+}
+
+// The two compare alike.
+fn alike(flag: u8, a: &[u8], b: &[u8]) -> bool
+    ensures { λ r. ⌜ r ≡ same (folded flag (now (a .entry))) (folded flag (now (b .entry))) ⌝ }
+{
+    if a.len() != b.len() {
+        return false;
+    }
+    let mut i: usize = 0;
+    while i < a.len() {
+        let x = fold(flag, a[i]);
+        let y = fold(flag, b[i]);
+        if x != y {
+            return false;
+        }
+        i += 1;
+    }
+    true
+}
+
+// Keywords i and j compare alike.
+fn alike_at(
+    list: &[u8],
+    flag: u8,
+    count: usize,
+    start: &[usize; 16],
+    len: &[usize; 16],
+    i: usize,
+    j: usize,
+) -> bool
+    requires { ⌜ Places (now list) flag count (now start) (now len) × (i < count) × (j < count) ⌝ }
+    ensures { λ r. ⌜ r ≡ same (getD (foldedKeywords (now (list .entry))) i []) (getD (foldedKeywords (now (list .entry))) j []) ⌝ }
+{
+    let a = start[i];
+    let b = start[j];
+    let m = len[i];
+    let n = len[j];
+    alike(flag, &list[a..a + m], &list[b..b + n])
+}
+
+// A keyword after keyword i compares alike with it.
+fn again(
+    list: &[u8],
+    flag: u8,
+    count: usize,
+    start: &[usize; 16],
+    len: &[usize; 16],
+    i: usize,
+) -> bool
+    requires { ⌜ Places (now list) flag count (now start) (now len) × (i < count) ⌝ }
+    ensures { λ r. ⌜ r ≡ contains (getD (foldedKeywords (now (list .entry))) i []) (drop (i + 1) (foldedKeywords (now (list .entry)))) ⌝ }
+{
+    let mut j: usize = i + 1;
+    while j < count {
+        if alike_at(list, flag, count, start, len, i, j) {
+            return true;
+        }
+        j += 1;
+    }
+    false
+}
+
+// Some two keywords compare alike.
+fn repeats(list: &[u8], flag: u8, count: usize, start: &[usize; 16], len: &[usize; 16]) -> bool
+    requires { ⌜ Places (now list) flag count (now start) (now len) ⌝ }
+    ensures { λ r. ⌜ r ≡ twice (foldedKeywords (now (list .entry))) ⌝ }
+{
+    let mut i: usize = 0;
+    while i < count {
+        if again(list, flag, count, start, len, i) {
+            return true;
+        }
+        i += 1;
+    }
+    false
+}
+
+// The keyword check without its left-over bytes.
+pub fn check_front(list: &[u8]) -> u8
+    ensures { λ r. ⌜ r ≡ keywordFrontCode (now (list .entry)) ⌝ }
+{
+    let code = read_front(list);
+    if code != 0 {
+        return code;
+    }
+    let k = split(list);
+    let start = k.start;
+    let len = k.len;
+    if repeats(list, k.flag, k.count, &start, &len) {
+        return 4;
+    }
+    0
+}
+
+// The keyword check.
+pub fn check(list: &[u8]) -> u8
+    ensures { λ r. ⌜ r ≡ keywordCode (now (list .entry)) ⌝ }
+{
+    let code = read_front(list);
+    if code != 0 {
+        return code;
+    }
+    let k = split(list);
+    if k.size < list.len() {
+        return 1;
+    }
+    let start = k.start;
+    let len = k.len;
+    if repeats(list, k.flag, k.count, &start, &len) {
+        return 4;
+    }
+    0
 }

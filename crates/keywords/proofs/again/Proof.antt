@@ -1,0 +1,70 @@
+-- `keywords::again` meets its contract, by the keywords that are left to compare. Assumes nothing.
+use mathlib.Core.Path.{_≡_, refl, sym, ap, _∙_}
+use mathlib.Core.List.{[]}
+use Prim.Native.Nat.{ℕ, _+_, _-_, _≤_, _<_}
+use native.Mathlib.Omega.{arith}
+use borrow.Author.Needs.{needs}
+use lib.ListN.{length, getD, drop}
+use denote.Ref.{now}
+use Rattle.spec.specs.Bytes.{same, contains}
+use Rattle.spec.specs.Keywords.{foldedKeywords}
+use Rattle.spec.proofs.KeywordLaws.{folded-count}
+use Rattle.keywords.proofs.Comparing.{contains-hit, contains-on, contains-end}
+use Rattle.keywords.proofs.again.Statement.{statement}
+use Rattle.keywords.proofs.again.Tie as tie
+use Rattle.keywords.proofs.again.Reads as reads
+use Rattle.keywords.proofs.again.Lts as lts
+use Rattle.keywords.proofs.alike_at.Reads as alike-at-reads
+
+abbrev Inv-loop : tie.InvT-loop
+Inv-loop list flag count start len i j₀ j = (j ≤ count) × (contains (getD (foldedKeywords list) i []) (drop j (foldedKeywords list)) ≡ contains (getD (foldedKeywords list) i []) (drop (i + 1) (foldedKeywords list)))
+
+abbrev μ-loop : tie.MeasureT-loop
+μ-loop list flag count start len i j₀ j = count - j
+
+add-j : tie.Need-add-j Inv-loop μ-loop
+add-j c = search needs
+
+loop-holds : tie.Need-loop-holds Inv-loop μ-loop
+loop-holds c = (omega arith, refl)
+
+alike-at-requires : tie.Need-alike-at-requires Inv-loop μ-loop
+alike-at-requires c κs = let s = c .before .before .before in (s .pre .0, s .pre .1, omega arith)
+
+returns : tie.Need-returns Inv-loop μ-loop
+returns c =
+    let at = c .before .before .before in
+    let s = at .before .before in
+    contains-hit (foldedKeywords (s .args .list .now)) (at .loop .j) (omega (arith, folded-count (s .args .list .now), s .pre .0 .counts)) (c .before .alike-at .result) _ (getD (foldedKeywords (s .args .list .now)) (s .args .i) []) (c .before .alike-at .ensures) (c .if1 .taken) (at .loop .inv .1)
+
+add-j-2 : tie.Need-add-j-2 Inv-loop μ-loop
+add-j-2 c = search needs
+
+loop-less : tie.Need-loop-less Inv-loop μ-loop
+loop-less c = search needs
+
+loop-again : tie.Need-loop-again Inv-loop μ-loop
+loop-again c =
+    let at = c .before .before .before in
+    let s = at .before .before in
+    (omega arith, contains-on (foldedKeywords (s .args .list .now)) (at .loop .j) (omega (arith, folded-count (s .args .list .now), s .pre .0 .counts)) (c .before .alike-at .result) _ (getD (foldedKeywords (s .args .list .now)) (s .args .i) []) (c .before .alike-at .ensures) (c .if1 .left) (at .loop .inv .1))
+
+returns-2 : tie.Need-returns-2 Inv-loop μ-loop
+returns-2 c =
+    let s = c .before .before .before in
+    contains-end (foldedKeywords (s .args .list .now)) (c .before .loop .j) (getD (foldedKeywords (s .args .list .now)) (s .args .i) []) (omega (arith, folded-count (s .args .list .now), s .pre .0 .counts)) ∙ c .before .loop .inv .1
+
+pub again-spec : {M : Type 1} → statement M
+again-spec =
+    tie.close
+    (tie.spec
+    Inv-loop
+    μ-loop
+    add-j
+    loop-holds
+    alike-at-requires
+    returns
+    add-j-2
+    loop-less
+    loop-again
+    returns-2)

@@ -1,0 +1,66 @@
+-- `keywords::repeats` meets its contract, by the keywords that are left. Assumes nothing.
+use mathlib.Core.Path.{_≡_, refl, sym, ap, _∙_}
+use mathlib.Core.List.{[]}
+use Prim.Native.Nat.{ℕ, _+_, _-_, _≤_, _<_}
+use native.Mathlib.Omega.{arith}
+use borrow.Author.Needs.{needs}
+use lib.ListN.{length, getD, drop}
+use denote.Ref.{now}
+use Rattle.spec.specs.Bytes.{same, contains, twice}
+use Rattle.spec.specs.Keywords.{foldedKeywords}
+use Rattle.spec.proofs.KeywordLaws.{folded-count}
+use Rattle.keywords.proofs.Comparing.{twice-hit, twice-on, twice-end}
+use Rattle.keywords.proofs.repeats.Statement.{statement}
+use Rattle.keywords.proofs.repeats.Tie as tie
+use Rattle.keywords.proofs.repeats.Reads as reads
+use Rattle.keywords.proofs.repeats.Lts as lts
+use Rattle.keywords.proofs.again.Reads as again-reads
+
+abbrev Inv-loop : tie.InvT-loop
+Inv-loop list flag count start len i₀ i = (i ≤ count) × (twice (drop i (foldedKeywords list)) ≡ twice (foldedKeywords list))
+
+abbrev μ-loop : tie.MeasureT-loop
+μ-loop list flag count start len i₀ i = count - i
+
+loop-holds : tie.Need-loop-holds Inv-loop μ-loop
+loop-holds c = (omega arith, refl)
+
+again-requires : tie.Need-again-requires Inv-loop μ-loop
+again-requires c κs = let s = c .before .before .before in (s .pre, omega arith)
+
+returns : tie.Need-returns Inv-loop μ-loop
+returns c =
+    let at = c .before .before .before in
+    let s = at .before .before in
+    twice-hit (foldedKeywords (s .args .list .now)) (at .loop .i) (omega (arith, folded-count (s .args .list .now), s .pre .counts)) (c .before .again .result) _ (c .before .again .ensures) (c .if1 .taken) (at .loop .inv .1)
+
+add-i : tie.Need-add-i Inv-loop μ-loop
+add-i c = search needs
+
+loop-less : tie.Need-loop-less Inv-loop μ-loop
+loop-less c = search needs
+
+loop-again : tie.Need-loop-again Inv-loop μ-loop
+loop-again c =
+    let at = c .before .before .before in
+    let s = at .before .before in
+    (omega arith, twice-on (foldedKeywords (s .args .list .now)) (at .loop .i) (omega (arith, folded-count (s .args .list .now), s .pre .counts)) (c .before .again .result) _ (c .before .again .ensures) (c .if1 .left) (at .loop .inv .1))
+
+returns-2 : tie.Need-returns-2 Inv-loop μ-loop
+returns-2 c =
+    let s = c .before .before .before in
+    twice-end (foldedKeywords (s .args .list .now)) (c .before .loop .i) (omega (arith, folded-count (s .args .list .now), s .pre .counts)) ∙ c .before .loop .inv .1
+
+pub repeats-spec : {M : Type 1} → statement M
+repeats-spec =
+    tie.close
+    (tie.spec
+    Inv-loop
+    μ-loop
+    loop-holds
+    again-requires
+    returns
+    add-i
+    loop-less
+    loop-again
+    returns-2)
