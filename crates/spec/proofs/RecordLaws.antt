@@ -32,7 +32,7 @@ and-intro a b p q = rw (p, q)
 eq-of : (m n : ℕ) → eqb m n ≡ true → m ≡ n
 eq-of m n e = eqb→eq m n (T-of (eqb m n) e)
 
-le-of : (m n : ℕ) → leb m n ≡ true → m ≤ n
+pub le-of : (m n : ℕ) → leb m n ≡ true → m ≤ n
 le-of m n e = leb→le m n (T-of (leb m n) e)
 
 not-false : (b : Bool) → not b ≡ true → b ≡ false

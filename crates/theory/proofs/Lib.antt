@@ -6,3 +6,4 @@ pub mod ScanThenJoin
 pub mod Demand3
 pub mod RecordTheorems
 pub mod ListRead
+pub mod WrittenBytes
