@@ -7,3 +7,4 @@ pub mod Demand3
 pub mod RecordTheorems
 pub mod ListRead
 pub mod WrittenBytes
+pub mod SearchLaws

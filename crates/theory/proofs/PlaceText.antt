@@ -2,7 +2,7 @@
 -- the stream of one keyword (spec's Stream), with the cell as the list of its starts. Assumes nothing.
 use mathlib.Core.Path.{_≡_, refl, sym, ap, _∙_}
 use mathlib.Core.Bool.{Bool, true, false, or-false}
-use mathlib.Core.List.{List, [], _∷_, _++_, map, append-nil}
+use mathlib.Core.List.{List, [], _∷_, _++_, map, append-nil, map-append}
 use Prim.Native.Nat.{ℕ, zero, suc, _+_, _-_, _≤_, _<_, min}
 use native.Mathlib.Omega.{arith}
 use lib.ListN.{length, length-append, length-take, length-drop}
@@ -48,10 +48,6 @@ ranges n size r hn e =
     }
 
 -- ---- the cell as the list of its starts
-
-map-append : (f : ℕ → ℕ) (a b : List ℕ) → map f (a ++ b) ≡ map f a ++ map f b
-map-append f [] b = refl
-map-append f (x ∷ a) b = ap {B = List ℕ} (λ l. f x ∷ l) (map-append f a b)
 
 map-keep : (f : ℕ → ℕ) (b : Bool) (x : ℕ) → map f (keep b x) ≡ keep b (f x)
 map-keep f true x = refl

@@ -1,0 +1,100 @@
+-- A scan and then a join of what it wrote is the search, for code that puts the two together by their contracts (demand 3). Assumes nothing.
+use mathlib.Core.Path.{_≡_, refl, sym, ap, _∙_}
+use mathlib.Core.Logic.{_≢_}
+use mathlib.Core.Bool.{Bool, true, false, false≢true}
+use mathlib.Core.List.{List, [], _∷_}
+use Prim.Native.Nat.{ℕ, zero, suc}
+use native.Mathlib.Omega.{arith}
+use lib.ListN.{length, take}
+use borrow.Author.Tests.{ne-eqb, lt-ltb}
+use Rattle.spec.specs.declared.Outcome.{Outcome}
+use Rattle.spec.specs.declared.Outcome.the-variants.{Done, Refused}
+use Rattle.spec.specs.declared.Searched.the-variants.{ScanRefused, JoinRefused, Found}
+use Rattle.spec.specs.Outcome.{firstOf, whole, codeOf, valueOf, answer, unlessRefused}
+use Rattle.spec.specs.Records.{form1}
+use Rattle.spec.specs.Join.{joinOutcome, joinBuffer}
+use Rattle.spec.specs.Scan.{scanIndex, scanCode, scanOutcome, scanBuffer}
+use Rattle.spec.specs.Search.{directSearch, searchJoinCode, searchCode, searchOutcome, searchBuffer}
+use Rattle.theory.proofs.Demand3.{code-of-answer, value-of-answer, join-outcome, join-buffer, scanned-is}
+
+-- ---- an answer by its cases
+
+done-code : (code value n : ℕ) → answer code value ≡ Done n → code ≡ 0
+done-code code value n e = sym (code-of-answer code value) ∙ ap codeOf e
+
+done-value : (code value n : ℕ) → answer code value ≡ Done n → value ≡ n
+done-value code value n e = sym (value-of-answer code value (done-code code value n e)) ∙ ap valueOf e
+
+refused-code : (code value c : ℕ) → answer code value ≡ Refused c → code ≡ c
+refused-code code value c e = sym (code-of-answer code value) ∙ ap codeOf e
+
+isDone : Outcome → Bool
+isDone (Done n) = true
+isDone (Refused c) = false
+
+refused-some : (code value c : ℕ) → answer code value ≡ Refused c → code ≢ 0
+unfolding answer isDone
+refused-some zero value c e z = false≢true (sym (ap isDone e))
+refused-some (suc code) value c e z = omega arith
+
+-- ---- the search
+
+module _ (list store recipes buffer out : List ℕ) where
+  pub search-scan-refused : (c : ℕ) → scanOutcome form1 list store (length buffer) ≡ Refused c
+      → (ScanRefused c ≡ searchOutcome form1 list store recipes (length buffer) (length out)) × (out ≡ searchBuffer form1 list store recipes (length buffer) out)
+  unfolding scanOutcome searchOutcome searchBuffer searchCode unlessRefused
+  search-scan-refused c e =
+      let p : scanCode form1 list store (length buffer) ≡ c = refused-code (scanCode form1 list store (length buffer)) (length (scanIndex form1 list store)) c e in
+      let q : scanCode form1 list store (length buffer) ≢ 0 = refused-some (scanCode form1 list store (length buffer)) (length (scanIndex form1 list store)) c e in
+      (rw (ne-eqb (scanCode form1 list store (length buffer)) 0 q, p), rw (lt-ltb 0 (scanCode form1 list store (length buffer)) (omega arith), ne-eqb (scanCode form1 list store (length buffer)) 0 q))
+
+  -- the scan did its work and reported n bytes
+  module _ (n : ℕ) (e : scanOutcome form1 list store (length buffer) ≡ Done n) where
+    scan-code : scanCode form1 list store (length buffer) ≡ 0
+    unfolding scanOutcome
+    scan-code = done-code (scanCode form1 list store (length buffer)) (length (scanIndex form1 list store)) n e
+
+    scan-length : length (scanIndex form1 list store) ≡ n
+    unfolding scanOutcome
+    scan-length = done-value (scanCode form1 list store (length buffer)) (length (scanIndex form1 list store)) n e
+
+    -- its first n bytes are the index
+    pub scanned-front : take n (scanBuffer form1 list store buffer) ≡ scanIndex form1 list store
+    scanned-front =
+        ap (λ (o : Outcome). take (valueOf o) (scanBuffer form1 list store buffer)) (sym e)
+        ∙ scanned-is list store buffer scan-code
+
+    answered : joinOutcome form1 (take n (scanBuffer form1 list store buffer)) recipes (length out) ≡ answer (searchJoinCode form1 list store recipes (length out)) (length (directSearch list store recipes))
+    answered = join-outcome list store (length buffer) scan-code (take n (scanBuffer form1 list store buffer)) recipes (length out) scanned-front
+
+    pub search-join-refused : (c : ℕ) → joinOutcome form1 (take n (scanBuffer form1 list store buffer)) recipes (length out) ≡ Refused c
+        → JoinRefused n c ≡ searchOutcome form1 list store recipes (length buffer) (length out)
+    unfolding searchOutcome
+    search-join-refused c f =
+        let g : answer (searchJoinCode form1 list store recipes (length out)) (length (directSearch list store recipes)) ≡ Refused c = sym answered ∙ f in
+        let p : searchJoinCode form1 list store recipes (length out) ≡ c = refused-code (searchJoinCode form1 list store recipes (length out)) (length (directSearch list store recipes)) c g in
+        let q : searchJoinCode form1 list store recipes (length out) ≢ 0 = refused-some (searchJoinCode form1 list store recipes (length out)) (length (directSearch list store recipes)) c g in
+        rw (scan-code, ne-eqb (searchJoinCode form1 list store recipes (length out)) 0 q, p, scan-length)
+
+    pub search-found : (m : ℕ) → joinOutcome form1 (take n (scanBuffer form1 list store buffer)) recipes (length out) ≡ Done m
+        → Found n m ≡ searchOutcome form1 list store recipes (length buffer) (length out)
+    unfolding searchOutcome
+    search-found m f =
+        let g : answer (searchJoinCode form1 list store recipes (length out)) (length (directSearch list store recipes)) ≡ Done m = sym answered ∙ f in
+        rw (
+          scan-code,
+          done-code (searchJoinCode form1 list store recipes (length out)) (length (directSearch list store recipes)) m g,
+          scan-length,
+          done-value (searchJoinCode form1 list store recipes (length out)) (length (directSearch list store recipes)) m g,
+        )
+
+    last-code : (c : ℕ) → firstOf (whole 0 ∷ whole c ∷ []) ≡ c
+    last-code zero = refl
+    last-code (suc c) = rw (lt-ltb 0 (suc c) (omega arith))
+
+    -- whatever the join answers, its buffer is the search's
+    pub search-list : joinBuffer form1 (take n (scanBuffer form1 list store buffer)) recipes out ≡ searchBuffer form1 list store recipes (length buffer) out
+    unfolding searchBuffer searchCode
+    search-list =
+        join-buffer list store (length buffer) scan-code (take n (scanBuffer form1 list store buffer)) recipes out scanned-front
+        ∙ rw (scan-code, last-code (searchJoinCode form1 list store recipes (length out)))
