@@ -1,0 +1,53 @@
+//! Processor time of this thread, medians, and a fixed loop that tells a slow phase of the machine from a quiet one.
+
+#[repr(C)]
+struct Timespec {
+    seconds: i64,
+    nanoseconds: i64,
+}
+
+extern "C" {
+    fn clock_gettime(clock: i32, time: *mut Timespec) -> i32;
+}
+
+/// Linux: processor time of the calling thread.
+const THREAD_TIME: i32 = 3;
+
+/// Processor time of this thread, in seconds.
+pub fn now() -> f64 {
+    let mut time = Timespec { seconds: 0, nanoseconds: 0 };
+    // SAFETY: the C library's function writes one timespec, whose layout on 64-bit Linux is this one.
+    let failed = unsafe { clock_gettime(THREAD_TIME, &mut time) };
+    assert!(failed == 0, "no thread clock");
+    time.seconds as f64 + time.nanoseconds as f64 / 1e9
+}
+
+/// How long the work takes, in seconds.
+pub fn timed<T>(work: impl FnOnce() -> T) -> (f64, T) {
+    let start = now();
+    let result = work();
+    (now() - start, result)
+}
+
+pub fn median(times: &[f64]) -> f64 {
+    let mut sorted = times.to_vec();
+    sorted.sort_by(f64::total_cmp);
+    sorted.get(sorted.len() / 2).copied().unwrap_or(0.0)
+}
+
+/// A fixed amount of work in the first-level cache, with four independent chains: about 10 ms on a quiet machine.
+pub fn calibration() -> f64 {
+    let table: Vec<u32> = (0..4096u32).map(|k| k.wrapping_mul(2_654_435_761)).collect();
+    let work = || {
+        let mut lanes = [1u32, 2, 3, 4];
+        for step in 0..2_500_000u32 {
+            for lane in &mut lanes {
+                *lane = lane.wrapping_add(table[(*lane >> 20) as usize]) ^ step;
+            }
+        }
+        lanes.iter().fold(0, |a, b| a ^ b)
+    };
+    let (time, result) = timed(work);
+    std::hint::black_box(result);
+    time
+}

@@ -1,0 +1,225 @@
+//! How long a search by scan and join takes, beside restoring each file and searching it.
+//!
+//!     bench [MEGABYTES] [ROUNDS] [--fresh] [--no-plain]
+//!
+//! Every row's methods run one after the other in each round, so that a row's ratios are of one run; times are medians of
+//! the rounds, in processor time of the thread. With each row stands the time of a fixed loop: rows whose loop took longer
+//! were run in a slow phase of the machine and only their ratios say something.
+
+mod clock;
+mod generate;
+mod peers;
+
+use clock::{calibration, median, timed};
+use generate::{empty_index, key, recipes, recipes_of, store_of, vault, Vault};
+use peers::{plain, restore_each, Automaton, Chunks};
+use std::hint::black_box;
+
+struct Options {
+    megabytes: usize,
+    rounds: usize,
+    /// Buffers are made inside the timed part.
+    fresh: bool,
+    plain: bool,
+}
+
+fn options() -> Option<Options> {
+    let mut options = Options { megabytes: 16, rounds: 5, fresh: false, plain: true };
+    let mut numbers = Vec::new();
+    for word in std::env::args().skip(1) {
+        match word.as_str() {
+            "--fresh" => options.fresh = true,
+            "--no-plain" => options.plain = false,
+            _ => numbers.push(word.parse::<usize>().ok().filter(|n| *n > 0)?),
+        }
+    }
+    options.megabytes = *numbers.first().unwrap_or(&options.megabytes);
+    options.rounds = *numbers.get(1).unwrap_or(&options.rounds);
+    Some(options)
+}
+
+fn main() {
+    let Some(options) = options() else {
+        eprintln!("usage: bench [MEGABYTES] [ROUNDS] [--fresh] [--no-plain]");
+        std::process::exit(64);
+    };
+    vault::on_large_stack(|| run(&options));
+}
+
+fn run(options: &Options) {
+    if vault::IS_MOCK {
+        println!("BUILT WITH THE FEATURE mock: scan and join are the oracle's, and their times say nothing of the library");
+    }
+    let vault = vault(options.megabytes << 20);
+    println!(
+        "store: {} bytes, {} chunks of 4 to 12 KiB of made-up text; {} rounds, medians, processor time",
+        vault.store.len(),
+        vault.chunks,
+        options.rounds
+    );
+    match options.fresh {
+        false => println!("buffers: written to before the first round and used again (no page of them is new when timed)"),
+        true => println!("buffers: made and zeroed inside each timed part"),
+    }
+    println!("plain, automaton: restore each file by its recipe, then search it; scan + join: ours; both give the same list");
+    println!("x plain, x autom: how many times as fast scan + join is; loop: the fixed loop's time beside the row\n");
+    println!(" ratio  keywords     plain  automaton      scan   scan       join  scan+join  x plain  x autom   ns/place  occurrences     loop");
+    println!("                        ms         ms        ms   MB/s         ms         ms                                                  ms");
+    let mut rows = Vec::new();
+    for ratio in [1.0, 3.5, 10.0, 50.0] {
+        for count in [1, 4, 16] {
+            for common in [true, false] {
+                rows.push(row(options, &vault, ratio, count, common));
+            }
+        }
+        println!();
+    }
+    a_place_and_an_occurrence(&rows);
+    directories(options);
+    many_places(options);
+}
+
+struct Row {
+    count: usize,
+    common: bool,
+    ratio: f64,
+    join: f64,
+    places: usize,
+    occurrences: usize,
+}
+
+/// One row: four methods in each round.
+fn row(options: &Options, vault: &Vault, ratio: f64, count: usize, common: bool) -> Row {
+    let words = if common { &vault.common } else { &vault.rare };
+    let keywords: Vec<&[u8]> = words[..count].iter().map(|w| &w[..]).collect();
+    let list = vault::keyword_list(false, &keywords).expect("different keywords");
+    let (recipes, places) = recipes(vault.chunks, ratio);
+    let chunks = Chunks::new(&vault.store);
+    let automaton = Automaton::new(&keywords);
+
+    // The list, once by each method: they must agree. What they wrote stays as warm buffers.
+    let mut index = vault::scan(&list, &vault.store).expect("a good store");
+    let mut out = vault::join_bytes(&index, &recipes).expect("good recipes");
+    let occurrences = out.len() / vault::ROW;
+    let mut found = Vec::with_capacity(occurrences);
+    let mut restored = Vec::new();
+    restore_each(&chunks, &recipes, &mut restored, |file, data| automaton.search(file, data, &mut found));
+    assert!(vault::occurrences(&out).eq(found.iter().copied()), "the automaton's list and ours differ");
+
+    let mut times: [Vec<f64>; 5] = Default::default();
+    for _ in 0..options.rounds {
+        times[0].push(calibration());
+        if options.fresh {
+            found = Vec::new();
+            restored = Vec::new();
+        }
+        if options.plain {
+            found.clear();
+            times[1].push(
+                timed(|| restore_each(&chunks, &recipes, &mut restored, |file, data| plain(&keywords, file, data, &mut found))).0,
+            );
+            assert!(found.len() == occurrences, "the plain loop's list and ours differ");
+        }
+        if options.fresh {
+            found = Vec::new();
+            restored = Vec::new();
+        }
+        found.clear();
+        times[2].push(
+            timed(|| restore_each(&chunks, &recipes, &mut restored, |file, data| automaton.search(file, data, &mut found))).0,
+        );
+        let (index_length, out_length) = (index.len(), out.len());
+        times[3].push(
+            timed(|| {
+                if options.fresh {
+                    index = vec![0; index_length];
+                }
+                vault::scan_into(&list, &vault.store, &mut index).expect("it was scanned before")
+            })
+            .0,
+        );
+        times[4].push(
+            timed(|| {
+                if options.fresh {
+                    out = vec![0; out_length];
+                }
+                vault::join_into(&index, &recipes, &mut out).expect("it was joined before")
+            })
+            .0,
+        );
+    }
+    let [fixed, by_plain, by_automaton, scan, join] = times.map(|t| 1e3 * median(&t));
+    let sum = scan + join;
+    println!(
+        "{ratio:>6}  {count:>2} {:<6} {by_plain:>9.1} {by_automaton:>10.1} {scan:>9.1} {:>6.0} {join:>10.2} {sum:>10.1} {:>8.1} {:>8.1} {:>10.1} {occurrences:>12} {fixed:>8.1}",
+        if common { "common" } else { "rare" },
+        vault.store.len() as f64 / 1e3 / scan,
+        by_plain / sum,
+        by_automaton / sum,
+        1e6 * join / places as f64,
+    );
+    Row { count, common, ratio, join, places, occurrences }
+}
+
+/// From the rows of the highest ratio: rare and common keywords differ in occurrences and not in places.
+fn a_place_and_an_occurrence(rows: &[Row]) {
+    println!("join at ratio 50, parted by rare and common keywords");
+    for count in [1, 4, 16] {
+        let of = |common: bool| rows.iter().find(|r| r.ratio == 50.0 && r.count == count && r.common == common);
+        if let (Some(common), Some(rare)) = (of(true), of(false)) {
+            let more = common.occurrences as f64 - rare.occurrences as f64;
+            let occurrence = 1e6 * (common.join - rare.join) / more.max(1.0);
+            let place = (1e6 * rare.join - occurrence * rare.occurrences as f64) / rare.places as f64;
+            println!("  {count:>2} keywords: {place:>6.1} ns a place, {occurrence:>6.1} ns an occurrence");
+        }
+    }
+    println!();
+}
+
+/// The median time of some work, in milliseconds, and the fixed loop's beside it.
+fn measured(options: &Options, mut work: impl FnMut()) -> (f64, f64) {
+    let (mut times, mut fixed) = (Vec::new(), Vec::new());
+    for _ in 0..options.rounds {
+        fixed.push(calibration());
+        times.push(timed(&mut work).0);
+    }
+    (1e3 * median(&times), 1e3 * median(&fixed))
+}
+
+/// The largest directory: checks and lookups.
+fn directories(options: &Options) {
+    let chunks: Vec<Vec<u8>> = (0..65_000).map(|_| vec![b'x']).collect();
+    let store = store_of(&chunks);
+    let list = vault::keyword_list(false, &[b"invoice"]).expect("a keyword");
+    let index = empty_index(&list, 65_000);
+    println!("65,000 entries");
+    let tell = |what: &str, (time, fixed): (f64, f64)| {
+        println!("  {what:<32} {time:>9.3} ms, {:>6.1} ns an entry (loop {fixed:.1} ms)", 1e6 * time / 65_000.0)
+    };
+    tell("store check", measured(options, || vault::check_store(black_box(&store)).expect("a good store")));
+    tell("index check, empty bodies", measured(options, || vault::check_index(black_box(&index)).expect("a good index")));
+    tell(
+        "chunk lookup, with the check",
+        measured(options, || {
+            black_box(vault::find_chunk(&store, &key(64_999)).expect("it is there"));
+        }),
+    );
+    println!();
+}
+
+/// Ten million places without an occurrence.
+fn many_places(options: &Options) {
+    println!("join of 65,000 entries with empty bodies and 10,000,000 places in 1,000 files");
+    let mut rng = generate::Rng(3);
+    let files: Vec<Vec<usize>> = (0..1000).map(|_| (0..10_000).map(|_| rng.below(65_000)).collect()).collect();
+    let recipes = recipes_of(&files);
+    let words: Vec<Vec<u8>> = (0..16u8).map(|k| vec![b'a' + k; 8]).collect();
+    for count in [1, 16] {
+        let keywords: Vec<&[u8]> = words[..count].iter().map(|w| &w[..]).collect();
+        let index = empty_index(&vault::keyword_list(false, &keywords).expect("different keywords"), 65_000);
+        let (time, fixed) = measured(options, || {
+            assert!(vault::join_into(&index, &recipes, &mut []).expect("good recipes") == 0);
+        });
+        println!("  {count:>2} keywords: {time:>9.1} ms, {:>6.1} ns a place (loop {fixed:.1} ms)", 1e6 * time / 1e7);
+    }
+}

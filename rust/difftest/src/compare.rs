@@ -1,0 +1,260 @@
+//! One case: every call of the library beside the oracle, with every byte of every buffer.
+
+use crate::inputs::Case;
+use crate::rng::Rng;
+use oracle::join::{self, Joined};
+use oracle::{calls, direct, index, keywords, recipes, store, U32};
+use std::collections::BTreeMap;
+use vault::raw;
+
+/// What was run.
+#[derive(Default)]
+pub struct Tally {
+    pub kinds: BTreeMap<&'static str, u64>,
+    /// Calls by operation and code.
+    pub codes: BTreeMap<(&'static str, u8), u64>,
+    pub occurrences: u64,
+    /// Lists that the direct search of restored files gave too.
+    pub direct: u64,
+    /// Bytes of buffers compared.
+    pub bytes: u64,
+}
+
+/// How a case is run.
+pub struct Limits {
+    /// Buffers above this length aren't made.
+    pub buffer: u64,
+    /// Restored bytes times keywords above which the direct search is left out.
+    pub direct: u64,
+    /// From this length on, a buffer is tried exact and one short only.
+    pub large: u64,
+}
+
+pub const USUAL: Limits = Limits { buffer: 1 << 30, direct: 1 << 30, large: 1 << 20 };
+
+pub struct Comparison<'a> {
+    pub tally: &'a mut Tally,
+    pub rng: &'a mut Rng,
+    pub limits: &'a Limits,
+}
+
+type Verdict = Result<(), String>;
+
+impl Comparison<'_> {
+    pub fn run(&mut self, case: &Case) -> Verdict {
+        *self.tally.kinds.entry(case.kind).or_default() += 1;
+        // Exact allocations, so that valgrind sees one byte too far.
+        let exact = |bytes: &[u8]| bytes.to_vec().into_boxed_slice();
+        let (list, stored, recipes) = (exact(&case.list), exact(&case.store), exact(&case.recipes));
+        let scanned = self.scans(&list, &stored)?;
+        let chunks = store::read(&stored);
+        for key in &case.keys {
+            self.lookup("find_chunk", raw::chunk(&stored, key), calls::chunk_in(&chunks, key))?;
+        }
+        let own = case.index.as_ref().map(|i| exact(i));
+        if let Some(index) = own.as_deref().or(scanned.as_deref().ok()) {
+            self.joins(index, &recipes)?;
+            let read = index::read(index);
+            for key in &case.keys {
+                self.lookup("find_body", raw::body(index, key), calls::body_in(&read, key))?;
+            }
+        }
+        self.searches(&list, &stored, &recipes, &scanned)?;
+        if (&*list, &*stored, &*recipes) != (&case.list[..], &case.store[..], &case.recipes[..])
+            || own.is_some_and(|i| Some(i.to_vec()) != case.index)
+        {
+            return Err("an input was changed".into());
+        }
+        Ok(())
+    }
+
+    fn code(&mut self, call: &'static str, got: u8, want: u8) -> Verdict {
+        *self.tally.codes.entry((call, want)).or_default() += 1;
+        if got != want {
+            return Err(format!("{call}: code {got}, the oracle says {want}"));
+        }
+        Ok(())
+    }
+
+    fn number(&mut self, call: &'static str, what: &str, got: u64, want: u64) -> Verdict {
+        if got != want {
+            return Err(format!("{call}: {what} {got}, the oracle says {want}"));
+        }
+        Ok(())
+    }
+
+    /// A buffer that held the pattern and now has these bytes in front.
+    fn buffer(&mut self, call: &'static str, buffer: &[u8], salt: u8, front: &[u8]) -> Verdict {
+        self.tally.bytes += buffer.len() as u64;
+        let (written, rest) = buffer.split_at(front.len());
+        if let Some(at) = (0..front.len()).find(|at| written[*at] != front[*at]) {
+            return Err(format!(
+                "{call}: byte {at} of {} is {:02x}, the oracle says {:02x}",
+                front.len(),
+                written[at],
+                front[at]
+            ));
+        }
+        if let Some(at) = (0..rest.len()).find(|at| rest[*at] != pattern_byte(salt, front.len() + at)) {
+            return Err(format!(
+                "{call}: byte {} after the {} written ones of a buffer of {} was changed",
+                at,
+                front.len(),
+                buffer.len()
+            ));
+        }
+        Ok(())
+    }
+
+    /// Lengths of buffers to try for something of this length: exact, one short, and others if it isn't large.
+    fn lengths(&mut self, exact: u64) -> Vec<usize> {
+        let mut lengths = vec![exact, exact.saturating_sub(1)];
+        if exact < self.limits.large {
+            lengths.extend([0, exact + 1, exact + 1 + self.rng.below(40) as u64, self.rng.below(exact as usize + 1) as u64]);
+        }
+        lengths.retain(|length| *length <= self.limits.buffer);
+        lengths.dedup();
+        lengths.into_iter().map(|length| length as usize).collect()
+    }
+
+    /// Keyword check, store check, the scan's length, and scans. Gives the index.
+    fn scans(&mut self, list: &[u8], bytes: &[u8]) -> Result<Result<Vec<u8>, u8>, String> {
+        self.code("check_keywords", raw::check_keywords(list), calls::check_keywords(list))?;
+        self.code("check_store", raw::check_store(bytes), calls::check_store(bytes))?;
+        let want = calls::index_of(list, bytes);
+        let (code, length) = raw::scan_size(list, bytes);
+        self.code("scan_size", code, want.as_ref().err().copied().unwrap_or(0))?;
+        let exact = want.as_ref().map_or(0, |index| index.len() as u64);
+        self.number("scan_size", "length", length, exact)?;
+        let lengths = if want.is_ok() { self.lengths(exact) } else { vec![0, self.rng.below(300)] };
+        for length in lengths {
+            let salt = self.rng.byte();
+            let mut out = pattern(salt, length);
+            let (code, written) = raw::scan(list, bytes, &mut out);
+            let (want_code, front) = fits(&want, length, 9);
+            self.code("scan", code, want_code)?;
+            self.number("scan", "length", written, front.len() as u64)?;
+            self.buffer("scan", &out, salt, front)?;
+        }
+        Ok(want)
+    }
+
+    /// Index check, the count, and joins.
+    fn joins(&mut self, bytes: &[u8], recipes: &[u8]) -> Verdict {
+        let index = index::read(bytes);
+        self.code("check_index", raw::check_index(bytes), index.as_ref().err().copied().unwrap_or(0))?;
+        let joined = index.as_ref().map_err(|code| *code).and_then(|index| Joined::new(index, recipes));
+        let count = joined.as_ref().map(Joined::count).map_err(|code| *code);
+        let (code, counted) = raw::count(bytes, recipes);
+        self.code("count", code, count.err().unwrap_or(0))?;
+        self.number("count", "count", counted, count.unwrap_or(0))?;
+        let exact = 9 * count.unwrap_or(0);
+        // Beyond the limit no list is made: every buffer that is tried is too short.
+        let list = match &joined {
+            Ok(joined) if exact <= self.limits.buffer => Ok(join::encode(&joined.list())),
+            Ok(_) => Err(18),
+            Err(code) => Err(*code),
+        };
+        let mut lengths = if list.is_ok() { self.lengths(exact) } else { vec![0, self.rng.below(300)] };
+        if exact > self.limits.buffer {
+            // 9 x count modulo 2^32, and a little more.
+            let wrapped = (exact & U32) as usize;
+            lengths.extend([wrapped, wrapped + 44_651].into_iter().filter(|length| *length as u64 <= self.limits.buffer));
+        }
+        for length in lengths {
+            let salt = self.rng.byte();
+            let mut out = pattern(salt, length);
+            let (code, counted) = raw::join(bytes, recipes, &mut out);
+            let (want_code, front) = fits(&list, length, 18);
+            self.code("join", code, want_code)?;
+            self.number("join", "count", counted, front.len() as u64 / 9)?;
+            self.buffer("join", &out, salt, front)?;
+        }
+        Ok(())
+    }
+
+    fn lookup(
+        &mut self,
+        call: &'static str,
+        (code, start, length): (u8, u64, u64),
+        want: Result<std::ops::Range<usize>, u8>,
+    ) -> Verdict {
+        self.code(call, code, want.as_ref().err().copied().unwrap_or(0))?;
+        let place = want.unwrap_or(0..0);
+        self.number(call, "start", start, place.start as u64)?;
+        self.number(call, "length", length, place.len() as u64)
+    }
+
+    /// Scan and join in one call, and the direct search of the restored files.
+    fn searches(&mut self, list: &[u8], bytes: &[u8], recipes: &[u8], index: &Result<Vec<u8>, u8>) -> Verdict {
+        let read = index.as_ref().map_err(|code| *code).and_then(|index| index::read(index));
+        let joined = read.as_ref().map_err(|code| *code).and_then(|read| Joined::new(read, recipes));
+        let exact = 9 * joined.as_ref().map_or(0, Joined::count);
+        let found = match &joined {
+            Ok(joined) if exact <= self.limits.buffer => Ok(joined.list()),
+            Ok(_) => Err(18),
+            Err(code) => Err(*code),
+        };
+        if let Ok(found) = &found {
+            self.tally.occurrences += found.len() as u64;
+            self.direct(list, bytes, recipes, found)?;
+        }
+        let rows = found.map(|found| join::encode(&found));
+        let length = index.as_ref().map_or(100, |index| index.len());
+        let room = if rows.is_ok() { exact as usize } else { 50 };
+        let more = self.rng.below(30);
+        let mut tries = vec![(length, room), (length, room.saturating_sub(1))];
+        if (length + room) as u64 <= self.limits.large {
+            tries.extend([(length - 1, room), (length + more, room + more)]);
+        }
+        for (length, room) in tries {
+            let (salt, pepper) = (self.rng.byte(), self.rng.byte());
+            let (mut indexed, mut out) = (pattern(salt, length), pattern(pepper, room));
+            let (code, index_length, count) = raw::search(list, bytes, recipes, &mut indexed, &mut out);
+            let (scan_code, index_front) = fits(index, length, 9);
+            let (join_code, front) = if scan_code == 0 { fits(&rows, room, 18) } else { (scan_code, &[][..]) };
+            self.code("search", code, join_code)?;
+            self.number("search", "index length", index_length, index_front.len() as u64)?;
+            self.number("search", "count", count, front.len() as u64 / 9)?;
+            self.buffer("search's index", &indexed, salt, index_front)?;
+            self.buffer("search's list", &out, pepper, front)?;
+        }
+        Ok(())
+    }
+
+    /// The oracle's join beside the direct search, where the files aren't too large for it.
+    fn direct(&mut self, list: &[u8], bytes: &[u8], recipe_bytes: &[u8], found: &[join::Occurrence]) -> Verdict {
+        let (Ok(keywords), Ok(chunks), Ok(files)) = (keywords::read(list), store::read(bytes), recipes::read(recipe_bytes))
+        else {
+            return Err("the oracle joined what it refuses to read".into());
+        };
+        let places = files.iter().map(Vec::len).sum::<usize>() as u64;
+        let longest = chunks.iter().map(|c| c.place.len()).max().unwrap_or(0) as u64;
+        if places * longest * keywords.words.len() as u64 > self.limits.direct {
+            return Ok(());
+        }
+        let restored = direct::restore(bytes, &chunks, &files).ok_or("the oracle joined a chunk that isn't there")?;
+        if direct::search(&keywords, &restored) != found {
+            return Err("the oracle's join and the direct search of the restored files differ (a fault of the oracle)".into());
+        }
+        self.tally.direct += 1;
+        Ok(())
+    }
+}
+
+/// The code and the bytes written for a buffer of that length.
+fn fits(bytes: &Result<Vec<u8>, u8>, length: usize, too_long: u8) -> (u8, &[u8]) {
+    match bytes {
+        Ok(bytes) if bytes.len() <= length && bytes.len() as u64 <= U32 => (0, bytes),
+        Ok(_) => (too_long, &[]),
+        Err(code) => (*code, &[]),
+    }
+}
+
+fn pattern_byte(salt: u8, at: usize) -> u8 {
+    (at as u8).wrapping_mul(167) ^ (at >> 8) as u8 ^ salt
+}
+
+fn pattern(salt: u8, length: usize) -> Box<[u8]> {
+    (0..length).map(|at| pattern_byte(salt, at)).collect()
+}

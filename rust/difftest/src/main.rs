@@ -1,0 +1,292 @@
+//! Differential test: the proved library beside the oracle, on inputs from a seed.
+//!
+//!     difftest [CASES] [SEED] [--quick] [--case K]
+//!
+//! First the cases by hand, then the large ones, then CASES random ones. `--quick` leaves the large ones out, so that
+//! valgrind can run it. A difference prints the seed and the case, writes its inputs to a folder, and ends with status 1.
+
+mod compare;
+mod damage;
+mod fixed;
+mod inputs;
+mod rng;
+
+use compare::{Comparison, Limits, Tally, USUAL};
+use inputs::Case;
+use rng::Rng;
+use std::process::ExitCode;
+use std::time::{Duration, Instant};
+
+struct Arguments {
+    cases: u64,
+    seed: u64,
+    quick: bool,
+    only: Option<u64>,
+}
+
+fn arguments() -> Result<Arguments, String> {
+    let mut arguments = Arguments { cases: 0, seed: 20_261_115, quick: false, only: None };
+    let mut numbers = Vec::new();
+    let mut words = std::env::args().skip(1);
+    while let Some(word) = words.next() {
+        let number = |word: Option<String>| word.and_then(|w| w.parse::<u64>().ok());
+        match word.as_str() {
+            "--quick" => arguments.quick = true,
+            "--case" => arguments.only = Some(number(words.next()).ok_or("--case wants a number")?),
+            _ => numbers.push(number(Some(word.clone())).ok_or(format!("not a number: {word}"))?),
+        }
+    }
+    arguments.cases = *numbers.first().unwrap_or(if arguments.quick { &150 } else { &20_000 });
+    arguments.seed = *numbers.get(1).unwrap_or(&arguments.seed);
+    Ok(arguments)
+}
+
+fn main() -> ExitCode {
+    match arguments() {
+        Ok(arguments) => vault::on_large_stack(|| run(&arguments)),
+        Err(why) => {
+            eprintln!("{why}\nusage: difftest [CASES] [SEED] [--quick] [--case K]");
+            ExitCode::from(2)
+        }
+    }
+}
+
+/// A random case: sound, damaged in one input, in two, made up, or noise.
+fn random(rng: &mut Rng) -> Case {
+    match rng.below(100) {
+        0..=29 => inputs::vault(rng, "vaults").0,
+        30..=36 => {
+            let (mut case, _, _) = inputs::vault(rng, "damaged keywords");
+            damage::keywords(rng, &mut case.list);
+            case
+        }
+        37..=46 => {
+            let (mut case, _, _) = inputs::vault(rng, "damaged store");
+            damage::store(rng, &mut case.store);
+            case
+        }
+        47..=58 => damaged_index(rng, "damaged index"),
+        59..=65 => {
+            let (mut case, _, _) = inputs::vault(rng, "damaged recipes");
+            damage::recipes(rng, &mut case.recipes);
+            case
+        }
+        66..=75 => two_faults(rng),
+        76..=87 => inputs::made_up(rng, "made-up records").0,
+        88..=95 => {
+            let (mut case, _, mut entries) = inputs::made_up(rng, "made-up records, bad body");
+            let bad = rng.below(entries.len());
+            damage::body(rng, &mut entries[bad].2);
+            case.index = Some(oracle::index::encode(&case.list, &entries));
+            case
+        }
+        96..=97 => long_chunks(rng),
+        _ => noise(rng),
+    }
+}
+
+fn damaged_index(rng: &mut Rng, kind: &'static str) -> Case {
+    let (mut case, _, _) = inputs::vault(rng, kind);
+    if let Ok(mut index) = oracle::calls::index_of(&case.list, &case.store) {
+        damage::index(rng, &mut index, case.list.len());
+        case.index = Some(index);
+    }
+    case
+}
+
+/// Two faults, in one input or in two.
+fn two_faults(rng: &mut Rng) -> Case {
+    let mut case = damaged_index(rng, "two faults");
+    let list = case.list.len();
+    for _ in 0..2 {
+        match rng.below(5) {
+            0 => damage::keywords(rng, &mut case.list),
+            1 => damage::store(rng, &mut case.store),
+            2 => damage::recipes(rng, &mut case.recipes),
+            3 => case.keys = vec![rng.bytes(20), rng.bytes(19), vec![]],
+            _ => damage::index(rng, case.index.get_or_insert_default(), list),
+        }
+    }
+    case
+}
+
+/// Chunks with hundreds of occurrences, around the borders of the kinds.
+fn long_chunks(rng: &mut Rng) -> Case {
+    let (mut case, words, keys) = inputs::vault(rng, "long chunks");
+    let word = rng.pick(&words.keywords.words).clone();
+    let mut chunks = Vec::new();
+    for key in keys.iter().take(4) {
+        let count = rng.range(250, 260);
+        let mut data: Vec<u8> = word.iter().copied().cycle().take(word.len() * count).collect();
+        data.truncate(data.len() - rng.below(2));
+        data.truncate(65_535);
+        chunks.push((*key, data));
+    }
+    case.store = oracle::store::encode(&chunks);
+    case
+}
+
+fn noise(rng: &mut Rng) -> Case {
+    let mut bytes = |mark: &[u8]| {
+        let length = rng.below(120);
+        let mut bytes = rng.bytes(length);
+        if rng.percent(70) {
+            bytes.splice(0..bytes.len().min(mark.len()), mark.iter().copied());
+        }
+        bytes
+    };
+    Case {
+        kind: "noise",
+        list: bytes(&[1, 0, 2]),
+        store: bytes(&[0x44, 0x56, 0x31, 0x0A, 1, 0, 0, 0]),
+        index: Some(bytes(&[0x44, 0x4D, 0x31, 0x0A, 1, 0, 0, 0, 1, 0, 1, 65])),
+        recipes: bytes(&[2, 0, 0, 0, 1, 0, 0, 0]),
+        keys: vec![bytes(&[]), vec![1; 20]],
+    }
+}
+
+struct Run<'a> {
+    seed: u64,
+    tally: Tally,
+    limits: &'a Limits,
+}
+
+impl Run<'_> {
+    /// Runs a case; a difference is told and its inputs are kept.
+    fn one(&mut self, number: &str, case: &Case, rng: &mut Rng) -> bool {
+        let verdict = Comparison { tally: &mut self.tally, rng, limits: self.limits }.run(case);
+        let Err(why) = verdict else { return true };
+        println!("\nDIFFERENCE in case {number} of seed {}, kind \"{}\"", self.seed, case.kind);
+        println!("  {why}");
+        println!("  again: difftest 0 {} --case {number}", self.seed);
+        let folder = format!("difftest-{}-{number}", self.seed);
+        match keep(&folder, case) {
+            Ok(()) => println!("  its inputs are in {folder}/"),
+            Err(error) => println!("  its inputs could not be written to {folder}/: {error}"),
+        }
+        false
+    }
+}
+
+fn keep(folder: &str, case: &Case) -> std::io::Result<()> {
+    std::fs::create_dir_all(folder)?;
+    let write = |name: &str, bytes: &[u8]| std::fs::write(format!("{folder}/{name}"), bytes);
+    write("words.bin", &case.list)?;
+    write("store.bin", &case.store)?;
+    write("recipes.bin", &case.recipes)?;
+    case.index.as_ref().map_or(Ok(()), |index| write("index.bin", index))?;
+    case.keys.iter().enumerate().try_for_each(|(k, key)| write(&format!("key{k}.bin"), key))
+}
+
+/// Case numbers of the cases by hand and of the large ones, so that each can be run alone.
+const BY_HAND: u64 = 1_000_000_000;
+const LARGE: u64 = 2_000_000_000;
+
+fn run(arguments: &Arguments) -> ExitCode {
+    let started = Instant::now();
+    let mut run = Run { seed: arguments.seed, tally: Tally::default(), limits: &USUAL };
+    println!(
+        "library: {}",
+        if vault::IS_MOCK { "the unproved stand-in (feature mock): this tests nothing but the test" } else { "libvault_c.a" }
+    );
+    println!("seed {}, {} random cases{}", arguments.seed, arguments.cases, if arguments.quick { ", quick" } else { "" });
+    if !all(arguments, &mut run, started) {
+        return ExitCode::FAILURE;
+    }
+    report(&run.tally, started.elapsed());
+    let missing = missing(&run.tally);
+    if arguments.only.is_some() || arguments.quick || arguments.cases < 5_000 {
+        return ExitCode::SUCCESS;
+    }
+    if !missing.is_empty() {
+        println!("FAILED: codes that no case reached: {}", missing.join(", "));
+        return ExitCode::FAILURE;
+    }
+    ExitCode::SUCCESS
+}
+
+fn all(arguments: &Arguments, run: &mut Run, started: Instant) -> bool {
+    let wanted = |number: u64| arguments.only.is_none_or(|only| only == number);
+    for (k, case) in fixed::small().iter().enumerate() {
+        let number = BY_HAND + k as u64;
+        if wanted(number) && !run.one(&number.to_string(), case, &mut Rng::of_case(arguments.seed, number)) {
+            return false;
+        }
+    }
+    if !arguments.quick {
+        for (k, (name, make)) in fixed::large().iter().enumerate() {
+            let number = LARGE + k as u64;
+            if !wanted(number) {
+                continue;
+            }
+            eprintln!("[{:>6.1} s] large: {name}", started.elapsed().as_secs_f64());
+            let mut rng = Rng::of_case(arguments.seed, number);
+            for case in make(&mut rng) {
+                if !run.one(&number.to_string(), &case, &mut rng) {
+                    return false;
+                }
+            }
+        }
+    }
+    let mut told = Instant::now();
+    for number in 0..arguments.cases.max(arguments.only.filter(|only| *only < BY_HAND).map_or(0, |only| only + 1)) {
+        if !wanted(number) {
+            continue;
+        }
+        let mut rng = Rng::of_case(arguments.seed, number);
+        let case = random(&mut rng);
+        if !run.one(&number.to_string(), &case, &mut rng) {
+            return false;
+        }
+        if told.elapsed() > Duration::from_secs(10) {
+            eprintln!("[{:>6.1} s] {number} random cases", started.elapsed().as_secs_f64());
+            told = Instant::now();
+        }
+    }
+    true
+}
+
+/// The codes that each operation can give.
+const REACHABLE: [(&str, &[u8]); 10] = [
+    ("check_keywords", &[0, 1, 2, 3, 4]),
+    ("check_store", &[0, 5, 6, 7, 8]),
+    ("check_index", &[0, 1, 2, 3, 4, 10, 11, 12, 13]),
+    ("scan_size", &[0, 1, 2, 3, 4, 5, 6, 7, 8]),
+    ("scan", &[0, 1, 2, 3, 4, 5, 6, 7, 8, 9]),
+    ("count", &[0, 1, 2, 3, 4, 10, 11, 12, 13, 14, 15, 16, 17]),
+    ("join", &[0, 1, 2, 3, 4, 10, 11, 12, 13, 14, 15, 16, 17, 18]),
+    ("find_chunk", &[0, 5, 6, 7, 8, 15, 19]),
+    ("find_body", &[0, 1, 2, 3, 4, 10, 11, 12, 13, 15, 19]),
+    ("search", &[0, 1, 2, 3, 4, 5, 6, 7, 8, 9, 14, 15, 16, 17, 18]),
+];
+
+fn missing(tally: &Tally) -> Vec<String> {
+    let mut missing = Vec::new();
+    for (call, codes) in REACHABLE {
+        missing
+            .extend(codes.iter().filter(|code| !tally.codes.contains_key(&(call, **code))).map(|code| format!("{call} {code}")));
+    }
+    missing
+}
+
+fn report(tally: &Tally, time: Duration) {
+    println!("\ncases by kind");
+    for (kind, count) in &tally.kinds {
+        println!("  {count:>8}  {kind}");
+    }
+    println!("\ncalls by operation and code (0: done)");
+    for (call, _) in REACHABLE {
+        let reached: Vec<String> =
+            tally.codes.iter().filter(|((c, _), _)| *c == call).map(|((_, code), count)| format!("{code}:{count}")).collect();
+        println!("  {call:<15} {}", reached.join(" "));
+    }
+    let calls: u64 = tally.codes.values().sum();
+    println!(
+        "\n{} cases, {calls} answers compared, {} bytes of buffers, {} occurrences listed,",
+        tally.kinds.values().sum::<u64>(),
+        tally.bytes,
+        tally.occurrences
+    );
+    println!("{} lists the same as the direct search of the restored files, {:.1} s", tally.direct, time.as_secs_f64());
+    println!("no difference");
+}

@@ -1,0 +1,221 @@
+//! The operations in the shape of the C interface: a code (0: done), a number (0 on refusal), and lent buffers.
+
+use crate::index::Index;
+use crate::join::Joined;
+use crate::store::Chunk;
+use crate::{index, join, keywords, store, Code, U32};
+use std::ops::Range;
+
+/// A call's code, and its length or count.
+#[derive(Clone, Copy, Debug, PartialEq, Eq)]
+pub struct Answer {
+    pub code: Code,
+    pub value: u64,
+}
+
+impl From<Result<u64, Code>> for Answer {
+    fn from(result: Result<u64, Code>) -> Answer {
+        match result {
+            Ok(value) => Answer { code: 0, value },
+            Err(code) => Answer { code, value: 0 },
+        }
+    }
+}
+
+fn code<T>(result: Result<T, Code>) -> Code {
+    result.err().unwrap_or(0)
+}
+
+pub fn check_keywords(list: &[u8]) -> Code {
+    code(keywords::read(list))
+}
+
+pub fn check_store(bytes: &[u8]) -> Code {
+    code(store::read(bytes))
+}
+
+pub fn check_index(bytes: &[u8]) -> Code {
+    code(index::read(bytes))
+}
+
+/// The index that a scan writes, whatever its length: refusals 1 to 8.
+pub fn index_of(list: &[u8], store: &[u8]) -> Result<Vec<u8>, Code> {
+    let keywords = keywords::read(list)?;
+    let chunks = store::read(store)?;
+    Ok(index::of_scan(list, &keywords, store, &chunks))
+}
+
+pub fn scan_size(list: &[u8], store: &[u8]) -> Answer {
+    let size = || {
+        let keywords = keywords::read(list)?;
+        let chunks = store::read(store)?;
+        Ok(index::length_of_scan(&keywords, store, &chunks))
+    };
+    size().into()
+}
+
+pub fn scan(list: &[u8], store: &[u8], out: &mut [u8]) -> Answer {
+    let mut run = || {
+        let bytes = index_of(list, store)?;
+        if bytes.len() as u64 > U32 {
+            return Err(9);
+        }
+        put(out, &bytes, 9)
+    };
+    run().into()
+}
+
+/// Writes bytes to the buffer's front; the code given, and nothing written, if they are more than it holds.
+fn put(out: &mut [u8], bytes: &[u8], too_long: Code) -> Result<u64, Code> {
+    if bytes.len() > out.len() {
+        return Err(too_long);
+    }
+    out[..bytes.len()].copy_from_slice(bytes);
+    Ok(bytes.len() as u64)
+}
+
+pub fn count(bytes: &[u8], recipes: &[u8]) -> Answer {
+    let run = || {
+        let index = index::read(bytes)?;
+        Ok(Joined::new(&index, recipes)?.count())
+    };
+    run().into()
+}
+
+pub fn join(bytes: &[u8], recipes: &[u8], out: &mut [u8]) -> Answer {
+    let mut run = || {
+        let index = index::read(bytes)?;
+        let joined = Joined::new(&index, recipes)?;
+        let count = joined.count();
+        if 9 * count > out.len() as u64 {
+            return Err(18);
+        }
+        put(out, &join::encode(&joined.list()), 18)?;
+        Ok(count)
+    };
+    run().into()
+}
+
+/// Where a fingerprint's chunk lies in the store.
+pub fn chunk(bytes: &[u8], key: &[u8]) -> Result<Range<usize>, Code> {
+    chunk_in(&store::read(bytes), key)
+}
+
+/// The same, of a store that was read.
+pub fn chunk_in(chunks: &Result<Vec<Chunk>, Code>, key: &[u8]) -> Result<Range<usize>, Code> {
+    let chunks = chunks.as_ref().map_err(|code| *code)?;
+    if key.len() != 20 {
+        return Err(19);
+    }
+    chunks.iter().find(|c| c.key == *key).map(|c| c.place.clone()).ok_or(15)
+}
+
+/// Where a fingerprint's body lies in the index.
+pub fn body(bytes: &[u8], key: &[u8]) -> Result<Range<usize>, Code> {
+    body_in(&index::read(bytes), key)
+}
+
+/// The same, of an index that was read.
+pub fn body_in(index: &Result<Index, Code>, key: &[u8]) -> Result<Range<usize>, Code> {
+    let index = index.as_ref().map_err(|code| *code)?;
+    if key.len() != 20 {
+        return Err(19);
+    }
+    index.entries.iter().find(|e| e.key == *key).map(|e| e.body.clone()).ok_or(15)
+}
+
+/// A scan and then a join of what it wrote: a code, the index's length (0 if the scan refused), the count.
+pub fn search(list: &[u8], store: &[u8], recipes: &[u8], index: &mut [u8], out: &mut [u8]) -> (Code, u64, u64) {
+    let scanned = scan(list, store, index);
+    if scanned.code != 0 {
+        return (scanned.code, 0, 0);
+    }
+    let joined = join(&index[..scanned.value as usize], recipes, out);
+    (joined.code, scanned.value, joined.value)
+}
+
+#[cfg(test)]
+mod tests {
+    use super::*;
+    use crate::keywords::list_of;
+    use crate::{direct, recipes};
+
+    fn small() -> (Vec<u8>, Vec<u8>, Vec<u8>) {
+        let store = store::encode(&[([1; 20], &b"XAB"[..]), ([2; 20], b"ABAX"), ([3; 20], b"A")]);
+        let recipes = recipes::encode(&[vec![[1; 20], [2; 20]], vec![[3; 20], [3; 20]], vec![]]);
+        (list_of(false, &[b"ABA", b"AA"]), store, recipes)
+    }
+
+    #[test]
+    fn the_small_vault() {
+        let (list, store, recipes) = small();
+        let (mut index, mut out) = (vec![0xEE; 140], vec![0xEE; 30]);
+        assert_eq!(search(&list, &store, &recipes, &mut index, &mut out), (0, 136, 3));
+        assert_eq!(index[136..], [0xEE; 4]);
+        let row = |file: u8, offset: u8, word: u8| [file, 0, 0, 0, offset, 0, 0, 0, word];
+        assert_eq!(out[..27], [row(0, 1, 0), row(0, 3, 0), row(1, 0, 1)].concat());
+        assert_eq!(out[27..], [0xEE; 3]);
+    }
+
+    #[test]
+    fn exact_buffers_fit_and_shorter_ones_change_nothing() {
+        let (list, store, recipes) = small();
+        let mut index = vec![0xEE; 136];
+        let mut short = vec![0xEE; 135];
+        assert_eq!(scan(&list, &store, &mut short), Answer { code: 9, value: 0 });
+        assert_eq!(short, [0xEE; 135]);
+        assert_eq!(scan(&list, &store, &mut index), Answer { code: 0, value: 136 });
+        let mut out = vec![0xEE; 26];
+        assert_eq!(join(&index, &recipes, &mut out), Answer { code: 18, value: 0 });
+        assert_eq!(out, [0xEE; 26]);
+        assert_eq!(join(&index, &recipes, &mut vec![0; 27]), Answer { code: 0, value: 3 });
+        assert_eq!(join(&index, &[0, 0, 0, 0], &mut []), Answer { code: 0, value: 0 });
+    }
+
+    #[test]
+    fn a_short_inner_chunk_is_refused() {
+        let (list, store, _) = small();
+        let index = index_of(&list, &store).unwrap();
+        let three = recipes::encode(&[vec![[1; 20], [3; 20], [2; 20]]]);
+        assert_eq!(count(&index, &three), Answer { code: 17, value: 0 });
+        let two = recipes::encode(&[vec![[1; 20], [3; 20]]]);
+        let mut out = [0; 9];
+        assert_eq!(join(&index, &two, &mut out), Answer { code: 0, value: 1 });
+        assert_eq!(out, [0, 0, 0, 0, 1, 0, 0, 0, 0]);
+    }
+
+    #[test]
+    fn lookups() {
+        let (list, store, _) = small();
+        let index = index_of(&list, &store).unwrap();
+        assert_eq!(chunk(&store, &[2; 20]), Ok(95..99));
+        assert_eq!(chunk(&store, &[4; 20]), Err(15));
+        assert_eq!(chunk(&store, &[2; 19]), Err(19));
+        assert_eq!(chunk(&store[..99], &[2; 19]), Err(7));
+        assert_eq!(body(&index, &[3; 20]), Ok(130..136));
+        assert_eq!(body(&index, &[4; 20]), Err(15));
+        assert_eq!(body(&index, &[]), Err(19));
+    }
+
+    #[test]
+    fn the_join_is_the_direct_search() {
+        let words: &[&[u8]] = &[b"ABA", b"AA", b"A", b"BAAB"];
+        let list = list_of(true, words);
+        let pieces: &[&[u8]] = &[b"XAB", b"abaX", b"AAA", b"bab", b"aAaAa", b"Baa"];
+        let chunks: Vec<_> = pieces.iter().enumerate().map(|(k, p)| ([k as u8; 20], *p)).collect();
+        let store = store::encode(&chunks);
+        let mut files = vec![];
+        for a in 0..6u8 {
+            for b in 0..6u8 {
+                for c in 0..6u8 {
+                    files.push(vec![[a; 20], [b; 20], [c; 20]]);
+                }
+            }
+        }
+        let index = index::read(&index_of(&list, &store).unwrap()).unwrap();
+        let joined = Joined::new(&index, &recipes::encode(&files)).unwrap().list();
+        let restored = direct::restore(&store, &store::read(&store).unwrap(), &files).unwrap();
+        assert_eq!(joined, direct::search(&keywords::read(&list).unwrap(), &restored));
+        assert!(joined.len() > 500);
+    }
+}

@@ -1,0 +1,61 @@
+//! A plain implementation of document 01, written from the paper and from nothing else.
+//!
+//! It is here to be compared with: nothing is clever, every test stands in the paper's order, every sum is
+//! taken in 64 bits, and every function answers for all inputs. Each module is one section of the paper:
+//!
+//! * [`keywords`]: "Words", with the word check;
+//! * [`store`]: "Store", with the store check;
+//! * [`records`]: "Notes on one chunk and one word", and their written form;
+//! * [`index`]: "Notes file", with the notes check;
+//! * [`recipes`]: "Recipes", with refusals 14 to 17;
+//! * [`join`]: "Joining two notes" and the join;
+//! * [`direct`]: the restored files searched byte by byte, which knows no records at all;
+//! * [`calls`]: the operations in the shape of the C interface (a code, a number, lent buffers).
+
+pub mod calls;
+pub mod direct;
+pub mod index;
+pub mod join;
+pub mod keywords;
+pub mod recipes;
+pub mod records;
+pub mod store;
+
+/// The number of a refusal, 1 to 19.
+pub type Code = u8;
+
+/// A fingerprint: 20 opaque bytes.
+pub type Fingerprint = [u8; 20];
+
+/// The largest number of 4 bytes.
+pub const U32: u64 = 4_294_967_295;
+
+/// Chunks that a store or an index may have.
+pub const MOST_CHUNKS: u64 = 65_000;
+
+/// The longest chunk.
+pub const LONGEST_CHUNK: u64 = 65_535;
+
+/// The 4 bytes at `at`, least significant first. The caller has tested that they are there.
+pub(crate) fn number(bytes: &[u8], at: usize) -> u64 {
+    let field = &bytes[at..at + 4];
+    u64::from(u32::from_le_bytes([field[0], field[1], field[2], field[3]]))
+}
+
+/// The 20 bytes at `at`. The caller has tested that they are there.
+pub(crate) fn fingerprint(bytes: &[u8], at: usize) -> Fingerprint {
+    let mut key = [0; 20];
+    key.copy_from_slice(&bytes[at..at + 20]);
+    key
+}
+
+/// Whether some fingerprint is there twice.
+pub(crate) fn twice<'a>(keys: impl Iterator<Item = &'a Fingerprint>) -> bool {
+    let mut seen = std::collections::HashSet::new();
+    for key in keys {
+        if !seen.insert(key) {
+            return true;
+        }
+    }
+    false
+}

@@ -1,0 +1,272 @@
+//! Document 01, "Notes on one chunk and one word" and the bodies of "Notes file".
+
+use crate::keywords::{alike, Keywords};
+
+/// What is noted of one chunk and one keyword.
+#[derive(Clone, Debug, Default, PartialEq, Eq)]
+pub struct Record {
+    pub prefix: usize,
+    pub suffix: usize,
+    /// The finds, rising.
+    pub offsets: Vec<usize>,
+}
+
+/// The largest prefix or suffix: the smaller of n - 1 and L.
+pub fn reach(n: usize, size: usize) -> usize {
+    (n - 1).min(size)
+}
+
+/// The record of a chunk and a keyword.
+pub fn record_of(fold: bool, word: &[u8], chunk: &[u8]) -> Record {
+    let (n, size) = (word.len(), chunk.len());
+    let ends_with = |i: &usize| alike(fold, &chunk[size - i..], &word[..*i]);
+    let starts_with = |j: &usize| alike(fold, &chunk[..*j], &word[n - j..]);
+    let lengths = 0..=reach(n, size);
+    Record {
+        prefix: lengths.clone().rev().find(ends_with).unwrap_or(0),
+        suffix: lengths.rev().find(starts_with).unwrap_or(0),
+        offsets: (0..size).filter(|at| crate::keywords::stands_at(fold, word, chunk, *at)).collect(),
+    }
+}
+
+/// A record for each keyword.
+pub fn records_of(keywords: &Keywords, chunk: &[u8]) -> Vec<Record> {
+    keywords.words.iter().map(|word| record_of(keywords.fold, word, chunk)).collect()
+}
+
+impl Record {
+    pub fn is_empty(&self) -> bool {
+        self.prefix == 0 && self.suffix == 0 && self.offsets.is_empty()
+    }
+
+    pub fn is_tiny(&self) -> bool {
+        !self.is_empty() && self.offsets.is_empty() && self.prefix <= 1 && self.suffix <= 1
+    }
+
+    /// The bytes of keyword k's record: none if it is empty.
+    pub fn encode(&self, k: usize) -> Vec<u8> {
+        if self.is_empty() {
+            return vec![];
+        }
+        if self.is_tiny() {
+            return vec![k as u8, 0, (self.prefix + 2 * self.suffix) as u8];
+        }
+        let count = self.offsets.len();
+        let kind = match count {
+            0 | 1 => 1,
+            2..=254 => 2,
+            _ => 3,
+        };
+        let mut bytes = vec![k as u8, kind, self.prefix as u8, self.suffix as u8, count.min(255) as u8];
+        let mut put = |number: usize| bytes.extend_from_slice(&(number as u16).to_le_bytes());
+        put(self.offsets.first().copied().unwrap_or(0));
+        if kind == 3 {
+            put(count);
+        }
+        if kind >= 2 {
+            self.offsets.iter().for_each(|at| put(*at));
+        }
+        bytes
+    }
+}
+
+/// A body: the records by rising keyword number.
+pub fn encode_body(records: &[Record]) -> Vec<u8> {
+    records.iter().enumerate().flat_map(|(k, record)| record.encode(k)).collect()
+}
+
+/// The records that a good body says, one for each keyword; `None` if the body isn't good for a chunk of length `size`.
+///
+/// It asks for every property of the written form by itself, and does not write the records again to compare.
+pub fn decode_body(keywords: &Keywords, size: usize, body: &[u8]) -> Option<Vec<Record>> {
+    let mut records = vec![Record::default(); keywords.words.len()];
+    let mut reader = Reader { rest: body };
+    let mut next = 0;
+    while !reader.rest.is_empty() {
+        let k = reader.byte()?;
+        if k < next || k >= records.len() {
+            return None;
+        }
+        next = k + 1;
+        records[k] = decode_record(&mut reader, keywords.words[k].len(), size)?;
+    }
+    Some(records)
+}
+
+/// The record behind its keyword number, for a keyword of length n.
+fn decode_record(reader: &mut Reader, n: usize, size: usize) -> Option<Record> {
+    let kind = reader.byte()?;
+    let record = match kind {
+        0 => {
+            let both = reader.byte()?;
+            if !(1..=3).contains(&both) {
+                return None;
+            }
+            Record { prefix: both % 2, suffix: both / 2, offsets: vec![] }
+        }
+        1..=3 => {
+            let (prefix, suffix, count, first) = (reader.byte()?, reader.byte()?, reader.byte()?, reader.two()?);
+            let offsets = match (kind, count) {
+                (1, 0) if first == 0 && prefix.max(suffix) >= 2 => vec![],
+                (1, 1) => vec![first],
+                (2, 2..=254) => reader.offsets(count)?,
+                (3, 255) => match reader.two()? {
+                    exact @ 255.. => reader.offsets(exact)?,
+                    _ => return None,
+                },
+                _ => return None,
+            };
+            if offsets.first().is_some_and(|at| *at != first) {
+                return None;
+            }
+            Record { prefix, suffix, offsets }
+        }
+        _ => return None,
+    };
+    in_range(&record, n, size).then_some(record)
+}
+
+/// Prefix and suffix in range, offsets rising and at most L - n.
+pub fn in_range(record: &Record, n: usize, size: usize) -> bool {
+    record.prefix <= reach(n, size)
+        && record.suffix <= reach(n, size)
+        && record.offsets.windows(2).all(|two| two[0] < two[1])
+        && record.offsets.iter().all(|at| at + n <= size)
+}
+
+/// Reads from the front of some bytes; `None` where they are cut short.
+struct Reader<'a> {
+    rest: &'a [u8],
+}
+
+impl Reader<'_> {
+    fn byte(&mut self) -> Option<usize> {
+        let (first, rest) = self.rest.split_first()?;
+        self.rest = rest;
+        Some(usize::from(*first))
+    }
+
+    fn two(&mut self) -> Option<usize> {
+        Some(self.byte()? + 256 * self.byte()?)
+    }
+
+    fn offsets(&mut self, count: usize) -> Option<Vec<usize>> {
+        (0..count).map(|_| self.two()).collect()
+    }
+}
+
+#[cfg(test)]
+mod tests {
+    use super::*;
+    use crate::keywords::{list_of, read};
+
+    fn words(list: &[&[u8]]) -> Keywords {
+        read(&list_of(false, list)).unwrap()
+    }
+
+    fn record(prefix: usize, suffix: usize, offsets: &[usize]) -> Record {
+        Record { prefix, suffix, offsets: offsets.to_vec() }
+    }
+
+    #[test]
+    fn the_small_vault() {
+        let keywords = words(&[b"ABA", b"AA"]);
+        let body = |chunk: &[u8]| encode_body(&records_of(&keywords, chunk));
+        assert_eq!(body(b"XAB"), [0, 1, 2, 0, 0, 0, 0]);
+        assert_eq!(body(b"ABAX"), [0, 1, 0, 1, 1, 0, 0, 1, 0, 2]);
+        assert_eq!(body(b"A"), [0, 0, 3, 1, 0, 3]);
+    }
+
+    #[test]
+    fn prefix_and_suffix_stop() {
+        assert_eq!(record_of(false, b"AAAA", b"AAAA"), record(3, 3, &[0]));
+        assert_eq!(record_of(false, b"AAAA", b"AA"), record(2, 2, &[]));
+        assert_eq!(record_of(false, b"AA", b"AAA"), record(1, 1, &[0, 1]));
+        assert_eq!(record_of(false, b"A", b"AxA"), record(0, 0, &[0, 2]));
+        assert_eq!(record_of(true, b"bB", b"xb"), record(1, 0, &[]));
+    }
+
+    #[test]
+    fn kinds_by_count() {
+        for (count, kind, byte, size) in
+            [(1, 1, 1, 7), (2, 2, 2, 11), (254, 2, 254, 515), (255, 3, 255, 519), (256, 3, 255, 521), (65_535, 3, 255, 131_079)]
+        {
+            let body = encode_body(&records_of(&words(&[b"A"]), &vec![b'A'; count]));
+            assert_eq!((body[1], body[4], body.len()), (kind, byte, size), "{count} finds");
+            assert_eq!(decode_body(&words(&[b"A"]), count, &body), Some(vec![record(0, 0, &(0..count).collect::<Vec<_>>())]));
+        }
+    }
+
+    #[test]
+    fn good_bodies_need_not_be_true() {
+        let keywords = words(&[b"DEDUP"]);
+        for records in [record(4, 4, &[]), record(0, 0, &[0, 1]), record(4, 4, &[3])] {
+            let body = records.encode(0);
+            assert_eq!(decode_body(&keywords, 8, &body), Some(vec![records]));
+        }
+        assert!(decode_body(&keywords, 4, &record(4, 4, &[]).encode(0)).is_some());
+        assert!(decode_body(&keywords, 3, &record(4, 4, &[]).encode(0)).is_none());
+    }
+
+    #[test]
+    fn one_written_form() {
+        let keywords = words(&[b"ABA", b"Q", b"AA"]);
+        let bad: &[&[u8]] = &[
+            &[0],                                       // cut after its keyword number
+            &[0, 0],                                    // cut
+            &[0, 0, 0],                                 // a tiny byte of 0
+            &[0, 0, 4],                                 // a tiny byte above 3
+            &[1, 0, 1],                                 // tiny for a keyword of one byte
+            &[3, 0, 1],                                 // no such keyword
+            &[0, 4, 1],                                 // no such kind
+            &[0, 1, 0, 0, 0, 0, 0],                     // nothing at all
+            &[0, 1, 1, 0, 0, 0, 0],                     // kind 1 where tiny is due
+            &[0, 1, 2, 0, 0, 1, 0],                     // no find, a first offset
+            &[0, 1, 2, 0, 2, 1, 0],                     // kind 1 with two finds
+            &[0, 1, 3, 0, 0, 0, 0],                     // a prefix of length n
+            &[0, 1, 0, 3, 0, 0, 0],                     // a suffix of length n
+            &[0, 1, 0, 0, 1, 8, 0],                     // an offset above L - n
+            &[0, 2, 2, 0, 0, 0, 0],                     // kind 2 without finds
+            &[0, 2, 0, 0, 1, 1, 0, 1, 0],               // kind 2 with one
+            &[0, 2, 0, 0, 2, 0, 0, 1, 0, 2, 0],         // its first offset isn't the head's
+            &[0, 2, 0, 0, 2, 1, 0, 1, 0, 1, 0],         // equal offsets
+            &[0, 2, 0, 0, 2, 2, 0, 2, 0, 1, 0],         // falling offsets
+            &[0, 2, 0, 0, 2, 1, 0, 1, 0, 2],            // cut in an offset
+            &[0, 3, 0, 0, 255, 1, 0, 2, 0, 1, 0, 2, 0], // exact count below 255
+            &[0, 0, 1, 0, 0, 1],                        // a keyword twice
+            &[2, 0, 1, 0, 0, 1],                        // falling keywords
+            &[0, 0, 1, 9],                              // bytes after the last record
+        ];
+        for body in bad {
+            assert_eq!(decode_body(&keywords, 10, body), None, "{body:?}");
+        }
+        let good: &[&[u8]] = &[
+            &[],
+            &[0, 0, 1],
+            &[0, 0, 3, 2, 0, 2],
+            &[0, 1, 0, 0, 1, 7, 0],
+            &[0, 1, 0, 0, 1, 0, 0],
+            &[1, 1, 0, 0, 1, 9, 0],
+            &[0, 2, 0, 0, 2, 1, 0, 1, 0, 2, 0],
+        ];
+        for body in good {
+            let records = decode_body(&keywords, 10, body).unwrap();
+            assert_eq!(encode_body(&records), *body);
+        }
+        assert_eq!(decode_body(&keywords, 10, &[1, 1, 0, 0, 1, 10, 0]), None);
+        assert_eq!(decode_body(&keywords, 2, &[0, 1, 0, 0, 1, 0, 0]), None);
+    }
+
+    #[test]
+    fn kind_3_is_exact() {
+        let keywords = words(&[b"A"]);
+        let mut body = record(0, 0, &(0..255).collect::<Vec<_>>()).encode(0);
+        assert!(decode_body(&keywords, 255, &body).is_some());
+        assert!(decode_body(&keywords, 254, &body).is_none());
+        body[4] = 254;
+        assert!(decode_body(&keywords, 255, &body).is_none());
+        body[4] = 255;
+        body[1] = 2;
+        assert!(decode_body(&keywords, 255, &body).is_none());
+    }
+}

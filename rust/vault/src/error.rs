@@ -1,0 +1,52 @@
+//! The refusals of document 01.
+
+use std::fmt;
+
+/// A refusal: its number, and what it means. A call that refuses has changed no buffer.
+#[derive(Clone, Copy, Debug, PartialEq, Eq)]
+pub struct Error {
+    pub code: u8,
+    pub meaning: &'static str,
+}
+
+/// The refusals, by number from 1.
+const MEANINGS: [&str; 19] = [
+    "the keyword list is cut short, or has bytes left over",
+    "the keyword list's count is not 1 to 16, or its fold flag is neither 0 nor 1",
+    "a keyword's length is not 1 to 32",
+    "two keywords compare alike",
+    "not a store: fewer than 8 bytes, or another mark",
+    "the store's chunk count is above 65,000, or its directory is cut short",
+    "a store entry has a length that is not 1 to 65,535 or a wrong offset, or the last chunk doesn't end where the store does",
+    "a fingerprint is in the store twice",
+    "the index is longer than the buffer, or than 4,294,967,295 bytes",
+    "not an index: fewer than 8 bytes, another mark, or a chunk count above 65,000",
+    "the index's directory is cut short, an entry has a wrong chunk length or offset, or the last body doesn't end where the file does",
+    "a fingerprint is in the index twice",
+    "a body of the index is not the written form of match records",
+    "not recipes: under 4 bytes, more than 65,535 files, cut short, or with bytes left over",
+    "a fingerprint is not there",
+    "a file of the recipes has more than 4,294,967,295 bytes",
+    "a chunk inside a file is shorter than the longest keyword less one byte, so that a keyword could cross it whole",
+    "the list of occurrences is longer than the buffer",
+    "a fingerprint is not 20 bytes",
+];
+
+impl Error {
+    /// The refusal of that number; numbers outside 1 to 19 are not document 01's, and say so.
+    pub fn new(code: u8) -> Error {
+        let meaning = match code {
+            1..=19 => MEANINGS[usize::from(code) - 1],
+            _ => "a number that document 01 doesn't name",
+        };
+        Error { code, meaning }
+    }
+}
+
+impl fmt::Display for Error {
+    fn fmt(&self, f: &mut fmt::Formatter) -> fmt::Result {
+        write!(f, "refused {}: {}", self.code, self.meaning)
+    }
+}
+
+impl std::error::Error for Error {}

@@ -1,0 +1,339 @@
+//! Search over deduplicated backups: safe Rust over the proved library `libvault_c.a`.
+//!
+//! * A **store** holds each distinct chunk once. **Recipes** say which chunks make up each file.
+//! * [`scan`] reads each chunk once for up to 16 **keywords** and writes a **match index**.
+//! * [`join`] takes the index and recipes, and no chunk, and lists every [`Occurrence`] in the restored files: by file,
+//!   then offset, then keyword, each exactly once, also those that cross from one chunk into the next.
+//!
+//! Every function takes every input: what isn't a good file is refused with an [`Error`], and a refused call changes no
+//! buffer. What is proved is the library behind; this crate checks nothing again and only names things.
+//!
+//! The library works on the stack and wants about [`STACK`] bytes of it: a thread that Rust started has 2 MB, so call from
+//! the main thread or through [`on_large_stack`].
+//!
+//! ```no_run
+//! let keywords = vault::keyword_list(false, &[b"invoice", b"paid"]).unwrap();
+//! let (store, recipes) = (std::fs::read("store.bin").unwrap(), std::fs::read("recipes.bin").unwrap());
+//! let index = vault::scan(&keywords, &store).unwrap();
+//! for found in vault::join(&index, &recipes).unwrap() {
+//!     println!("file {} offset {} keyword {}", found.file, found.offset, found.keyword);
+//! }
+//! ```
+
+mod error;
+mod ffi;
+#[cfg(feature = "mock")]
+mod mock;
+pub mod raw;
+
+pub use error::Error;
+
+/// A stack that is large enough for every call, in bytes.
+pub const STACK: usize = 64 << 20;
+
+/// Bytes that an occurrence takes in a list: file (4), offset (4), keyword (1).
+pub const ROW: usize = 9;
+
+/// The longest index that a scan writes.
+pub const LONGEST_INDEX: u64 = 4_294_967_295;
+
+/// Whether the calls reach the unproved stand-in (feature `mock`) and not the proved library.
+pub const IS_MOCK: bool = cfg!(feature = "mock");
+
+/// Where a keyword occurs: the file's number in the recipes, the offset in the restored file, the keyword's number.
+#[derive(Clone, Copy, Debug, PartialEq, Eq, PartialOrd, Ord, Hash)]
+pub struct Occurrence {
+    pub file: u32,
+    pub offset: u32,
+    pub keyword: u8,
+}
+
+/// Who refused in a search.
+#[derive(Clone, Copy, Debug, PartialEq, Eq)]
+pub enum SearchError {
+    /// The scan refused. No buffer was changed.
+    Scan(Error),
+    /// The scan wrote an index of that length, and the join refused. The list's buffer was not changed.
+    Join { index_length: usize, error: Error },
+}
+
+impl SearchError {
+    pub fn error(&self) -> Error {
+        match self {
+            SearchError::Scan(error) | SearchError::Join { error, .. } => *error,
+        }
+    }
+}
+
+impl std::fmt::Display for SearchError {
+    fn fmt(&self, f: &mut std::fmt::Formatter) -> std::fmt::Result {
+        match self {
+            SearchError::Scan(error) => write!(f, "scan: {error}"),
+            SearchError::Join { error, .. } => write!(f, "join: {error}"),
+        }
+    }
+}
+
+impl std::error::Error for SearchError {}
+
+/// What a search wrote.
+#[derive(Clone, Copy, Debug, PartialEq, Eq)]
+pub struct Searched {
+    pub index_length: usize,
+    pub count: usize,
+}
+
+fn done(code: u8) -> Result<(), Error> {
+    match code {
+        0 => Ok(()),
+        code => Err(Error::new(code)),
+    }
+}
+
+fn valued((code, value): (u8, u64)) -> Result<u64, Error> {
+    done(code).map(|()| value)
+}
+
+/// The bytes of a keyword list, checked.
+pub fn keyword_list(fold: bool, keywords: &[&[u8]]) -> Result<Vec<u8>, Error> {
+    let byte = |n: usize| u8::try_from(n).unwrap_or(u8::MAX);
+    let mut list = vec![byte(keywords.len()), fold as u8];
+    for keyword in keywords {
+        list.push(byte(keyword.len()));
+        list.extend_from_slice(keyword);
+    }
+    check_keywords(&list).map(|()| list)
+}
+
+/// The keywords of a list that [`check_keywords`] accepts; of other lists, what can be read.
+pub fn keywords_of(list: &[u8]) -> Vec<&[u8]> {
+    let mut keywords = Vec::new();
+    let mut rest = list.get(2..).unwrap_or(&[]);
+    for _ in 0..list.first().copied().unwrap_or(0) {
+        let Some((&n, behind)) = rest.split_first() else { break };
+        let (keyword, next) = behind.split_at(behind.len().min(usize::from(n)));
+        keywords.push(keyword);
+        rest = next;
+    }
+    keywords
+}
+
+/// The keyword list of an index that [`check_index`] accepts, with what follows it.
+pub fn keywords_in_index(index: &[u8]) -> &[u8] {
+    index.get(8..).unwrap_or(&[])
+}
+
+/// Refusals 1 to 4.
+pub fn check_keywords(list: &[u8]) -> Result<(), Error> {
+    done(raw::check_keywords(list))
+}
+
+/// Refusals 5 to 8.
+pub fn check_store(store: &[u8]) -> Result<(), Error> {
+    done(raw::check_store(store))
+}
+
+/// Refusals 10, 1 to 4, 11 to 13.
+pub fn check_index(index: &[u8]) -> Result<(), Error> {
+    done(raw::check_index(index))
+}
+
+/// The length of the index that a scan writes. Refusals 1 to 8.
+pub fn scan_size(list: &[u8], store: &[u8]) -> Result<u64, Error> {
+    valued(raw::scan_size(list, store))
+}
+
+/// Writes the index to the buffer's front and gives its length; what follows stays as it was. Refusals 1 to 9.
+pub fn scan_into(list: &[u8], store: &[u8], out: &mut [u8]) -> Result<usize, Error> {
+    valued(raw::scan(list, store, out)).map(|length| length as usize)
+}
+
+/// The index. Refusals 1 to 8, and 9 where it would be longer than [`LONGEST_INDEX`].
+///
+/// Most indexes are far shorter than the store, so a quarter of the store's length is tried first (memory that isn't
+/// written to costs nothing), and only where that doesn't do is the length asked for.
+pub fn scan(list: &[u8], store: &[u8]) -> Result<Vec<u8>, Error> {
+    let mut index = vec![0; store.len() / 4 + (1 << 20)];
+    let written = match scan_into(list, store, &mut index) {
+        Err(Error { code: 9, .. }) => {
+            let length = scan_size(list, store)?;
+            if length > LONGEST_INDEX {
+                return Err(Error::new(9));
+            }
+            index = vec![0; length as usize];
+            scan_into(list, store, &mut index)?
+        }
+        answer => answer?,
+    };
+    index.truncate(written);
+    index.shrink_to_fit();
+    Ok(index)
+}
+
+/// The number of occurrences. Refusals of the index check, 14 to 17.
+pub fn count(index: &[u8], recipes: &[u8]) -> Result<u64, Error> {
+    valued(raw::count(index, recipes))
+}
+
+/// Writes the list to the buffer's front, [`ROW`] bytes an occurrence, and gives the count; what follows stays as it
+/// was. Refusals of the index check, 14 to 18.
+pub fn join_into(index: &[u8], recipes: &[u8], out: &mut [u8]) -> Result<usize, Error> {
+    valued(raw::join(index, recipes, out)).map(|count| count as usize)
+}
+
+/// The list's bytes. Refusals of the index check, 14 to 17; 18 where no memory could hold them.
+///
+/// A list of some megabytes is tried first; only a longer one is counted and then made.
+pub fn join_bytes(index: &[u8], recipes: &[u8]) -> Result<Vec<u8>, Error> {
+    let mut bytes = vec![0; 4 << 20];
+    let written = match join_into(index, recipes, &mut bytes) {
+        Err(Error { code: 18, .. }) => {
+            let length = count(index, recipes)?.checked_mul(ROW as u64).filter(|length| *length <= isize::MAX as u64);
+            bytes = vec![0; length.ok_or(Error::new(18))? as usize];
+            join_into(index, recipes, &mut bytes)?
+        }
+        answer => answer?,
+    };
+    bytes.truncate(ROW * written);
+    bytes.shrink_to_fit();
+    Ok(bytes)
+}
+
+/// Every occurrence. Refusals of the index check, 14 to 17.
+pub fn join(index: &[u8], recipes: &[u8]) -> Result<Vec<Occurrence>, Error> {
+    Ok(occurrences(&join_bytes(index, recipes)?).collect())
+}
+
+/// The occurrences of a list's bytes.
+pub fn occurrences(list: &[u8]) -> impl ExactSizeIterator<Item = Occurrence> + '_ {
+    list.chunks_exact(ROW).map(|row| Occurrence {
+        file: u32::from_le_bytes([row[0], row[1], row[2], row[3]]),
+        offset: u32::from_le_bytes([row[4], row[5], row[6], row[7]]),
+        keyword: row[8],
+    })
+}
+
+/// A fingerprint's chunk, a part of the store. Refusals of the store check, 19, 15.
+pub fn find_chunk<'a>(store: &'a [u8], fingerprint: &[u8]) -> Result<&'a [u8], Error> {
+    part(store, raw::chunk(store, fingerprint))
+}
+
+/// A fingerprint's body, a part of the index; it may be empty. Refusals of the index check, 19, 15.
+pub fn find_body<'a>(index: &'a [u8], fingerprint: &[u8]) -> Result<&'a [u8], Error> {
+    part(index, raw::body(index, fingerprint))
+}
+
+fn part(whole: &[u8], (code, start, length): (u8, u64, u64)) -> Result<&[u8], Error> {
+    done(code).map(|()| &whole[start as usize..(start + length) as usize])
+}
+
+/// A scan into one buffer and a join of what it wrote into another.
+pub fn search_into(list: &[u8], store: &[u8], recipes: &[u8], index: &mut [u8], out: &mut [u8]) -> Result<Searched, SearchError> {
+    let (code, length, count) = raw::search(list, store, recipes, index, out);
+    let index_length = length as usize;
+    match code {
+        0 => Ok(Searched { index_length, count: count as usize }),
+        code if length == 0 => Err(SearchError::Scan(Error::new(code))),
+        code => Err(SearchError::Join { index_length, error: Error::new(code) }),
+    }
+}
+
+/// Every occurrence in the restored files, by a scan and a join of its index.
+pub fn search(list: &[u8], store: &[u8], recipes: &[u8]) -> Result<Vec<Occurrence>, SearchError> {
+    let index = scan(list, store).map_err(SearchError::Scan)?;
+    join(&index, recipes).map_err(|error| SearchError::Join { index_length: index.len(), error })
+}
+
+/// Runs `work` on a thread whose stack is large enough for every call, and waits for it.
+pub fn on_large_stack<T: Send>(work: impl FnOnce() -> T + Send) -> T {
+    std::thread::scope(|scope| {
+        let thread = std::thread::Builder::new().stack_size(STACK).spawn_scoped(scope, work).expect("a thread can be started");
+        match thread.join() {
+            Ok(result) => result,
+            Err(panic) => std::panic::resume_unwind(panic),
+        }
+    })
+}
+
+#[cfg(test)]
+mod tests {
+    use super::*;
+
+    /// The small vault of document 01: keywords, store, recipes.
+    fn small() -> (Vec<u8>, Vec<u8>, Vec<u8>) {
+        let mut store = vec![0x44, 0x56, 0x31, 0x0A, 3, 0, 0, 0];
+        for (key, offset, length) in [(1, 92, 3), (2, 95, 4), (3, 99, 1)] {
+            store.extend_from_slice(&[key; 20]);
+            store.extend_from_slice(&[offset, 0, 0, 0, length, 0, 0, 0]);
+        }
+        store.extend_from_slice(b"XABABAXA");
+        let mut recipes = vec![3, 0, 0, 0];
+        for file in [&[1, 2][..], &[3, 3], &[]] {
+            recipes.extend_from_slice(&[file.len() as u8, 0, 0, 0]);
+            file.iter().for_each(|key| recipes.extend_from_slice(&[*key; 20]));
+        }
+        (keyword_list(false, &[b"ABA", b"AA"]).unwrap(), store, recipes)
+    }
+
+    #[test]
+    fn the_small_vault() {
+        on_large_stack(|| {
+            let (list, store, recipes) = small();
+            let index = scan(&list, &store).unwrap();
+            assert_eq!(index.len(), 136);
+            assert_eq!(index[113..], [0, 1, 2, 0, 0, 0, 0, 0, 1, 0, 1, 1, 0, 0, 1, 0, 2, 0, 0, 3, 1, 0, 3]);
+            let found = |file, offset, keyword| Occurrence { file, offset, keyword };
+            let want = vec![found(0, 1, 0), found(0, 3, 0), found(1, 0, 1)];
+            assert_eq!(join(&index, &recipes), Ok(want.clone()));
+            assert_eq!(search(&list, &store, &recipes), Ok(want));
+            assert_eq!(count(&index, &recipes), Ok(3));
+            let (mut a, mut b) = ([7; 136], [7; 28]);
+            assert_eq!(search_into(&list, &store, &recipes, &mut a, &mut b), Ok(Searched { index_length: 136, count: 3 }));
+            assert_eq!((&a[..], b[27]), (&index[..], 7));
+        });
+    }
+
+    #[test]
+    fn lookups_are_parts_of_the_input() {
+        on_large_stack(|| {
+            let (list, store, _) = small();
+            let index = scan(&list, &store).unwrap();
+            let chunk = find_chunk(&store, &[2; 20]).unwrap();
+            assert_eq!((chunk, chunk.as_ptr()), (&b"ABAX"[..], store[95..].as_ptr()));
+            let body = find_body(&index, &[3; 20]).unwrap();
+            assert_eq!((body, body.as_ptr()), (&index[130..], index[130..].as_ptr()));
+            assert_eq!(find_chunk(&store, &[4; 20]).unwrap_err().code, 15);
+            assert_eq!(find_body(&index, &[4; 3]).unwrap_err().code, 19);
+        });
+    }
+
+    #[test]
+    fn refusals() {
+        on_large_stack(|| {
+            let (list, store, recipes) = small();
+            let index = scan(&list, &store).unwrap();
+            assert_eq!(keyword_list(true, &[b"Ab", b"aB"]).unwrap_err().code, 4);
+            assert_eq!(keyword_list(true, &[&[b'a'; 300]]).unwrap_err().code, 3);
+            assert_eq!(check_store(&store[1..]).unwrap_err().code, 5);
+            assert_eq!(check_index(&index[..135]).unwrap_err().code, 11);
+            let mut short = [7; 135];
+            assert_eq!(scan_into(&list, &store, &mut short).unwrap_err().code, 9);
+            assert_eq!(short, [7; 135]);
+            assert_eq!(count(&index, &recipes[1..]).unwrap_err().code, 14);
+            let mut index_buffer = [7; 140];
+            let refused = search_into(&list, &store, &recipes, &mut index_buffer, &mut [0; 26]);
+            assert_eq!(refused, Err(SearchError::Join { index_length: 136, error: Error::new(18) }));
+            assert_eq!(refused.unwrap_err().to_string(), "join: refused 18: the list of occurrences is longer than the buffer");
+            let refused = search_into(&list, &store[..8], &recipes, &mut index_buffer, &mut []);
+            assert_eq!(refused, Err(SearchError::Scan(Error::new(6))));
+        });
+    }
+
+    #[test]
+    fn every_refusal_has_its_sentence() {
+        for code in 1..=19 {
+            assert!(!Error::new(code).meaning.contains("doesn't name"));
+        }
+        assert!(Error::new(20).meaning.contains("doesn't name"));
+    }
+}

@@ -1,0 +1,121 @@
+//! The C interface served by the oracle, for work without the proved library. Nothing here is proved.
+
+use oracle::calls;
+use std::slice::{from_raw_parts, from_raw_parts_mut};
+
+pub unsafe fn vault_check_keywords(list: *const u8, list_length: usize) -> u8 {
+    calls::check_keywords(from_raw_parts(list, list_length))
+}
+
+pub unsafe fn vault_check_store(store: *const u8, store_length: usize) -> u8 {
+    calls::check_store(from_raw_parts(store, store_length))
+}
+
+pub unsafe fn vault_check_index(index: *const u8, index_length: usize) -> u8 {
+    calls::check_index(from_raw_parts(index, index_length))
+}
+
+pub unsafe fn vault_scan_size(
+    list: *const u8,
+    list_length: usize,
+    store: *const u8,
+    store_length: usize,
+    length: *mut u64,
+) -> u8 {
+    let answer = calls::scan_size(from_raw_parts(list, list_length), from_raw_parts(store, store_length));
+    *length = answer.value;
+    answer.code
+}
+
+pub unsafe fn vault_scan(
+    list: *const u8,
+    list_length: usize,
+    store: *const u8,
+    store_length: usize,
+    out: *mut u8,
+    out_length: usize,
+    length: *mut u64,
+) -> u8 {
+    let out = from_raw_parts_mut(out, out_length);
+    let answer = calls::scan(from_raw_parts(list, list_length), from_raw_parts(store, store_length), out);
+    *length = answer.value;
+    answer.code
+}
+
+pub unsafe fn vault_count(
+    index: *const u8,
+    index_length: usize,
+    recipes: *const u8,
+    recipes_length: usize,
+    count: *mut u64,
+) -> u8 {
+    let answer = calls::count(from_raw_parts(index, index_length), from_raw_parts(recipes, recipes_length));
+    *count = answer.value;
+    answer.code
+}
+
+pub unsafe fn vault_join(
+    index: *const u8,
+    index_length: usize,
+    recipes: *const u8,
+    recipes_length: usize,
+    out: *mut u8,
+    out_length: usize,
+    count: *mut u64,
+) -> u8 {
+    let out = from_raw_parts_mut(out, out_length);
+    let answer = calls::join(from_raw_parts(index, index_length), from_raw_parts(recipes, recipes_length), out);
+    *count = answer.value;
+    answer.code
+}
+
+pub unsafe fn vault_find_chunk(store: *const u8, store_length: usize, key: *const u8, key_length: usize) -> u8 {
+    calls::chunk(from_raw_parts(store, store_length), from_raw_parts(key, key_length)).err().unwrap_or(0)
+}
+
+pub unsafe fn vault_chunk_start(store: *const u8, store_length: usize, key: *const u8, key_length: usize) -> u64 {
+    calls::chunk(from_raw_parts(store, store_length), from_raw_parts(key, key_length)).map_or(0, |place| place.start as u64)
+}
+
+pub unsafe fn vault_chunk_length(store: *const u8, store_length: usize, key: *const u8, key_length: usize) -> u64 {
+    calls::chunk(from_raw_parts(store, store_length), from_raw_parts(key, key_length)).map_or(0, |place| place.len() as u64)
+}
+
+pub unsafe fn vault_find_body(index: *const u8, index_length: usize, key: *const u8, key_length: usize) -> u8 {
+    calls::body(from_raw_parts(index, index_length), from_raw_parts(key, key_length)).err().unwrap_or(0)
+}
+
+pub unsafe fn vault_body_start(index: *const u8, index_length: usize, key: *const u8, key_length: usize) -> u64 {
+    calls::body(from_raw_parts(index, index_length), from_raw_parts(key, key_length)).map_or(0, |place| place.start as u64)
+}
+
+pub unsafe fn vault_body_length(index: *const u8, index_length: usize, key: *const u8, key_length: usize) -> u64 {
+    calls::body(from_raw_parts(index, index_length), from_raw_parts(key, key_length)).map_or(0, |place| place.len() as u64)
+}
+
+#[allow(clippy::too_many_arguments)]
+pub unsafe fn vault_search(
+    list: *const u8,
+    list_length: usize,
+    store: *const u8,
+    store_length: usize,
+    recipes: *const u8,
+    recipes_length: usize,
+    index: *mut u8,
+    index_buffer_length: usize,
+    out: *mut u8,
+    out_length: usize,
+    index_length: *mut u64,
+    count: *mut u64,
+) -> u8 {
+    let (code, length, found) = calls::search(
+        from_raw_parts(list, list_length),
+        from_raw_parts(store, store_length),
+        from_raw_parts(recipes, recipes_length),
+        from_raw_parts_mut(index, index_buffer_length),
+        from_raw_parts_mut(out, out_length),
+    );
+    *index_length = length;
+    *count = found;
+    code
+}

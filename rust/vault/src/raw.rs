@@ -1,0 +1,86 @@
+//! The C interface as safe functions, and no more: codes and numbers as they come. `lib.rs` has the ones to use.
+
+use crate::ffi;
+
+/// What a number holds before a call, so that a call that doesn't write it is seen.
+const UNWRITTEN: u64 = 0xA5A5_A5A5_A5A5_A5A5;
+
+pub fn check_keywords(list: &[u8]) -> u8 {
+    // SAFETY: here and below, each pointer is a slice's or a number's, with the slice's own length, and Rust's borrows
+    // keep what is written apart from everything else that is passed.
+    unsafe { ffi::vault_check_keywords(list.as_ptr(), list.len()) }
+}
+
+pub fn check_store(store: &[u8]) -> u8 {
+    unsafe { ffi::vault_check_store(store.as_ptr(), store.len()) }
+}
+
+pub fn check_index(index: &[u8]) -> u8 {
+    unsafe { ffi::vault_check_index(index.as_ptr(), index.len()) }
+}
+
+/// Code and length.
+pub fn scan_size(list: &[u8], store: &[u8]) -> (u8, u64) {
+    let mut length = UNWRITTEN;
+    let code = unsafe { ffi::vault_scan_size(list.as_ptr(), list.len(), store.as_ptr(), store.len(), &mut length) };
+    (code, length)
+}
+
+/// Code and length.
+pub fn scan(list: &[u8], store: &[u8], out: &mut [u8]) -> (u8, u64) {
+    let mut length = UNWRITTEN;
+    let code = unsafe {
+        ffi::vault_scan(list.as_ptr(), list.len(), store.as_ptr(), store.len(), out.as_mut_ptr(), out.len(), &mut length)
+    };
+    (code, length)
+}
+
+/// Code and count.
+pub fn count(index: &[u8], recipes: &[u8]) -> (u8, u64) {
+    let mut count = UNWRITTEN;
+    let code = unsafe { ffi::vault_count(index.as_ptr(), index.len(), recipes.as_ptr(), recipes.len(), &mut count) };
+    (code, count)
+}
+
+/// Code and count.
+pub fn join(index: &[u8], recipes: &[u8], out: &mut [u8]) -> (u8, u64) {
+    let mut count = UNWRITTEN;
+    let code = unsafe {
+        ffi::vault_join(index.as_ptr(), index.len(), recipes.as_ptr(), recipes.len(), out.as_mut_ptr(), out.len(), &mut count)
+    };
+    (code, count)
+}
+
+/// Code, start and length.
+pub fn chunk(store: &[u8], key: &[u8]) -> (u8, u64, u64) {
+    let (s, n, k, m) = (store.as_ptr(), store.len(), key.as_ptr(), key.len());
+    unsafe { (ffi::vault_find_chunk(s, n, k, m), ffi::vault_chunk_start(s, n, k, m), ffi::vault_chunk_length(s, n, k, m)) }
+}
+
+/// Code, start and length.
+pub fn body(index: &[u8], key: &[u8]) -> (u8, u64, u64) {
+    let (i, n, k, m) = (index.as_ptr(), index.len(), key.as_ptr(), key.len());
+    unsafe { (ffi::vault_find_body(i, n, k, m), ffi::vault_body_start(i, n, k, m), ffi::vault_body_length(i, n, k, m)) }
+}
+
+/// Code, the index's length and the count.
+pub fn search(list: &[u8], store: &[u8], recipes: &[u8], index: &mut [u8], out: &mut [u8]) -> (u8, u64, u64) {
+    let (mut length, mut count) = (UNWRITTEN, UNWRITTEN);
+    let code = unsafe {
+        ffi::vault_search(
+            list.as_ptr(),
+            list.len(),
+            store.as_ptr(),
+            store.len(),
+            recipes.as_ptr(),
+            recipes.len(),
+            index.as_mut_ptr(),
+            index.len(),
+            out.as_mut_ptr(),
+            out.len(),
+            &mut length,
+            &mut count,
+        )
+    };
+    (code, length, count)
+}
