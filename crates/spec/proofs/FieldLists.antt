@@ -3,12 +3,12 @@ use mathlib.Core.Path.{_≡_, refl, sym, ap, ap₂, _∙_, subst}
 use mathlib.Core.Bool.{Bool, true, false, _&&_}
 use mathlib.Core.List.{List, [], _∷_, _++_, append-assoc}
 use Prim.Native.Nat.{ℕ, zero, suc, _+_, _-_, _*_, _/_, _%_, _^_, _≤_, _<_}
-use native.Mathlib.Nat.{add-mul-div-left, add-mul-mod-self-left, mod-eq-of-lt, div-eq-of-lt, zero-add, mul-suc, pow-suc, mul-zero}
+use native.Mathlib.Nat.{add-mul-div-left, add-mul-mod-self-left, mod-eq-of-lt, div-eq-of-lt, zero-add, mul-suc, pow-suc, mul-zero, min-le-left, pow-le-pow-right}
 use native.Mathlib.Omega.{arith}
 use lib.Dec.{ltb, ltb→lt}
-use lib.ListN.{length, take, drop, getD, length-append, length-drop, take-append-drop}
+use lib.ListN.{length, take, drop, getD, length-append, length-take, length-drop, take-append-drop}
 use lib.Seq.{take-at, drop-at, take-add, getD-drop, getD-take, length-take-le}
-use Rattle.spec.specs.Bytes.{leValue, leBytes, fieldsOf, fieldsBytes, every}
+use Rattle.spec.specs.Bytes.{leValue, leBytes, fieldAt, fieldsOf, fieldsBytes, every}
 use Rattle.spec.proofs.Fields.{length-leBytes, leValue-leBytes}
 use Rattle.spec.proofs.Tests.{T-of, and-left, and-right}
 
@@ -18,6 +18,12 @@ AllBytes bytes = (i : ℕ) → getD bytes i 0 < 256
 
 pub bytes-drop : (n : ℕ) (bytes : List ℕ) → AllBytes bytes → AllBytes (drop n bytes)
 bytes-drop n bytes b i = rw getD-drop (b (n + i))
+
+pub bytes-take : (n : ℕ) (l : List ℕ) → AllBytes l → AllBytes (take n l)
+bytes-take zero l b i = omega arith
+bytes-take (suc n) [] b i = omega arith
+bytes-take (suc n) (x ∷ l) b zero = b 0
+bytes-take (suc n) (x ∷ l) b (suc i) = bytes-take n l (λ j. b (suc j)) i
 
 -- ---- one field
 
@@ -42,12 +48,12 @@ leBytes-leValue (x ∷ bs) b =
 -- the first w bytes
 pub leBytes-take : (w : ℕ) (bytes : List ℕ) → AllBytes bytes → w ≤ length bytes → leBytes w (leValue (take w bytes)) ≡ take w bytes
 leBytes-take w bytes b h = ap (λ (n : ℕ). leBytes n (leValue (take w bytes))) (sym (length-take-le w bytes h)) ∙ leBytes-leValue (take w bytes) (bytes-take w bytes b)
-  where
-    bytes-take : (n : ℕ) (l : List ℕ) → AllBytes l → AllBytes (take n l)
-    bytes-take zero l b i = omega arith
-    bytes-take (suc n) [] b i = omega arith
-    bytes-take (suc n) (x ∷ l) b zero = b 0
-    bytes-take (suc n) (x ∷ l) b (suc i) = bytes-take n l (λ j. b (suc j)) i
+
+-- a field is below the power of its width, also where bytes are missing
+pub field-lt : (bytes : List ℕ) (at w : ℕ) → AllBytes bytes → fieldAt bytes at w < 256 ^ w
+field-lt bytes at w b =
+    let l : length (take w (drop at bytes)) ≤ w = rw length-take (min-le-left w (length (drop at bytes))) in
+    omega (arith, leValue-bound (take w (drop at bytes)) (bytes-take w (drop at bytes) (bytes-drop at bytes b)), pow-le-pow-right {n = 256} (omega arith) {i = length (take w (drop at bytes))} {j = w} l)
 
 -- ---- runs
 

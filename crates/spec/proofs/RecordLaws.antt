@@ -29,13 +29,13 @@ bool-ext false false f g = refl
 pub and-intro : (a b : Bool) → a ≡ true → b ≡ true → (a && b) ≡ true
 and-intro a b p q = rw (p, q)
 
-eq-of : (m n : ℕ) → eqb m n ≡ true → m ≡ n
+pub eq-of : (m n : ℕ) → eqb m n ≡ true → m ≡ n
 eq-of m n e = eqb→eq m n (T-of (eqb m n) e)
 
 pub le-of : (m n : ℕ) → leb m n ≡ true → m ≤ n
 le-of m n e = leb→le m n (T-of (leb m n) e)
 
-not-false : (b : Bool) → not b ≡ true → b ≡ false
+pub not-false : (b : Bool) → not b ≡ true → b ≡ false
 not-false true e = absurd (false≢true e)
 not-false false e = refl
 
@@ -51,7 +51,7 @@ form1-good = record { fits = omega arith; apart = λ n. omega arith }
 
 -- ---- records in range
 
-no-offsets : (offsets : List ℕ) → length offsets ≡ 0 → offsets ≡ []
+pub no-offsets : (offsets : List ℕ) → length offsets ≡ 0 → offsets ≡ []
 no-offsets [] e = refl
 no-offsets (x ∷ offsets) e = let z : ⊥ = omega arith in absurd z
 
@@ -94,13 +94,13 @@ pub offsets-count : (n size : ℕ) (xs : List ℕ) → 1 ≤ n → rising xs ≡
 offsets-count n size [] h r e = omega arith
 offsets-count n size (x ∷ xs) h r e = omega (arith, offsets-many n size x xs r e)
 
-every-imp {ℓ} : {A : Type ℓ} (p q : A → Bool) (xs : List A) → ((x : A) → p x ≡ true → q x ≡ true) → every p xs ≡ true → every q xs ≡ true
+pub every-imp {ℓ} : {A : Type ℓ} (p q : A → Bool) (xs : List A) → ((x : A) → p x ≡ true → q x ≡ true) → every p xs ≡ true → every q xs ≡ true
 every-imp p q [] f e = refl
 every-imp p q (x ∷ xs) f e = and-intro (q x) (every q xs) (f x (and-left (p x) (every p xs) e)) (every-imp p q xs f (and-right (p x) (every p xs) e))
 
 -- ---- a written record reads back
 
-kinds : (count : ℕ) → (count ≤ 1) ⊎ ((1 < count × count ≤ 254) ⊎ (254 < count))
+pub kinds : (count : ℕ) → (count ≤ 1) ⊎ ((1 < count × count ≤ 254) ⊎ (254 < count))
 kinds count = go (le-or-lt count 1) (le-or-lt count 254)
   where
     go : (count ≤ 1) ⊎ (1 < count) → (count ≤ 254) ⊎ (254 < count) → (count ≤ 1) ⊎ ((1 < count × count ≤ 254) ⊎ (254 < count))
@@ -124,11 +124,11 @@ module _ (f : Form) (offsets : List ℕ) where
 
 -- a head with the fields behind it, and what reading finds there
 module _ (f : Form) (k kind p s count : ℕ) where
-  abbrev laid : List ℕ → List ℕ → List ℕ
+  abbrev pub laid : List ℕ → List ℕ → List ℕ
   laid offsets rest = k ∷ kind ∷ p ∷ s ∷ count ∷ (leBytes (f .width) (getD offsets 0 0) ++ (offsetsBytes f offsets ++ rest))
 
-  first : (offsets rest : List ℕ) → getD offsets 0 0 < 256 ^ f .width → fieldAt (laid offsets rest) 5 (f .width) ≡ getD offsets 0 0
-  first offsets rest h =
+  pub first-laid : (offsets rest : List ℕ) → getD offsets 0 0 < 256 ^ f .width → fieldAt (laid offsets rest) 5 (f .width) ≡ getD offsets 0 0
+  first-laid offsets rest h =
       ap leValue (take-at (leBytes (f .width) (getD offsets 0 0)) (offsetsBytes f offsets ++ rest) (f .width) (length-leBytes (f .width) (getD offsets 0 0)))
       ∙ leValue-leBytes (f .width) (getD offsets 0 0) h
 
@@ -166,7 +166,7 @@ module _ (f : Form) (k p s : ℕ) where
   unfolding readOffsets
   read-one [] rest h b = refl
   read-one (x ∷ []) rest h b =
-      ap {B = List ℕ} (λ y. y ∷ []) (first f k 1 p s 1 (x ∷ []) rest (ltb→lt x (256 ^ f .width) (T-of _ (and-left (ltb x (256 ^ f .width)) true b))))
+      ap {B = List ℕ} (λ y. y ∷ []) (first-laid f k 1 p s 1 (x ∷ []) rest (ltb→lt x (256 ^ f .width) (T-of _ (and-left (ltb x (256 ^ f .width)) true b))))
   read-one (x ∷ y ∷ offsets) rest h b = let z : ⊥ = omega arith in absurd z
 
   read-two : (offsets rest : List ℕ) → 1 < length offsets → length offsets ≤ 254 → every (λ x. ltb x (256 ^ f .width)) offsets ≡ true
@@ -198,7 +198,7 @@ module _ (f : Form) (k p s : ℕ) where
           let m : min (length offsets) 255 ≡ 255 = omega arith in
           rw (leb-false (length offsets) 1 l, leb-false (length offsets) 254 h, m, read-three offsets rest h few b)
 
-  size-laid : (offsets rest : List ℕ) → length offsets < 256 ^ f .width
+  pub size-laid : (offsets rest : List ℕ) → length offsets < 256 ^ f .width
       → recordSize f (laid f k (kindOf (length offsets)) p s (min (length offsets) 255) offsets rest) ≡ 5 + (f .width + length (offsetsBytes f offsets))
   unfolding recordSize
   size-laid offsets rest few = go (kinds (length offsets))
@@ -215,7 +215,7 @@ module _ (f : Form) (k p s : ℕ) where
           rw (leb-false (length offsets) 1 l, leb-false (length offsets) 254 h, m, exact f k 3 p s 255 offsets rest h few, offsets-three f offsets h, length-append, length-leBytes, length-fieldsBytes) (omega arith)
 
 -- a full record with bytes behind it
-full-laid : (f : Form) (k : ℕ) (r : MatchRecord) (rest : List ℕ)
+pub full-laid : (f : Form) (k : ℕ) (r : MatchRecord) (rest : List ℕ)
     → fullBytes f k r ++ rest ≡ laid f k (kindOf (length (r .offsets))) (r .prefix) (r .suffix) (min (length (r .offsets)) 255) (r .offsets) rest
 unfolding fullBytes
 full-laid f k r rest =

@@ -1,0 +1,333 @@
+-- The record check of document 01's form, kind by kind: what each test of the code says of `goodSize`.
+use mathlib.Core.Path.{_≡_, refl, sym, ap, ap₂, _∙_, subst}
+use mathlib.Core.Logic.{_≢_, _⊎_, inl, inr}
+use mathlib.Core.Bool.{Bool, true, false, _&&_, not, cond, and-false, and-true, false≢true}
+use mathlib.Core.List.{List, [], _∷_, _++_}
+use Prim.Native.Nat.{ℕ, zero, suc, _+_, _-_, _*_, _/_, _%_, _≤_, _<_, min}
+use native.Mathlib.Omega.{arith}
+use lib.Dec.{eqb, leb, ltb}
+use lib.ListN.{length, take, drop, getD}
+use Rattle.spec.specs.Bytes.{leValue, fieldAt, fieldsOf, rising, every}
+use Rattle.spec.specs.Records.{MatchRecord, Form, form1, isEmpty, isTiny, reach, kindOf, readOffsets, readRecord, recordSize}
+use Rattle.spec.specs.Steps.{recordGood}
+use Rattle.spec.proofs.Tests.{le-or-lt, and-left, and-right, leb-true, leb-false, eqb-same, eqb-ne, bool-cases, false-of}
+use Rattle.spec.proofs.FieldLists.{AllBytes, length-fieldsOf}
+use Rattle.spec.proofs.RecordLaws.{FormGood, form1-good, eq-of, le-of, and-intro, kinds}
+use Rattle.bodies.specs.Check.{goodSize, inOrder, offsetsGood, Lengths, Head}
+use Rattle.bodies.proofs.RecordChecks.{Tiny, Full, tiny-of, tiny-is, full-of, full-is, fullOf, read-some, read-zero, size-zero, read-1, read-2, read-3, size-1, size-2, size-3}
+
+-- ---- refused or accepted
+
+module _ (n size : ℕ) (bytes : List ℕ) (start : 1 ≤ length bytes) where
+  refuse : recordGood form1 n (getD bytes 0 0) size bytes ≡ false → 0 ≡ goodSize n size bytes
+  unfolding goodSize
+  refuse e = rw e
+
+  accept : (s : ℕ) → recordGood form1 n (getD bytes 0 0) size bytes ≡ true → s ≡ recordSize form1 bytes → s ≡ goodSize n size bytes
+  unfolding goodSize
+  accept s e q = rw e q
+
+  pub refuse-tiny : getD bytes 1 0 ≡ 0 → (Tiny form1 n size bytes → ⊥) → 0 ≡ goodSize n size bytes
+  refuse-tiny z never = refuse (false-of _ (λ e. never (tiny-of form1 n size bytes start z e)))
+
+  pub accept-tiny : getD bytes 1 0 ≡ 0 → Tiny form1 n size bytes → 3 ≡ goodSize n size bytes
+  accept-tiny z t = accept 3 (tiny-is form1 n size bytes z t) (sym (size-zero form1 bytes z))
+
+  pub refuse-full : Lengths n size → 1 ≤ getD bytes 1 0 → (Full form1 n size bytes → ⊥) → 0 ≡ goodSize n size bytes
+  refuse-full l some never = refuse (false-of _ (λ e. never (full-of form1 form1-good n size bytes (l .positive) (l .fit) some start e)))
+
+  pub accept-full : (s : ℕ) → AllBytes bytes → 1 ≤ getD bytes 1 0 → Full form1 n size bytes → s ≡ recordSize form1 bytes → s ≡ goodSize n size bytes
+  accept-full s b some t q = accept s (full-is form1 n size bytes b some t) q
+
+-- ---- kinds
+
+kind-most : (m : ℕ) → kindOf m ≤ 3
+kind-most m = go (leb m 1) (leb m 254)
+  where
+    go : (a b : Bool) → cond a 1 (cond b 2 3) ≤ 3
+    go true b = omega arith
+    go false true = omega arith
+    go false false = omega arith
+
+-- which counts have a kind
+module _ (m : ℕ) where
+  kind-1 : m ≤ 1 → kindOf m ≡ 1
+  kind-1 h = rw (leb-true m 1 h)
+
+  kind-2 : 1 < m → m ≤ 254 → kindOf m ≡ 2
+  kind-2 l h = rw (leb-false m 1 l, leb-true m 254 h)
+
+  kind-3 : 254 < m → kindOf m ≡ 3
+  kind-3 h = let l : 1 < m = omega arith in rw (leb-false m 1 l, leb-false m 254 h)
+
+  of-2 : kindOf m ≡ 2 → (1 < m) × (m ≤ 254)
+  of-2 e = go (kinds m)
+    where
+      go : (m ≤ 1) ⊎ ((1 < m × m ≤ 254) ⊎ (254 < m)) → (1 < m) × (m ≤ 254)
+      go (inl h) = let z : ⊥ = omega (arith, sym e ∙ kind-1 h) in absurd z
+      go (inr (inl p)) = p
+      go (inr (inr h)) = let z : ⊥ = omega (arith, sym e ∙ kind-3 h) in absurd z
+
+  of-3 : kindOf m ≡ 3 → 254 < m
+  of-3 e = go (kinds m)
+    where
+      go : (m ≤ 1) ⊎ ((1 < m × m ≤ 254) ⊎ (254 < m)) → 254 < m
+      go (inl h) = let z : ⊥ = omega (arith, sym e ∙ kind-1 h) in absurd z
+      go (inr (inl (l, h))) = let z : ⊥ = omega (arith, sym e ∙ kind-2 l h) in absurd z
+      go (inr (inr h)) = h
+
+-- ---- a record with offsets is neither tiny nor empty
+
+module _ (n : ℕ) (bytes : List ℕ) (some : 1 ≤ getD bytes 1 0) (has : 0 < length (readOffsets form1 bytes)) where
+  no-zero : eqb (length (readOffsets form1 bytes)) 0 ≡ false
+  no-zero = eqb-ne (length (readOffsets form1 bytes)) 0 (omega arith)
+
+  many-large : isTiny form1 n (readRecord form1 bytes) ≡ false
+  many-large = rw (read-some form1 bytes some, no-zero)
+
+  many-some : isEmpty (readRecord form1 bytes) ≡ false
+  many-some = rw (read-some form1 bytes some, no-zero, and-false)
+
+-- ---- kind 0
+
+module _ (n size : ℕ) (bytes : List ℕ) (start : 1 ≤ length bytes) (kind : getD bytes 1 0 ≡ 0) where
+  pub tiny-short : length bytes < 3 → 0 ≡ goodSize n size bytes
+  tiny-short h = refuse-tiny n size bytes start kind (λ t. omega (arith, t .long))
+
+  pub tiny-none : getD bytes 2 0 ≡ 0 → 0 ≡ goodSize n size bytes
+  tiny-none e = refuse-tiny n size bytes start kind (λ t. omega (arith, t .some))
+
+  pub tiny-large : 3 < getD bytes 2 0 → 0 ≡ goodSize n size bytes
+  tiny-large h = refuse-tiny n size bytes start kind (λ t. omega (arith, t .high))
+
+  pub tiny-prefix : reach n size < getD bytes 2 0 % 2 → 0 ≡ goodSize n size bytes
+  tiny-prefix h = refuse-tiny n size bytes start kind (λ t. omega (arith, t .prefix))
+
+  pub tiny-suffix : reach n size < getD bytes 2 0 / 2 → 0 ≡ goodSize n size bytes
+  tiny-suffix h = refuse-tiny n size bytes start kind (λ t. omega (arith, t .suffix))
+
+  pub tiny-good : 3 ≤ length bytes → 1 ≤ getD bytes 2 0 → getD bytes 2 0 ≤ 3 → getD bytes 2 0 % 2 ≤ reach n size → getD bytes 2 0 / 2 ≤ reach n size
+      → 3 ≡ goodSize n size bytes
+  tiny-good l s m p q = accept-tiny n size bytes start kind (record { long = l; some = s; low = omega arith; high = omega arith; prefix = p; suffix = q })
+
+-- ---- heads that no kind has
+
+module _ (n size : ℕ) (bytes : List ℕ) (start : 1 ≤ length bytes) (l : Lengths n size) where
+  pub kind-large : 3 < getD bytes 1 0 → 0 ≡ goodSize n size bytes
+  kind-large h = refuse-full n size bytes start l (omega arith) (λ t. omega (arith, t .kind, kind-most (length (readOffsets form1 bytes))))
+
+  size-head : 1 ≤ getD bytes 1 0 → 7 ≤ recordSize form1 bytes
+  unfolding recordSize
+  size-head h = rw (eqb-ne (getD bytes 1 0) 0 (omega arith)) (go (eqb (getD bytes 1 0) 1) (eqb (getD bytes 1 0) 2) (getD bytes 4 0) (fieldAt bytes 7 2))
+    where
+      go : (a b : Bool) (x y : ℕ) → 7 ≤ cond a 7 (cond b (7 + 2 * x) (9 + 2 * y))
+      go true b x y = omega arith
+      go false true x y = omega arith
+      go false false x y = omega arith
+
+  pub head-short : 1 ≤ getD bytes 1 0 → length bytes < 7 → 0 ≡ goodSize n size bytes
+  head-short some h = refuse-full n size bytes start l some (λ t. omega (arith, t .long, size-head some))
+
+  pub head-prefix : 1 ≤ getD bytes 1 0 → reach n size < getD bytes 2 0 → 0 ≡ goodSize n size bytes
+  head-prefix some h = refuse-full n size bytes start l some (λ t. omega (arith, t .prefix))
+
+  pub head-suffix : 1 ≤ getD bytes 1 0 → reach n size < getD bytes 3 0 → 0 ≡ goodSize n size bytes
+  head-suffix some h = refuse-full n size bytes start l some (λ t. omega (arith, t .suffix))
+
+-- ---- kind 1 without an offset
+
+tiny-test : (n : ℕ) (r : MatchRecord) → r .offsets ≡ [] → r .prefix ≤ 1 → r .suffix ≤ 1 → isEmpty r ≡ false → isTiny form1 n r ≡ true
+tiny-test n r o p s e = rw (leb-true (r .prefix) 1 p, leb-true (r .suffix) 1 s, o) (ap not (rw o at e))
+
+module _ (n size : ℕ) (bytes : List ℕ) (h : Head 1 n size bytes) (zero-count : getD bytes 4 0 ≡ 0) where
+  none-offsets : readOffsets form1 bytes ≡ []
+  none-offsets = read-1 form1 bytes (h .is) ∙ rw zero-count
+
+  none-is : readRecord form1 bytes ≡ record { prefix = getD bytes 2 0; suffix = getD bytes 3 0; offsets = [] }
+  none-is = read-some form1 bytes (omega (arith, h .is)) ∙ rw none-offsets
+
+  pub none-first : fieldAt bytes 5 2 ≢ 0 → 0 ≡ goodSize n size bytes
+  none-first d =
+      refuse-full n size bytes (omega (arith, h .long)) (h .lengths) (omega (arith, h .is))
+      (λ t. d (t .first ∙ ap (λ (l : List ℕ). getD l 0 0) none-offsets))
+
+  pub none-small : getD bytes 2 0 ≤ 1 → getD bytes 3 0 ≤ 1 → 0 ≡ goodSize n size bytes
+  none-small p s =
+      refuse-full n size bytes (omega (arith, h .long)) (h .lengths) (omega (arith, h .is))
+      (λ t. false≢true (sym (t .large) ∙ rw none-is (tiny-test n _ refl p s (rw none-is at (t .some)))))
+
+  pub none-good : AllBytes bytes → fieldAt bytes 5 2 ≡ 0 → (1 < getD bytes 2 0) ⊎ (1 < getD bytes 3 0) → 7 ≡ goodSize n size bytes
+  none-good b z d =
+      accept-full n size bytes (omega (arith, h .long)) 7 b (omega (arith, h .is))
+      (record {
+        long = omega (arith, size-1 form1 bytes (h .is), h .long);
+        kind = h .is ∙ rw none-offsets;
+        count = zero-count ∙ rw none-offsets;
+        first = z ∙ rw none-offsets;
+        large = rw none-is (large d);
+        some = rw none-is (some d);
+        prefix = h .prefix;
+        suffix = h .suffix;
+        rise = rw none-offsets;
+        inside = rw none-offsets;
+      })
+      (sym (size-1 form1 bytes (h .is)))
+    where
+      r : MatchRecord
+      r = record { prefix = getD bytes 2 0; suffix = getD bytes 3 0; offsets = [] }
+
+      large : (1 < getD bytes 2 0) ⊎ (1 < getD bytes 3 0) → isTiny form1 n r ≡ false
+      large (inl l) = rw (leb-false (getD bytes 2 0) 1 l)
+      large (inr l) = rw (leb-false (getD bytes 3 0) 1 l, and-false)
+
+      some : (1 < getD bytes 2 0) ⊎ (1 < getD bytes 3 0) → isEmpty r ≡ false
+      some (inl l) = rw (eqb-ne (getD bytes 2 0) 0 (omega arith))
+      some (inr l) = rw (eqb-ne (getD bytes 3 0) 0 (omega arith), and-false)
+
+-- ---- kind 1 with an offset
+
+module _ (n size : ℕ) (bytes : List ℕ) (h : Head 1 n size bytes) (some-count : getD bytes 4 0 ≢ 0) where
+  single-offsets : readOffsets form1 bytes ≡ fieldAt bytes 5 2 ∷ []
+  single-offsets = read-1 form1 bytes (h .is) ∙ rw (eqb-ne (getD bytes 4 0) 0 some-count)
+
+  pub single-count : getD bytes 4 0 ≢ 1 → 0 ≡ goodSize n size bytes
+  single-count d =
+      refuse-full n size bytes (omega (arith, h .long)) (h .lengths) (omega (arith, h .is))
+      (λ t. d (t .count ∙ rw single-offsets))
+
+  pub single-out : size < fieldAt bytes 5 2 + n → 0 ≡ goodSize n size bytes
+  single-out l =
+      refuse-full n size bytes (omega (arith, h .long)) (h .lengths) (omega (arith, h .is))
+      (λ t. let m : fieldAt bytes 5 2 + n ≤ size = le-of _ _ (and-left (leb (fieldAt bytes 5 2 + n) size) true (rw single-offsets at (t .inside))) in omega arith)
+
+  pub single-good : AllBytes bytes → getD bytes 4 0 ≡ 1 → fieldAt bytes 5 2 + n ≤ size → 7 ≡ goodSize n size bytes
+  single-good b one l =
+      accept-full n size bytes (omega (arith, h .long)) 7 b (omega (arith, h .is))
+      (record {
+        long = omega (arith, size-1 form1 bytes (h .is), h .long);
+        kind = h .is ∙ rw single-offsets;
+        count = one ∙ rw single-offsets;
+        first = rw single-offsets;
+        large = many-large n bytes (omega (arith, h .is)) has;
+        some = many-some n bytes (omega (arith, h .is)) has;
+        prefix = h .prefix;
+        suffix = h .suffix;
+        rise = rw single-offsets;
+        inside = rw (single-offsets, leb-true (fieldAt bytes 5 2 + n) size l);
+      })
+      (sym (size-1 form1 bytes (h .is)))
+    where
+      has : 0 < length (readOffsets form1 bytes)
+      has = rw single-offsets (omega arith)
+
+-- ---- kinds 2 and 3: `count` offsets from `at` on
+
+fields-head : (w c : ℕ) (l : List ℕ) → 0 < c → getD (fieldsOf w c l) 0 0 ≡ leValue (take w l)
+unfolding fieldsOf
+fields-head w zero l h = let z : ⊥ = omega arith in absurd z
+fields-head w (suc c) l h = refl
+
+module _ (n size : ℕ) (bytes : List ℕ) (at count : ℕ) (long : 7 ≤ length bytes) (l : Lengths n size) (some : 1 ≤ getD bytes 1 0) (has : 0 < count)
+    (offsets : readOffsets form1 bytes ≡ fieldsOf 2 count (drop at bytes)) (ends : recordSize form1 bytes ≡ at + 2 * count) where
+  many-count : length (readOffsets form1 bytes) ≡ count
+  many-count = rw offsets (length-fieldsOf 2 count (drop at bytes))
+
+  many-of : Full form1 n size bytes → offsetsGood n size bytes at count ≡ true
+  unfolding offsetsGood inOrder
+  many-of t =
+      let a : at + 2 * count ≤ length bytes = rw (← ends) (t .long) in
+      let b : fieldAt bytes 5 2 ≡ fieldAt bytes at 2 = t .first ∙ rw offsets (fields-head 2 count (drop at bytes) has) in
+      rw (leb-true (at + 2 * count) (length bytes) a, b, eqb-same, ← offsets, t .rise, t .inside)
+
+  pub many-refused : offsetsGood n size bytes at count ≡ false → 0 ≡ goodSize n size bytes
+  many-refused e = refuse-full n size bytes (omega arith) l some (λ t. false≢true (sym e ∙ many-of t))
+
+  pub many-good : AllBytes bytes → getD bytes 2 0 ≤ reach n size → getD bytes 3 0 ≤ reach n size → getD bytes 1 0 ≡ kindOf count → getD bytes 4 0 ≡ min count 255
+      → offsetsGood n size bytes at count ≡ true → at + 2 * count ≡ goodSize n size bytes
+  unfolding offsetsGood inOrder
+  many-good b p s kind c e =
+      accept-full n size bytes (omega arith) (at + 2 * count) b some
+      (record {
+        long = rw ends (le-of _ _ (and-left (leb (at + 2 * count) (length bytes)) _ (and-left _ _ e)));
+        kind = kind ∙ rw many-count;
+        count = c ∙ rw many-count;
+        first =
+            eq-of _ _ (and-right (leb (at + 2 * count) (length bytes)) (eqb (fieldAt bytes 5 2) (fieldAt bytes at 2)) (and-left _ _ e))
+            ∙ rw offsets (sym (fields-head 2 count (drop at bytes) has));
+        large = many-large n bytes some (rw many-count has);
+        some = many-some n bytes some (rw many-count has);
+        prefix = p;
+        suffix = s;
+        rise = rw offsets (and-left _ _ order);
+        inside = rw offsets (and-right (rising (fieldsOf 2 count (drop at bytes))) _ order);
+      })
+      (sym ends)
+    where
+      order : inOrder n size (fieldsOf 2 count (drop at bytes)) ≡ true
+      order = and-right (leb (at + 2 * count) (length bytes) && eqb (fieldAt bytes 5 2) (fieldAt bytes at 2)) _ e
+
+module _ (n size : ℕ) (bytes : List ℕ) (h : Head 2 n size bytes) where
+  two-counts : length (readOffsets form1 bytes) ≡ getD bytes 4 0
+  two-counts = rw (read-2 form1 bytes (h .is)) (length-fieldsOf 2 (getD bytes 4 0) (drop 7 bytes))
+
+  pub two-range : (1 < getD bytes 4 0 → getD bytes 4 0 ≤ 254 → ⊥) → 0 ≡ goodSize n size bytes
+  two-range d =
+      refuse-full n size bytes (omega (arith, h .long)) (h .lengths) (omega (arith, h .is))
+      (λ t. let k = of-2 (length (readOffsets form1 bytes)) (sym (t .kind) ∙ h .is) in d (omega (arith, two-counts, k .0)) (omega (arith, two-counts, k .1)))
+
+  pub two-refused : 1 < getD bytes 4 0 → offsetsGood n size bytes 7 (getD bytes 4 0) ≡ false → 0 ≡ goodSize n size bytes
+  two-refused c e =
+      many-refused n size bytes 7 (getD bytes 4 0) (h .long) (h .lengths) (omega (arith, h .is)) (omega arith) (read-2 form1 bytes (h .is)) (size-2 form1 bytes (h .is)) e
+
+  pub two-good : AllBytes bytes → 1 < getD bytes 4 0 → getD bytes 4 0 ≤ 254 → offsetsGood n size bytes 7 (getD bytes 4 0) ≡ true
+      → 7 + 2 * getD bytes 4 0 ≡ goodSize n size bytes
+  two-good b c m e =
+      many-good n size bytes 7 (getD bytes 4 0) (h .long) (h .lengths) (omega (arith, h .is)) (omega arith) (read-2 form1 bytes (h .is)) (size-2 form1 bytes (h .is))
+      b (h .prefix) (h .suffix) (h .is ∙ sym (kind-2 (getD bytes 4 0) c m)) (omega arith) e
+
+module _ (n size : ℕ) (bytes : List ℕ) (h : Head 3 n size bytes) where
+  three-is : 3 ≤ getD bytes 1 0
+  three-is = omega (arith, h .is)
+
+  three-counts : length (readOffsets form1 bytes) ≡ fieldAt bytes 7 2
+  three-counts = rw (read-3 form1 bytes three-is) (length-fieldsOf 2 (fieldAt bytes 7 2) (drop 9 bytes))
+
+  three-many : Full form1 n size bytes → 254 < fieldAt bytes 7 2
+  three-many t = omega (arith, three-counts, of-3 (length (readOffsets form1 bytes)) (sym (t .kind) ∙ h .is))
+
+  pub three-short : length bytes < 9 → 0 ≡ goodSize n size bytes
+  three-short l =
+      refuse-full n size bytes (omega (arith, h .long)) (h .lengths) (omega (arith, h .is)) (λ t. omega (arith, t .long, size-3 form1 bytes three-is))
+
+  pub three-count : getD bytes 4 0 ≢ 255 → 0 ≡ goodSize n size bytes
+  three-count d =
+      refuse-full n size bytes (omega (arith, h .long)) (h .lengths) (omega (arith, h .is)) (λ t. d (omega (arith, t .count, three-counts, three-many t)))
+
+  pub three-few : fieldAt bytes 7 2 < 255 → 0 ≡ goodSize n size bytes
+  three-few l = refuse-full n size bytes (omega (arith, h .long)) (h .lengths) (omega (arith, h .is)) (λ t. omega (arith, three-many t))
+
+  pub three-refused : 254 < fieldAt bytes 7 2 → offsetsGood n size bytes 9 (fieldAt bytes 7 2) ≡ false → 0 ≡ goodSize n size bytes
+  three-refused c e =
+      many-refused n size bytes 9 (fieldAt bytes 7 2) (h .long) (h .lengths) (omega (arith, h .is)) (omega arith) (read-3 form1 bytes three-is) (size-3 form1 bytes three-is) e
+
+  pub three-good : AllBytes bytes → getD bytes 4 0 ≡ 255 → 254 < fieldAt bytes 7 2 → offsetsGood n size bytes 9 (fieldAt bytes 7 2) ≡ true
+      → 9 + 2 * fieldAt bytes 7 2 ≡ goodSize n size bytes
+  three-good b c m e =
+      many-good n size bytes 9 (fieldAt bytes 7 2) (h .long) (h .lengths) (omega (arith, h .is)) (omega arith) (read-3 form1 bytes three-is) (size-3 form1 bytes three-is)
+      b (h .prefix) (h .suffix) (h .is ∙ sym (kind-3 (fieldAt bytes 7 2) m)) (omega arith) e
+
+-- ---- the tests of a run of offsets
+
+module _ (n size : ℕ) (bytes : List ℕ) (at count : ℕ) where
+  pub run-short : length bytes < at + 2 * count → false ≡ offsetsGood n size bytes at count
+  unfolding offsetsGood
+  run-short h = rw (leb-false (at + 2 * count) (length bytes) h)
+
+  pub run-first : fieldAt bytes 5 2 ≢ fieldAt bytes at 2 → false ≡ offsetsGood n size bytes at count
+  unfolding offsetsGood
+  run-first d = rw (eqb-ne (fieldAt bytes 5 2) (fieldAt bytes at 2) d, and-false)
+
+  pub run-order : (r : Bool) → at + 2 * count ≤ length bytes → fieldAt bytes 5 2 ≡ fieldAt bytes at 2 → r ≡ inOrder n size (fieldsOf 2 count (drop at bytes))
+      → r ≡ offsetsGood n size bytes at count
+  unfolding offsetsGood
+  run-order r h e q = rw (leb-true (at + 2 * count) (length bytes) h, e, eqb-same) q

@@ -1,0 +1,3 @@
+pub mod RecordChecks
+pub mod Orders
+pub mod KindChecks

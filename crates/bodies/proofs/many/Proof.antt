@@ -1,0 +1,82 @@
+use borrow.Author.Tests.{not-true, not-false}
+use mathlib.Core.Path.{_≡_, refl, sym, ap, _∙_}
+use mathlib.Core.Logic.{_≢_, _⊎_, inl, inr}
+use mathlib.Core.Bool.{Bool, true, false}
+use Prim.Native.Nat.{ℕ, _+_, _-_, _*_, _/_, _%_, _≤_, _<_}
+use native.Mathlib.Omega.{arith}
+use lib.ListN.{length, getD, drop}
+use denote.Ref.{now}
+use borrow.Author.Needs.{needs}
+use Rattle.bodies.proofs.KindChecks.{three-short, three-count, three-few, three-refused, three-good}
+use Rattle.spec.specs.Bytes.{fieldAt, fieldsOf}
+use Rattle.spec.proofs.FieldLists.{field-lt}
+use Rattle.bodies.specs.Check.{goodSize, offsetsGood, inOrder}
+use Rattle.bodies.proofs.many.Statement.{statement}
+use Rattle.bodies.proofs.many.Tie as tie
+use Rattle.bodies.proofs.many.Reads as reads
+use Rattle.bodies.proofs.many.Lts as lts
+use Rattle.bodies.proofs.offsets_good.Reads as offsets-good-reads
+use Rattle.field.proofs.read.Reads as read-reads
+
+returns : tie.Need-returns
+returns c =
+    let a = c .before .before .args in
+    three-short (a .n) (a .size) (now (a .bytes)) (c .before .before .pre) (omega arith)
+
+shared-slice-read-if2 : tie.Need-shared-slice-read-if2
+shared-slice-read-if2 c = search needs
+
+returns-2 : tie.Need-returns-2
+returns-2 c =
+    let a = c .before .before .before .before .args in
+    three-count (a .n) (a .size) (now (a .bytes)) (c .before .before .before .before .pre) (omega arith)
+
+read-requires : tie.Need-read-requires
+read-requires c κs = search needs
+
+returns-3 : tie.Need-returns-3
+returns-3 c =
+    let a = c .before .before .before .before .before .before .args in
+    three-few (a .n) (a .size) (now (a .bytes)) (c .before .before .before .before .before .before .pre) (omega arith)
+
+offsets-good-requires : tie.Need-offsets-good-requires
+offsets-good-requires c κs =
+    let a = c .before .before .before .before .before .before .args in
+    let f = field-lt (now (a .bytes)) 7 2 (λ i. omega (arith, c .before .before .before .before .before .shared-slice-known .given i)) in
+    (omega (arith, c .before .before .before .before .before .before .pre .long), omega arith, omega arith, omega arith, omega (arith, c .before .before .before .before .before .before .pre .lengths .positive))
+
+returns-4 : tie.Need-returns-4
+returns-4 c =
+    let a = c .before .before .before .before .before .before .before .before .args in
+    three-refused (a .n) (a .size) (now (a .bytes)) (c .before .before .before .before .before .before .before .before .pre) (omega arith) (ap (offsetsGood (a .n) (a .size) (now (a .bytes)) 9) (sym (c .before .before .before .read .ensures)) ∙ sym (c .before .offsets-good .ensures) ∙ not-true _ (c .if4 .taken))
+
+mul-result : tie.Need-mul-result
+mul-result c =
+    let f = field-lt (now (c .before .before .before .before .before .before .before .before .args .bytes)) 7 2 (λ i. omega (arith, c .before .before .before .before .before .before .before .shared-slice-known .given i)) in
+    record { fits = omega arith }
+
+add-result : tie.Need-add-result
+add-result c =
+    let f = field-lt (now (c .before .before .before .before .before .before .before .before .args .bytes)) 7 2 (λ i. omega (arith, c .before .before .before .before .before .before .before .shared-slice-known .given i)) in
+    record { fits = omega arith }
+
+returns-5 : tie.Need-returns-5
+returns-5 c =
+    let a = c .before .before .before .before .before .before .before .before .args in
+    ap (λ (x : ℕ). 9 + 2 * x) (c .before .before .before .read .ensures)
+    ∙ three-good (a .n) (a .size) (now (a .bytes)) (c .before .before .before .before .before .before .before .before .pre) (λ i. omega (arith, c .before .before .before .before .before .before .before .shared-slice-known .given i)) (omega arith) (omega arith) (ap (offsetsGood (a .n) (a .size) (now (a .bytes)) 9) (sym (c .before .before .before .read .ensures)) ∙ sym (c .before .offsets-good .ensures) ∙ not-false _ (c .if4 .left))
+
+pub many-spec : {M : Type 1} → statement M
+many-spec =
+    tie.close
+    (tie.spec
+    returns
+    shared-slice-read-if2
+    returns-2
+    read-requires
+    returns-3
+    offsets-good-requires
+    returns-4
+    mul-result
+    add-result
+    returns-5)

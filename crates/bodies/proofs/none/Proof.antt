@@ -1,0 +1,57 @@
+use mathlib.Core.Path.{_≡_, refl, sym, ap, _∙_}
+use mathlib.Core.Logic.{_≢_, _⊎_, inl, inr}
+use mathlib.Core.Bool.{Bool, true, false}
+use Prim.Native.Nat.{ℕ, _+_, _-_, _*_, _/_, _%_, _≤_, _<_}
+use native.Mathlib.Omega.{arith}
+use lib.ListN.{length, getD, drop}
+use denote.Ref.{now}
+use borrow.Author.Needs.{needs}
+use Rattle.bodies.proofs.KindChecks.{none-first, none-small, none-good}
+use Rattle.spec.specs.Bytes.{fieldAt}
+use Rattle.bodies.specs.Check.{goodSize}
+use Rattle.bodies.proofs.none.Statement.{statement}
+use Rattle.bodies.proofs.none.Tie as tie
+use Rattle.bodies.proofs.none.Reads as reads
+use Rattle.bodies.proofs.none.Lts as lts
+use Rattle.field.proofs.read.Reads as read-reads
+
+read-requires : tie.Need-read-requires
+read-requires c κs = search needs
+
+returns : tie.Need-returns
+returns c =
+    let a = c .before .before .before .args in
+    none-first (a .n) (a .size) (now (a .bytes)) (c .before .before .before .pre .0) (c .before .before .before .pre .1) (omega arith)
+
+shared-slice-read-if2 : tie.Need-shared-slice-read-if2
+shared-slice-read-if2 c = search needs
+
+returns-2 : tie.Need-returns-2
+returns-2 c =
+    let a = c .before .before .before .before .before .args in
+    none-good (a .n) (a .size) (now (a .bytes)) (c .before .before .before .before .before .pre .0) (c .before .before .before .before .before .pre .1) (λ i. omega (arith, c .before .before .before .before .shared-slice-known .given i)) (omega arith) (inl (omega arith))
+
+shared-slice-read-if3 : tie.Need-shared-slice-read-if3
+shared-slice-read-if3 c = search needs
+
+returns-3 : tie.Need-returns-3
+returns-3 c =
+    let a = c .before .before .before .before .before .before .before .args in
+    none-good (a .n) (a .size) (now (a .bytes)) (c .before .before .before .before .before .before .before .pre .0) (c .before .before .before .before .before .before .before .pre .1) (λ i. omega (arith, c .before .before .before .before .before .before .shared-slice-known .given i)) (omega arith) (inr (omega arith))
+
+returns-4 : tie.Need-returns-4
+returns-4 c =
+    let a = c .before .before .before .before .before .before .before .args in
+    none-small (a .n) (a .size) (now (a .bytes)) (c .before .before .before .before .before .before .before .pre .0) (c .before .before .before .before .before .before .before .pre .1) (omega arith) (omega arith)
+
+pub none-spec : {M : Type 1} → statement M
+none-spec =
+    tie.close
+    (tie.spec
+    read-requires
+    returns
+    shared-slice-read-if2
+    returns-2
+    shared-slice-read-if3
+    returns-3
+    returns-4)

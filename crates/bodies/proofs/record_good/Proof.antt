@@ -1,0 +1,125 @@
+use mathlib.Core.Path.{_≡_, refl, sym, ap, _∙_}
+use mathlib.Core.Logic.{_≢_, _⊎_, inl, inr}
+use mathlib.Core.Bool.{Bool, true, false}
+use Prim.Native.Nat.{ℕ, _+_, _-_, _*_, _/_, _%_, _≤_, _<_}
+use native.Mathlib.Omega.{arith}
+use lib.ListN.{length, getD, drop}
+use denote.Ref.{now}
+use borrow.Author.Needs.{needs}
+use lib.ListN.{List·getD-eq-default}
+use Rattle.spec.specs.Records.{reach}
+use Rattle.bodies.specs.Check.{goodSize, Lengths, Head}
+use Rattle.bodies.proofs.KindChecks.{tiny-short, kind-large, head-short, head-prefix, head-suffix}
+use Rattle.bodies.proofs.record_good.Statement.{statement}
+use Rattle.bodies.proofs.record_good.Tie as tie
+use Rattle.bodies.proofs.record_good.Reads as reads
+use Rattle.bodies.proofs.record_good.Lts as lts
+use Rattle.bodies.proofs.many.Reads as many-reads
+use Rattle.bodies.proofs.none.Reads as none-reads
+use Rattle.bodies.proofs.reach_of.Reads as reach-of-reads
+use Rattle.bodies.proofs.several.Reads as several-reads
+use Rattle.bodies.proofs.single.Reads as single-reads
+use Rattle.bodies.proofs.tiny.Reads as tiny-reads
+
+returns : tie.Need-returns
+returns c =
+    let a = c .before .before .args in
+    tiny-short (a .n) (a .size) (now (a .bytes)) (c .before .before .pre .0) (List·getD-eq-default (now (a .bytes)) 0 {n = 1} (omega arith)) (omega arith)
+
+shared-slice-read-kind : tie.Need-shared-slice-read-kind
+shared-slice-read-kind c = search needs
+
+tiny-requires : tie.Need-tiny-requires
+tiny-requires c κs = search needs
+
+returns-2 : tie.Need-returns-2
+returns-2 c = search needs
+
+returns-3 : tie.Need-returns-3
+returns-3 c =
+    let a = c .before .before .before .before .before .args in
+    kind-large (a .n) (a .size) (now (a .bytes)) (c .before .before .before .before .before .pre .0) (c .before .before .before .before .before .pre .1) (omega arith)
+
+returns-4 : tie.Need-returns-4
+returns-4 c =
+    let a = c .before .before .before .before .before .before .args in
+    head-short (a .n) (a .size) (now (a .bytes)) (c .before .before .before .before .before .before .pre .0) (c .before .before .before .before .before .before .pre .1) (omega arith) (omega arith)
+
+reach-of-requires : tie.Need-reach-of-requires
+reach-of-requires c κs = search needs
+
+shared-slice-read-if5 : tie.Need-shared-slice-read-if5
+shared-slice-read-if5 c = search needs
+
+cast-if5 : tie.Need-cast-if5
+cast-if5 c = omega (arith, c .shared-slice-known3 .given 2)
+
+returns-5 : tie.Need-returns-5
+returns-5 c =
+    let a = c .before .before .before .before .before .before .before .before .before .args in
+    head-prefix (a .n) (a .size) (now (a .bytes)) (c .before .before .before .before .before .before .before .before .before .pre .0) (c .before .before .before .before .before .before .before .before .before .pre .1) (omega arith) (omega arith)
+
+shared-slice-read-if6 : tie.Need-shared-slice-read-if6
+shared-slice-read-if6 c = search needs
+
+cast-if6 : tie.Need-cast-if6
+cast-if6 c = omega (arith, c .shared-slice-known4 .given 3)
+
+returns-6 : tie.Need-returns-6
+returns-6 c =
+    let a = c .before .before .before .before .before .before .before .before .before .before .before .args in
+    head-suffix (a .n) (a .size) (now (a .bytes)) (c .before .before .before .before .before .before .before .before .before .before .before .pre .0) (c .before .before .before .before .before .before .before .before .before .before .before .pre .1) (omega arith) (omega arith)
+
+several-requires : tie.Need-several-requires
+several-requires c κs = search needs
+
+returns-7 : tie.Need-returns-7
+returns-7 c = search needs
+
+many-requires : tie.Need-many-requires
+many-requires c κs = search needs
+
+returns-8 : tie.Need-returns-8
+returns-8 c = search needs
+
+shared-slice-read-if9 : tie.Need-shared-slice-read-if9
+shared-slice-read-if9 c = search needs
+
+none-requires : tie.Need-none-requires
+none-requires c κs = search needs
+
+returns-9 : tie.Need-returns-9
+returns-9 c = search needs
+
+single-requires : tie.Need-single-requires
+single-requires c κs = search needs
+
+returns-10 : tie.Need-returns-10
+returns-10 c = search needs
+
+pub record-good-spec : {M : Type 1} → statement M
+record-good-spec =
+    tie.close
+    (tie.spec
+    returns
+    shared-slice-read-kind
+    tiny-requires
+    returns-2
+    returns-3
+    returns-4
+    reach-of-requires
+    shared-slice-read-if5
+    cast-if5
+    returns-5
+    shared-slice-read-if6
+    cast-if6
+    returns-6
+    several-requires
+    returns-7
+    many-requires
+    returns-8
+    shared-slice-read-if9
+    none-requires
+    returns-9
+    single-requires
+    returns-10)

@@ -1,0 +1,46 @@
+use mathlib.Core.Path.{_≡_, refl, sym, ap, _∙_}
+use mathlib.Core.Logic.{_≢_, _⊎_, inl, inr}
+use mathlib.Core.Bool.{Bool, true, false}
+use Prim.Native.Nat.{ℕ, _+_, _-_, _*_, _/_, _%_, _≤_, _<_}
+use native.Mathlib.Omega.{arith}
+use lib.ListN.{length, getD, drop}
+use denote.Ref.{now}
+use borrow.Author.Needs.{needs}
+use Rattle.bodies.proofs.KindChecks.{single-count, single-out, single-good}
+use Rattle.spec.specs.Bytes.{fieldAt}
+use Rattle.bodies.specs.Check.{goodSize}
+use Rattle.bodies.proofs.single.Statement.{statement}
+use Rattle.bodies.proofs.single.Tie as tie
+use Rattle.bodies.proofs.single.Reads as reads
+use Rattle.bodies.proofs.single.Lts as lts
+use Rattle.field.proofs.read.Reads as read-reads
+
+shared-slice-read-if1 : tie.Need-shared-slice-read-if1
+shared-slice-read-if1 c = search needs
+
+returns : tie.Need-returns
+returns c =
+    let a = c .before .before .before .args in
+    single-count (a .n) (a .size) (now (a .bytes)) (c .before .before .before .pre .0) (omega arith) (omega arith)
+
+read-requires : tie.Need-read-requires
+read-requires c κs = search needs
+
+returns-2 : tie.Need-returns-2
+returns-2 c =
+    let a = c .before .before .before .before .before .args in
+    single-out (a .n) (a .size) (now (a .bytes)) (c .before .before .before .before .before .pre .0) (omega arith) (omega arith)
+
+returns-3 : tie.Need-returns-3
+returns-3 c =
+    let a = c .before .before .before .before .before .before .args in
+    single-out (a .n) (a .size) (now (a .bytes)) (c .before .before .before .before .before .before .pre .0) (omega arith) (omega arith)
+
+returns-4 : tie.Need-returns-4
+returns-4 c =
+    let a = c .before .before .before .before .before .before .args in
+    single-good (a .n) (a .size) (now (a .bytes)) (c .before .before .before .before .before .before .pre .0) (omega arith) (λ i. omega (arith, c .before .before .before .before .before .shared-slice-known .given i)) (omega arith) (omega arith)
+
+pub single-spec : {M : Type 1} → statement M
+single-spec =
+    tie.close (tie.spec shared-slice-read-if1 returns read-requires returns-2 returns-3 returns-4)

@@ -1,0 +1,73 @@
+use mathlib.Core.Path.{_≡_, refl, sym, ap, _∙_}
+use mathlib.Core.Logic.{_≢_, _⊎_, inl, inr}
+use mathlib.Core.Bool.{Bool, true, false}
+use Prim.Native.Nat.{ℕ, _+_, _-_, _*_, _/_, _%_, _≤_, _<_}
+use native.Mathlib.Omega.{arith}
+use lib.ListN.{length, getD, drop}
+use denote.Ref.{now}
+use borrow.Author.Needs.{needs}
+use Rattle.bodies.proofs.KindChecks.{tiny-short, tiny-none, tiny-large, tiny-prefix, tiny-suffix, tiny-good}
+use Rattle.spec.specs.Bytes.{fieldAt}
+use Rattle.bodies.specs.Check.{goodSize}
+use Rattle.bodies.proofs.tiny.Statement.{statement}
+use Rattle.bodies.proofs.tiny.Tie as tie
+use Rattle.bodies.proofs.tiny.Reads as reads
+use Rattle.bodies.proofs.tiny.Lts as lts
+use Rattle.bodies.proofs.reach_of.Reads as reach-of-reads
+
+returns : tie.Need-returns
+returns c =
+    let a = c .before .before .args in
+    tiny-short (a .n) (a .size) (now (a .bytes)) (c .before .before .pre .0) (c .before .before .pre .1) (omega arith)
+
+shared-slice-read-both : tie.Need-shared-slice-read-both
+shared-slice-read-both c = search needs
+
+returns-2 : tie.Need-returns-2
+returns-2 c =
+    let a = c .before .before .before .before .args in
+    tiny-none (a .n) (a .size) (now (a .bytes)) (c .before .before .before .before .pre .0) (c .before .before .before .before .pre .1) (omega arith)
+
+returns-3 : tie.Need-returns-3
+returns-3 c =
+    let a = c .before .before .before .before .before .args in
+    tiny-large (a .n) (a .size) (now (a .bytes)) (c .before .before .before .before .before .pre .0) (c .before .before .before .before .before .pre .1) (omega arith)
+
+reach-of-requires : tie.Need-reach-of-requires
+reach-of-requires c κs = search needs
+
+cast-if4 : tie.Need-cast-if4
+cast-if4 c = search needs
+
+returns-4 : tie.Need-returns-4
+returns-4 c =
+    let a = c .before .before .before .before .before .before .before .args in
+    tiny-prefix (a .n) (a .size) (now (a .bytes)) (c .before .before .before .before .before .before .before .pre .0) (c .before .before .before .before .before .before .before .pre .1) (omega arith)
+
+cast-if5 : tie.Need-cast-if5
+cast-if5 c = search needs
+
+returns-5 : tie.Need-returns-5
+returns-5 c =
+    let a = c .before .before .before .before .before .before .before .before .args in
+    tiny-suffix (a .n) (a .size) (now (a .bytes)) (c .before .before .before .before .before .before .before .before .pre .0) (c .before .before .before .before .before .before .before .before .pre .1) (omega arith)
+
+returns-6 : tie.Need-returns-6
+returns-6 c =
+    let a = c .before .before .before .before .before .before .before .before .args in
+    tiny-good (a .n) (a .size) (now (a .bytes)) (c .before .before .before .before .before .before .before .before .pre .0) (c .before .before .before .before .before .before .before .before .pre .1) (omega arith) (omega arith) (omega arith) (omega arith) (omega arith)
+
+pub tiny-spec : {M : Type 1} → statement M
+tiny-spec =
+    tie.close
+    (tie.spec
+    returns
+    shared-slice-read-both
+    returns-2
+    returns-3
+    reach-of-requires
+    cast-if4
+    returns-4
+    cast-if5
+    returns-5
+    returns-6)

@@ -1,0 +1,195 @@
+// Bodies of a match index: whether bytes are the written form of records in range (document 01, "Notes file": "A body is good if ..").
+ghost use mathlib.Core.Path.{_≡_};
+ghost use mathlib.Core.List.{List};
+ghost use Prim.Native.Nat.{ℕ, _+_, _*_, _≤_};
+ghost use lib.ListN.{length, getD, take, drop};
+ghost use Rattle.spec.specs.Bytes.{fieldsOf};
+ghost use Rattle.spec.specs.Records.{form1, reach, goodBody};
+ghost use Rattle.bodies.specs.Check.{goodSize, inOrder, offsetsGood, Lengths, Head};
+
+// The greatest length of a prefix or suffix.
+pub fn reach_of(n: usize, size: usize) -> usize
+    requires { ⌜ 1 ≤ n ⌝ }
+    ensures { λ r. ⌜ r ≡ reach n size ⌝ }
+{
+    if n - 1 < size {
+        return n - 1;
+    }
+    size
+}
+
+// The `count` fields of `width` bytes at `at` are offsets in order.
+pub fn in_order(bytes: &[u8], at: usize, width: usize, count: usize, n: usize, size: usize) -> bool
+    requires { ⌜ (width ≤ 8) × (at + width * count ≤ length (now bytes)) × (1 ≤ n) ⌝ }
+    ensures { λ r. ⌜ r ≡ inOrder n size (fieldsOf width count (drop at (now (bytes .entry)))) ⌝ }
+{
+    let mut place = at;
+    let mut left = count;
+    let mut least: usize = 0;
+    while 0 < left {
+        let offset = field::read(bytes, place, width) as usize;
+        if offset < least {
+            return false;
+        }
+        if size < offset {
+            return false;
+        }
+        if size - offset < n {
+            return false;
+        }
+        least = offset + 1;
+        place += width;
+        left -= 1;
+    }
+    true
+}
+
+// The `count` offsets of 2 bytes at `at`: all there, the first one the head's, in order.
+fn offsets_good(bytes: &[u8], at: usize, count: usize, n: usize, size: usize) -> bool
+    requires { ⌜ (7 ≤ length (now bytes)) × (at ≤ length (now bytes)) × (1 ≤ count) × (count ≤ 65535) × (1 ≤ n) ⌝ }
+    ensures { λ r. ⌜ r ≡ offsetsGood n size (now (bytes .entry)) at count ⌝ }
+{
+    if bytes.len() - at < 2 * count {
+        return false;
+    }
+    if field::read(bytes, 5, 2) != field::read(bytes, at, 2) {
+        return false;
+    }
+    in_order(bytes, at, 2, count, n, size)
+}
+
+// Kind 0: one byte, 1 prefix, 2 suffix, 3 both.
+fn tiny(bytes: &[u8], n: usize, size: usize) -> usize
+    requires { ⌜ (1 ≤ length (now bytes)) × (getD (now bytes) 1 0 ≡ 0) × (1 ≤ n) ⌝ }
+    ensures { λ r. ⌜ r ≡ goodSize n size (now (bytes .entry)) ⌝ }
+{
+    if bytes.len() < 3 {
+        return 0;
+    }
+    let both = bytes[2];
+    if both == 0 {
+        return 0;
+    }
+    if 3 < both {
+        return 0;
+    }
+    let most = reach_of(n, size);
+    if most < (both % 2) as usize {
+        return 0;
+    }
+    if most < (both / 2) as usize {
+        return 0;
+    }
+    3
+}
+
+// Kind 1 without an offset: the field of the first one is 0, and the record is not tiny.
+fn none(bytes: &[u8], n: usize, size: usize) -> usize
+    requires { ⌜ Head 1 n size (now bytes) × (getD (now bytes) 4 0 ≡ 0) ⌝ }
+    ensures { λ r. ⌜ r ≡ goodSize n size (now (bytes .entry)) ⌝ }
+{
+    if field::read(bytes, 5, 2) != 0 {
+        return 0;
+    }
+    if 1 < bytes[2] {
+        return 7;
+    }
+    if 1 < bytes[3] {
+        return 7;
+    }
+    0
+}
+
+// Kind 1 with an offset.
+fn single(bytes: &[u8], n: usize, size: usize) -> usize
+    requires { ⌜ Head 1 n size (now bytes) × (1 ≤ getD (now bytes) 4 0) ⌝ }
+    ensures { λ r. ⌜ r ≡ goodSize n size (now (bytes .entry)) ⌝ }
+{
+    if bytes[4] != 1 {
+        return 0;
+    }
+    let offset = field::read(bytes, 5, 2) as usize;
+    if size < offset {
+        return 0;
+    }
+    if size - offset < n {
+        return 0;
+    }
+    7
+}
+
+// Kind 2: 2 to 254 offsets.
+fn several(bytes: &[u8], n: usize, size: usize) -> usize
+    requires { ⌜ Head 2 n size (now bytes) ⌝ }
+    ensures { λ r. ⌜ r ≡ goodSize n size (now (bytes .entry)) ⌝ }
+{
+    let count = bytes[4] as usize;
+    if count < 2 {
+        return 0;
+    }
+    if 254 < count {
+        return 0;
+    }
+    if !offsets_good(bytes, 7, count, n, size) {
+        return 0;
+    }
+    7 + 2 * count
+}
+
+// Kind 3: 255 offsets or more, with their exact count.
+fn many(bytes: &[u8], n: usize, size: usize) -> usize
+    requires { ⌜ Head 3 n size (now bytes) ⌝ }
+    ensures { λ r. ⌜ r ≡ goodSize n size (now (bytes .entry)) ⌝ }
+{
+    if bytes.len() < 9 {
+        return 0;
+    }
+    if bytes[4] != 255 {
+        return 0;
+    }
+    let count = field::read(bytes, 7, 2) as usize;
+    if count < 255 {
+        return 0;
+    }
+    if !offsets_good(bytes, 9, count, n, size) {
+        return 0;
+    }
+    9 + 2 * count
+}
+
+// The size of the good record that the bytes start with, for a keyword of length n and a chunk of length `size`; 0 if they start with none.
+pub fn record_good(bytes: &[u8], n: usize, size: usize) -> usize
+    requires { ⌜ (1 ≤ length (now bytes)) × Lengths n size ⌝ }
+    ensures { λ r. ⌜ r ≡ goodSize n size (now (bytes .entry)) ⌝ }
+{
+    if bytes.len() < 2 {
+        return 0;
+    }
+    let kind = bytes[1];
+    if kind == 0 {
+        return tiny(bytes, n, size);
+    }
+    if 3 < kind {
+        return 0;
+    }
+    if bytes.len() < 7 {
+        return 0;
+    }
+    let most = reach_of(n, size);
+    if most < bytes[2] as usize {
+        return 0;
+    }
+    if most < bytes[3] as usize {
+        return 0;
+    }
+    if kind == 2 {
+        return several(bytes, n, size);
+    }
+    if kind == 3 {
+        return many(bytes, n, size);
+    }
+    if bytes[4] == 0 {
+        return none(bytes, n, size);
+    }
+    single(bytes, n, size)
+}
