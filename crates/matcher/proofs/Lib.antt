@@ -1,1 +1,3 @@
 pub mod Offsets
+pub mod Shapes
+pub mod Summing

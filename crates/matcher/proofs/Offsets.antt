@@ -18,16 +18,23 @@ use Rattle.spec.proofs.Folding.{folded-length, rest, rest-differs, occursAt-out
 use Rattle.matcher.specs.Summaries.{offsetsFrom}
 
 module _ (t : ℕ → Bool) where
-  first-of : (n a end r : ℕ) → a + n ≡ end → r ≡ getD (passing t a n) 0 end → r < end
-      → (a ≤ r) × (passing t a n ≡ r ∷ passing t (suc r) (end - suc r))
+  record First (a n end r : ℕ) : Type 0 where
+    low : a ≤ r
+    here : t r ≡ true
+    is : passing t a n ≡ r ∷ passing t (suc r) (end - suc r)
+
+  first-of : (n a end r : ℕ) → a + n ≡ end → r ≡ getD (passing t a n) 0 end → r < end → First a n end r
   first-of zero a end r s e l = let z : ⊥ = omega arith in absurd z
-  first-of (suc n) a end r s e l = go (t a) e (λ h. first-of n (suc a) end r (omega arith) h l)
+  first-of (suc n) a end r s e l = go (t a) refl e (λ h. first-of n (suc a) end r (omega arith) h l)
     where
-      go : (b : Bool) → r ≡ getD (keep b a ++ passing t (suc a) n) 0 end
-          → (r ≡ getD (passing t (suc a) n) 0 end → (suc a ≤ r) × (passing t (suc a) n ≡ r ∷ passing t (suc r) (end - suc r)))
-          → (a ≤ r) × (keep b a ++ passing t (suc a) n ≡ r ∷ passing t (suc r) (end - suc r))
-      go true q ih = let m : end - suc a ≡ n = omega arith in (omega arith, rw (q, m))
-      go false q ih = (omega (arith, ih q .0), ih q .1)
+      go : (b : Bool) → t a ≡ b → r ≡ getD (keep b a ++ passing t (suc a) n) 0 end
+          → (r ≡ getD (passing t (suc a) n) 0 end → First (suc a) n end r) → First a (suc n) end r
+      go true h q ih =
+          let m : end - suc a ≡ n = omega arith in
+          record { low = omega arith; here = rw q h; is = rw (h, q, m) }
+      go false h q ih =
+          let f = ih q in
+          record { low = omega (arith, f .low); here = f .here; is = rw h (f .is) }
 
   ended : (n a end r : ℕ) → a + n ≡ end → r ≡ getD (passing t a n) 0 end → end ≤ r → passing t a n ≡ []
   ended zero a end r s e l = refl
@@ -58,15 +65,26 @@ module _ (keyword chunk : List ℕ) where
   offsets-out from l = let z : length chunk - from ≡ 0 = omega arith in rw z
 
   -- the next offset is the first, and those behind it follow
-  pub offsets-next : (from r : ℕ) → r ≡ getD (offsetsFrom keyword chunk from) 0 (length chunk) → r < length chunk
-      → (from ≤ r) × (offsetsFrom keyword chunk from ≡ r ∷ offsetsFrom keyword chunk (r + 1))
+  pub record Next (from r : ℕ) : Type 0 where
+    pub low : from ≤ r
+    pub is : offsetsFrom keyword chunk from ≡ r ∷ offsetsFrom keyword chunk (r + 1)
+    pub same : offsetsFrom keyword chunk r ≡ offsetsFrom keyword chunk from
+
+  pub offsets-next : (from r : ℕ) → r ≡ getD (offsetsFrom keyword chunk from) 0 (length chunk) → r < length chunk → Next from r
   unfolding offsetsFrom
   offsets-next from r e l = ⊎-elim within beyond (le-or-lt from (length chunk))
     where
-      within : from ≤ length chunk → (from ≤ r) × (offsetsFrom keyword chunk from ≡ r ∷ offsetsFrom keyword chunk (r + 1))
-      within h = rw add-one (first-of (occursAt keyword chunk) (length chunk - from) from (length chunk) r (omega arith) e l)
+      found : First (occursAt keyword chunk) from (length chunk - from) (length chunk) r → Next from r
+      found f = record {
+        low = f .low;
+        is = rw add-one (f .is);
+        same = each-step _ r (length chunk) l ∙ rw (f .here) (sym (f .is));
+      }
 
-      beyond : length chunk < from → (from ≤ r) × (offsetsFrom keyword chunk from ≡ r ∷ offsetsFrom keyword chunk (r + 1))
+      within : from ≤ length chunk → Next from r
+      within h = found (first-of (occursAt keyword chunk) (length chunk - from) from (length chunk) r (omega arith) e l)
+
+      beyond : length chunk < from → Next from r
       beyond h = let q : r ≡ length chunk = (rw (offsets-out from (omega arith)) at e) in let z : ⊥ = omega arith in absurd z
 
   -- none is left where the search came to the chunk's end
@@ -122,7 +140,7 @@ module _ (flag : ℕ) (keyword chunk : List ℕ) where
   next-yes at l h = rw same-end at (offsets-yes (folded flag keyword) (folded flag chunk) at (rw same-end l) h)
 
   -- what the next offset says of the list
-  pub left-next : (from r : ℕ) → r ≡ next from → r < length chunk → (from ≤ r) × (left from ≡ r ∷ left (r + 1))
+  pub left-next : (from r : ℕ) → r ≡ next from → r < length chunk → Next (folded flag keyword) (folded flag chunk) from r
   left-next from r e l = offsets-next (folded flag keyword) (folded flag chunk) from r (rw same-end e) (rw same-end l)
 
   pub left-ended : (from r : ℕ) → r ≡ next from → length chunk ≤ r → left from ≡ []

@@ -1,9 +1,26 @@
--- What the record writer asks of a match record: the offsets from a place on, and what decides a record's kind and length.
-use mathlib.Core.List.{List}
-use Prim.Native.Nat.{ℕ, _-_}
+-- What the record writer asks of a match record: the offsets from a place on, what decides a record's kind and length, and what a
+-- writer promises of its buffer.
+use mathlib.Core.Path.{_≡_}
+use mathlib.Core.List.{List, _∷_}
+use Prim.Native.Nat.{ℕ, _+_, _-_, min}
 use lib.ListN.{length, getD}
-use Rattle.spec.specs.Bytes.{occursAt, each, keep}
+use Rattle.spec.specs.Bytes.{leBytes, splice, occursAt, each, keep}
+use Rattle.spec.specs.Records.{Form, MatchRecord, kindOf}
+use Rattle.matcher.specs.declared.Summary.{Summary}
 
 -- The offsets from `from` on: with 0 these are the record's.
 unfoldable pub offsetsFrom : List ℕ → List ℕ → ℕ → List ℕ
 offsetsFrom keyword chunk from = each (λ at. keep (occursAt keyword chunk at) at) from (length chunk - from)
+
+-- Of a record's offsets only their count and the first bear on its kind, its length and its head.
+unfoldable pub summaryOf : MatchRecord → Summary
+summaryOf m = record { prefix = m .prefix; suffix = m .suffix; count = length (m .offsets); first = getD (m .offsets) 0 0 }
+
+-- A full record up to its offsets: keyword number, kind, prefix, suffix, count, first offset.
+unfoldable pub headBytes : Form → ℕ → MatchRecord → List ℕ
+headBytes f k m = k ∷ kindOf (length (m .offsets)) ∷ m .prefix ∷ m .suffix ∷ min (length (m .offsets)) 255 ∷ leBytes (f .width) (getD (m .offsets) 0 0)
+
+-- What a writer promises: the run stands in the buffer from `at` on, every other byte is as it was, and the answer is where the run ends.
+pub record Wrote (buffer : List ℕ) (at : ℕ) (run after : List ℕ) (end : ℕ) : Type 0 where
+  pub written : after ≡ splice buffer at run
+  pub ends : end ≡ at + length run

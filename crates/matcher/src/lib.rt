@@ -1,12 +1,13 @@
 // Match records (the papers' "notes on one chunk and one word"): prefix, suffix and occurrences of one keyword in one chunk, and their
 // written form. Keyword and chunk are slices of the keyword list and of the store, never copied.
 ghost use mathlib.Core.Path.{_≡_};
-ghost use Prim.Native.Nat.{_+_, _-_, _≤_, _<_};
+ghost use Prim.Native.Nat.{ℕ, _+_, _*_, _≤_, _<_};
+ghost use Prim.Native.Nat.{min};
 ghost use lib.ListN.{length, getD};
-ghost use Rattle.spec.specs.Bytes.{occursAt};
+ghost use Rattle.spec.specs.Bytes.{leBytes, fieldsBytes, occursAt};
 ghost use Rattle.spec.specs.Keywords.{foldByte, folded};
-ghost use Rattle.spec.specs.Records.{reach, prefixOf, suffixOf};
-ghost use Rattle.matcher.specs.Summaries.{offsetsFrom};
+ghost use Rattle.spec.specs.Records.{MatchRecord, reach, prefixOf, suffixOf, recordOf, form1, isEmpty, isTiny, kindOf, tinyBytes, fullBytes, recordBytes};
+ghost use Rattle.matcher.specs.Summaries.{offsetsFrom, summaryOf, headBytes, Wrote};
 
 // The byte as it compares.
 pub fn fold(flag: u8, b: u8) -> u8
@@ -128,5 +129,187 @@ pub fn count_from(keyword: &[u8], chunk: &[u8], flag: u8, from: usize) -> usize
         }
         count += 1;
         place = at + 1;
+    }
+}
+
+// ---- summaries: what decides how a record is written
+
+pub struct Summary {
+    pub prefix: usize,
+    pub suffix: usize,
+    // how many offsets there are, and the first (0 where there is none)
+    pub count: usize,
+    pub first: usize,
+}
+
+// The summary of the record: one walk over the chunk.
+pub fn summary_of(keyword: &[u8], chunk: &[u8], flag: u8) -> Summary
+    requires { ⌜ 1 ≤ length (now keyword) ⌝ }
+    ensures { λ r. ⌜ r ≡ summaryOf (recordOf (folded flag (now (keyword .entry))) (folded flag (now (chunk .entry)))) ⌝ }
+{
+    let prefix = prefix_of(keyword, chunk, flag);
+    let suffix = suffix_of(keyword, chunk, flag);
+    let first = next_offset(keyword, chunk, flag, 0);
+    if chunk.len() <= first {
+        return Summary {
+            prefix: prefix,
+            suffix: suffix,
+            count: 0,
+            first: 0,
+        };
+    }
+    let count = count_from(keyword, chunk, flag, first);
+    Summary {
+        prefix: prefix,
+        suffix: suffix,
+        count: count,
+        first: first,
+    }
+}
+
+// The record is empty, so nothing is written.
+pub fn is_empty(s: Summary) -> bool
+    ensures { λ r. ⌜ ((m : MatchRecord) → s ≡ summaryOf m → r ≡ isEmpty m) ⌝ }
+{
+    if s.prefix != 0 {
+        return false;
+    }
+    if s.suffix != 0 {
+        return false;
+    }
+    s.count == 0
+}
+
+// The longest prefix or suffix of a tiny record, and what a suffix of length 1 adds to its byte.
+const TINY_MOST: usize = 1;
+
+const TINY_STEP: usize = 2;
+
+// The record is tiny.
+pub fn is_tiny(s: Summary) -> bool
+    ensures { λ r. ⌜ ((n : ℕ) (m : MatchRecord) → s ≡ summaryOf m → r ≡ isTiny form1 n m) ⌝ }
+{
+    if s.count != 0 {
+        return false;
+    }
+    if TINY_MOST < s.prefix {
+        return false;
+    }
+    if TINY_MOST < s.suffix {
+        return false;
+    }
+    !is_empty(s)
+}
+
+// The kind of a full record.
+pub fn kind_of(count: usize) -> u8
+    ensures { λ r. ⌜ r ≡ kindOf count ⌝ }
+{
+    if count <= 1 {
+        return 1;
+    }
+    if count <= 254 {
+        return 2;
+    }
+    3
+}
+
+// The count byte: the smaller of the count and FF.
+pub fn count_byte(count: usize) -> u8
+    ensures { λ r. ⌜ r ≡ min count 255 ⌝ }
+{
+    if count < 255 {
+        return count as u8;
+    }
+    255
+}
+
+// Bytes of an offset and of the exact count; of a full record's head: number, kind, prefix, suffix, count byte, first offset.
+const WIDTH: usize = 2;
+
+const HEAD: usize = 7;
+
+// ---- lengths
+
+// The length of a full record with so many offsets.
+pub fn full_size(count: usize) -> usize
+    requires { ⌜ count ≤ form1 .longestChunk ⌝ }
+    ensures { λ r. ⌜ ((k : ℕ) (m : MatchRecord) → count ≡ length (m .offsets) → r ≡ length (fullBytes form1 k m)) ⌝ }
+{
+    if count <= 1 {
+        return HEAD;
+    }
+    if count <= 254 {
+        return HEAD + WIDTH * count;
+    }
+    HEAD + WIDTH + WIDTH * count
+}
+
+// The length of the record as it is written.
+pub fn record_size(keyword: &[u8], chunk: &[u8], flag: u8) -> usize
+    requires { ⌜ (1 ≤ length (now keyword)) × (length (now chunk) ≤ form1 .longestChunk) ⌝ }
+    ensures { λ r. ⌜ ((k : ℕ) → r ≡ length (recordBytes form1 (length (now (keyword .entry))) k (recordOf (folded flag (now (keyword .entry))) (folded flag (now (chunk .entry)))))) ⌝ }
+{
+    let s = summary_of(keyword, chunk, flag);
+    if is_empty(s) {
+        return 0;
+    }
+    if is_tiny(s) {
+        return 3;
+    }
+    full_size(s.count)
+}
+
+// ---- writing
+
+// Writes a tiny record at the buffer's start.
+pub fn put_tiny(out: &mut [u8], k: usize, s: Summary) -> usize
+    requires { ⌜ (3 ≤ length (now out)) × (k < 256) × (s .prefix ≤ 1) × (s .suffix ≤ 1) ⌝ }
+    ensures { λ r. ⌜ ((m : MatchRecord) → s ≡ summaryOf m → Wrote (now (out .entry)) 0 (tinyBytes form1 k m) (now (out .exit)) r) ⌝ }
+{
+    out[0] = k as u8;
+    out[1] = 0;
+    out[2] = (s.prefix + TINY_STEP * s.suffix) as u8;
+    3
+}
+
+// Writes the head of a full record at the buffer's start.
+pub fn put_head(out: &mut [u8], k: usize, s: Summary) -> usize
+    requires { ⌜ (7 ≤ length (now out)) × (k < 256) × (s .prefix < 256) × (s .suffix < 256) ⌝ }
+    ensures { λ r. ⌜ ((m : MatchRecord) → s ≡ summaryOf m → Wrote (now (out .entry)) 0 (headBytes form1 k m) (now (out .exit)) r) ⌝ }
+{
+    let kind = kind_of(s.count);
+    let count = count_byte(s.count);
+    out[0] = k as u8;
+    out[1] = kind;
+    out[2] = s.prefix as u8;
+    out[3] = s.suffix as u8;
+    out[4] = count;
+    field::write(out, 5, WIDTH, s.first as u64);
+    HEAD
+}
+
+// Writes the offsets from `from` on, one after the other, into the buffer at `at`.
+pub fn put_offsets(
+    out: &mut [u8],
+    at: usize,
+    keyword: &[u8],
+    chunk: &[u8],
+    flag: u8,
+    from: usize,
+) -> usize
+    requires { ⌜ (1 ≤ length (now keyword)) × (at + 2 * length (offsetsFrom (folded flag (now keyword)) (folded flag (now chunk)) from) ≤ length (now out)) ⌝ }
+    ensures { λ r. ⌜ Wrote (now (out .entry)) at (fieldsBytes 2 (offsetsFrom (folded flag (now (keyword .entry))) (folded flag (now (chunk .entry))) from)) (now (out .exit)) r ⌝ }
+{
+    let mut end = at;
+    let mut place = from;
+    loop {
+        let offset = next_offset(keyword, chunk, flag, place);
+        if chunk.len() <= offset {
+            return end;
+        }
+        field::write(out, end, WIDTH, offset as u64);
+        end += WIDTH;
+        place = offset + 1;
     }
 }

@@ -40,7 +40,7 @@ found c =
     let l = c .before .before in
     let a = l .before .before .before .args in
     let f = left-next (a .flag) (a .keyword .now) (a .chunk .now) (l .loop .place) (c .before .next-offset .result) (c .before .next-offset .ensures) (omega arith) in
-    (f .0, ap length (f .1))
+    (f .low, ap length (f .is))
 
 add-count : tie.Need-add-count Inv-loop μ-loop
 add-count c =
