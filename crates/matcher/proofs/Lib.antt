@@ -1,3 +1,5 @@
 pub mod Offsets
 pub mod Shapes
 pub mod Summing
+pub mod Full
+pub mod Recorded

@@ -112,3 +112,15 @@ pub field-turn : (width : ℕ) (out after : List ℕ) (end r : ℕ) (here rest :
 unfolding fieldsBytes
 field-turn width out after end r here rest h l w =
     rw (h, w) (rw length-leBytes at (splice-splice out end (leBytes width r) (fieldsBytes width rest) l))
+
+-- ---- one run after another
+
+pub wrote-then : (l l₁ l₂ : List ℕ) (at end end₂ : ℕ) (v w : List ℕ) → at ≤ length l → Wrote l at v l₁ end → Wrote l₁ end w l₂ end₂ → Wrote l at (v ++ w) l₂ end₂
+wrote-then l l₁ l₂ at end end₂ v w h p q = record {
+  written = splice-then l at v w h (p .written) (p .ends) (q .written);
+  ends = omega (arith, p .ends, q .ends, length-append v w);
+}
+
+pub length-head : (k : ℕ) (m : MatchRecord) → length (headBytes form1 k m) ≡ 7
+unfolding headBytes
+length-head k m = omega (arith, length-leBytes 2 (getD (m .offsets) 0 0))

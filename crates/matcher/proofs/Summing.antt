@@ -8,11 +8,11 @@ use Rattle.spec.specs.Keywords.{folded}
 use Rattle.spec.specs.Records.{MatchRecord, prefixOf, suffixOf, offsetsOf, recordOf}
 use Rattle.matcher.specs.declared.Summary.{Summary}
 use Rattle.matcher.specs.Summaries.{offsetsFrom, summaryOf}
-use Rattle.matcher.proofs.Shapes.{at-count}
+use Rattle.matcher.proofs.Shapes.{at-count, at-first, length-head}
 use Rattle.matcher.proofs.Offsets.{left, next, left-next, left-ended, left-length, offsets-all}
 
 module _ (flag : ℕ) (keyword chunk : List ℕ) where
-  abbrev recorded : MatchRecord
+  abbrev pub recorded : MatchRecord
   recorded = recordOf (folded flag keyword) (folded flag chunk)
 
   pub recorded-offsets : recorded .offsets ≡ left flag keyword chunk 0

@@ -2,10 +2,10 @@
 -- writer promises of its buffer.
 use mathlib.Core.Path.{_≡_}
 use mathlib.Core.List.{List, _∷_}
-use Prim.Native.Nat.{ℕ, _+_, _-_, min}
+use Prim.Native.Nat.{ℕ, _+_, _-_, _≤_, _<_, min}
 use lib.ListN.{length, getD}
 use Rattle.spec.specs.Bytes.{leBytes, splice, occursAt, each, keep}
-use Rattle.spec.specs.Records.{Form, MatchRecord, kindOf}
+use Rattle.spec.specs.Records.{Form, MatchRecord, form1, kindOf, recordOf, fullBytes, recordBytes}
 use Rattle.matcher.specs.declared.Summary.{Summary}
 
 -- The offsets from `from` on: with 0 these are the record's.
@@ -24,3 +24,19 @@ headBytes f k m = k ∷ kindOf (length (m .offsets)) ∷ m .prefix ∷ m .suffix
 pub record Wrote (buffer : List ℕ) (at : ℕ) (run after : List ℕ) (end : ℕ) : Type 0 where
   pub written : after ≡ splice buffer at run
   pub ends : end ≡ at + length run
+
+-- What the writer of a full record asks: the keyword has bytes, the summary is the record's, its numbers are bytes, and the record fits.
+pub record CanPutFull (buffer : List ℕ) (k : ℕ) (s : Summary) (keyword chunk : List ℕ) : Type 0 where
+  pub some : 1 ≤ length keyword
+  pub number : k < 256
+  pub prefixed : s .prefix < 256
+  pub suffixed : s .suffix < 256
+  pub summed : s ≡ summaryOf (recordOf keyword chunk)
+  pub room : length (fullBytes form1 k (recordOf keyword chunk)) ≤ length buffer
+
+-- What the writer of any record asks, for a keyword of length n.
+pub record CanPut (buffer : List ℕ) (k n : ℕ) (m : MatchRecord) : Type 0 where
+  pub some : 1 ≤ n
+  pub short : n ≤ 32
+  pub number : k < 256
+  pub room : length (recordBytes form1 n k m) ≤ length buffer

@@ -5,25 +5,9 @@ ghost use Prim.Native.Nat.{ℕ, _+_, _*_, _≤_, _<_};
 ghost use Prim.Native.Nat.{min};
 ghost use lib.ListN.{length, getD};
 ghost use Rattle.spec.specs.Bytes.{leBytes, fieldsBytes, occursAt};
-ghost use Rattle.spec.specs.Keywords.{foldByte, folded};
+ghost use Rattle.spec.specs.Keywords.{folded};
 ghost use Rattle.spec.specs.Records.{MatchRecord, reach, prefixOf, suffixOf, recordOf, form1, isEmpty, isTiny, kindOf, tinyBytes, fullBytes, recordBytes};
-ghost use Rattle.matcher.specs.Summaries.{offsetsFrom, summaryOf, headBytes, Wrote};
-
-// The byte as it compares.
-pub fn fold(flag: u8, b: u8) -> u8
-    ensures { λ r. ⌜ r ≡ foldByte flag b ⌝ }
-{
-    if flag != 1 {
-        return b;
-    }
-    if b < 0x41 {
-        return b;
-    }
-    if 0x5A < b {
-        return b;
-    }
-    b + 0x20
-}
+ghost use Rattle.matcher.specs.Summaries.{offsetsFrom, summaryOf, headBytes, Wrote, CanPutFull, CanPut};
 
 // Whether the keyword occurs at the offset of the chunk.
 pub fn occurs_at(keyword: &[u8], chunk: &[u8], at: usize, flag: u8) -> bool
@@ -40,8 +24,8 @@ pub fn occurs_at(keyword: &[u8], chunk: &[u8], at: usize, flag: u8) -> bool
     }
     let mut k = 0;
     while k < keyword.len() {
-        let x = fold(flag, keyword[k]);
-        let y = fold(flag, chunk[at + k]);
+        let x = keywords::fold(flag, keyword[k]);
+        let y = keywords::fold(flag, chunk[at + k]);
         if x != y {
             return false;
         }
@@ -102,10 +86,10 @@ pub fn next_offset(keyword: &[u8], chunk: &[u8], flag: u8, from: usize) -> usize
         return chunk.len();
     }
     let last = chunk.len() - keyword.len();
-    let first = fold(flag, keyword[0]);
+    let first = keywords::fold(flag, keyword[0]);
     let mut at = from;
     while at <= last {
-        if fold(flag, chunk[at]) == first {
+        if keywords::fold(flag, chunk[at]) == first {
             if occurs_at(keyword, chunk, at, flag) {
                 return at;
             }
@@ -312,4 +296,44 @@ pub fn put_offsets(
         end += WIDTH;
         place = offset + 1;
     }
+}
+
+// Writes a full record at the buffer's start.
+pub fn put_full(
+    out: &mut [u8],
+    k: usize,
+    s: Summary,
+    keyword: &[u8],
+    chunk: &[u8],
+    flag: u8,
+) -> usize
+    requires { ⌜ CanPutFull (now out) k s (folded flag (now keyword)) (folded flag (now chunk)) ⌝ }
+    ensures { λ r. ⌜ Wrote (now (out .entry)) 0 (fullBytes form1 k (recordOf (folded flag (now (keyword .entry))) (folded flag (now (chunk .entry))))) (now (out .exit)) r ⌝ }
+{
+    let head = put_head(out, k, s);
+    let count = s.count;
+    if count <= 1 {
+        return head;
+    }
+    let first = s.first;
+    if count <= 254 {
+        return put_offsets(out, head, keyword, chunk, flag, first);
+    }
+    field::write(out, head, WIDTH, count as u64);
+    put_offsets(out, head + WIDTH, keyword, chunk, flag, first)
+}
+
+// Writes the record of keyword k at the buffer's start: nothing where it is empty.
+pub fn put_record(out: &mut [u8], k: usize, keyword: &[u8], chunk: &[u8], flag: u8) -> usize
+    requires { ⌜ CanPut (now out) k (length (now keyword)) (recordOf (folded flag (now keyword)) (folded flag (now chunk))) ⌝ }
+    ensures { λ r. ⌜ Wrote (now (out .entry)) 0 (recordBytes form1 (length (now (keyword .entry))) k (recordOf (folded flag (now (keyword .entry))) (folded flag (now (chunk .entry))))) (now (out .exit)) r ⌝ }
+{
+    let s = summary_of(keyword, chunk, flag);
+    if is_empty(s) {
+        return 0;
+    }
+    if is_tiny(s) {
+        return put_tiny(out, k, s);
+    }
+    put_full(out, k, s, keyword, chunk, flag)
 }

@@ -13,7 +13,7 @@ use Rattle.matcher.proofs.next_offset.Statement.{statement}
 use Rattle.matcher.proofs.next_offset.Tie as tie
 use Rattle.matcher.proofs.next_offset.Reads as reads
 use Rattle.matcher.proofs.next_offset.Lts as lts
-use Rattle.matcher.proofs.fold.Reads as fold-reads
+use Rattle.keywords.proofs.fold.Reads as fold-reads
 use Rattle.matcher.proofs.occurs_at.Reads as occurs-at-reads
 
 abbrev Inv-loop : tie.InvT-loop

@@ -13,7 +13,7 @@ use Rattle.matcher.proofs.occurs_at.Statement.{statement}
 use Rattle.matcher.proofs.occurs_at.Tie as tie
 use Rattle.matcher.proofs.occurs_at.Reads as reads
 use Rattle.matcher.proofs.occurs_at.Lts as lts
-use Rattle.matcher.proofs.fold.Reads as fold-reads
+use Rattle.keywords.proofs.fold.Reads as fold-reads
 
 abbrev Inv-loop : tie.InvT-loop
 Inv-loop keyword chunk at flag k₀ k =

@@ -1,0 +1,58 @@
+-- The record of a real chunk as it is written: empty, tiny or full, by the summary's tests; its numbers are bytes. Assumes nothing.
+use mathlib.Core.Path.{_≡_, refl, sym, ap, _∙_}
+use mathlib.Core.Bool.{Bool, true, false, _&&_, not}
+use mathlib.Core.List.{List, [], _∷_, _++_}
+use Prim.Native.Nat.{ℕ, zero, suc, _+_, _*_, _-_, _≤_, _<_}
+use native.Mathlib.Omega.{arith}
+use lib.ListN.{length}
+use lib.Dec.{eqb, leb, leb→le}
+use Rattle.spec.specs.Bytes.{splice}
+use Rattle.spec.specs.Keywords.{folded}
+use Rattle.spec.specs.Records.{MatchRecord, form1, reach, isEmpty, isTiny, recordOf, tinyBytes, fullBytes, recordBytes}
+use Rattle.spec.proofs.Tests.{and-left, and-right, T-of}
+use Rattle.spec.proofs.Folding.{folded-length}
+use Rattle.spec.proofs.Splices.{splice-nil}
+use Rattle.spec.proofs.RecordLaws.{prefix-in, suffix-in, written-empty, written-tiny, written-full}
+use Rattle.spec.proofs.RecordRanges.{record-in-range}
+use Rattle.matcher.specs.declared.Summary.{Summary}
+use Rattle.matcher.specs.Summaries.{summaryOf, Wrote}
+use Rattle.matcher.proofs.Shapes.{at-prefix, at-suffix}
+use Rattle.matcher.proofs.Summing.{recorded}
+
+le-of : (m n : ℕ) → leb m n ≡ true → m ≤ n
+le-of m n e = leb→le m n (T-of (leb m n) e)
+
+module _ (flag : ℕ) (keyword chunk : List ℕ) (s : Summary) (e : s ≡ summaryOf (recorded flag keyword chunk)) where
+  abbrev pub m : MatchRecord
+  m = recorded flag keyword chunk
+
+  -- ---- prefix and suffix
+
+  pub prefix-byte : length keyword ≤ 32 → s .prefix < 256
+  unfolding reach
+  prefix-byte h =
+      omega (arith, at-prefix s m e, folded-length flag keyword, prefix-in (length (folded flag keyword)) (length (folded flag chunk)) m (record-in-range (folded flag keyword) (folded flag chunk)))
+
+  pub suffix-byte : length keyword ≤ 32 → s .suffix < 256
+  unfolding reach
+  suffix-byte h =
+      omega (arith, at-suffix s m e, folded-length flag keyword, suffix-in (length (folded flag keyword)) (length (folded flag chunk)) m (record-in-range (folded flag keyword) (folded flag chunk)))
+
+  pub tiny-prefix-most : isTiny form1 (length keyword) m ≡ true → s .prefix ≤ 1
+  tiny-prefix-most t = omega (arith, at-prefix s m e, le-of (m .prefix) 1 (and-right (eqb (length (m .offsets)) 0) (leb (m .prefix) 1) (and-left _ (leb (m .suffix) 1) (and-left _ (not (isEmpty m)) t))))
+
+  pub tiny-suffix-most : isTiny form1 (length keyword) m ≡ true → s .suffix ≤ 1
+  tiny-suffix-most t =
+      omega (arith, at-suffix s m e, le-of (m .suffix) 1 (and-right (eqb (length (m .offsets)) 0 && leb (m .prefix) 1) (leb (m .suffix) 1) (and-left _ (not (isEmpty m)) t)))
+
+-- ---- the three forms
+
+module _ (n k : ℕ) (m : MatchRecord) (l : List ℕ) where
+  pub put-nothing : isEmpty m ≡ true → Wrote l 0 (recordBytes form1 n k m) l 0
+  put-nothing h = rw (written-empty form1 n k m h) (record { written = sym (splice-nil l 0); ends = refl })
+
+  pub put-as-tiny : (after : List ℕ) (end : ℕ) → isTiny form1 n m ≡ true → Wrote l 0 (tinyBytes form1 k m) after end → Wrote l 0 (recordBytes form1 n k m) after end
+  put-as-tiny after end h w = rw (written-tiny form1 n k m h) w
+
+  pub put-as-full : (after : List ℕ) (end : ℕ) → isEmpty m ≡ false → isTiny form1 n m ≡ false → Wrote l 0 (fullBytes form1 k m) after end → Wrote l 0 (recordBytes form1 n k m) after end
+  put-as-full after end h t w = rw (written-full form1 n k m h t) w
