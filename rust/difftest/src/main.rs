@@ -1,13 +1,15 @@
 //! Differential test: the proved library beside the oracle, on inputs from a seed.
 //!
 //!     difftest [CASES] [SEED] [--quick] [--case K]
+//!     difftest --huge
 //!
 //! First the cases by hand, then the large ones, then CASES random ones. `--quick` leaves the large ones out, so that
-//! valgrind can run it. A difference prints the seed and the case, writes its inputs to a folder, and ends with status 1.
+//! valgrind can run it; `--huge` runs only those that want 5 GB of memory. A difference prints the seed and the case, writes its inputs to a folder, and ends with status 1.
 
 mod compare;
 mod damage;
 mod fixed;
+mod huge;
 mod inputs;
 mod rng;
 
@@ -22,16 +24,18 @@ struct Arguments {
     seed: u64,
     quick: bool,
     only: Option<u64>,
+    huge: bool,
 }
 
 fn arguments() -> Result<Arguments, String> {
-    let mut arguments = Arguments { cases: 0, seed: 20_261_115, quick: false, only: None };
+    let mut arguments = Arguments { cases: 0, seed: 20_261_115, quick: false, only: None, huge: false };
     let mut numbers = Vec::new();
     let mut words = std::env::args().skip(1);
     while let Some(word) = words.next() {
         let number = |word: Option<String>| word.and_then(|w| w.parse::<u64>().ok());
         match word.as_str() {
             "--quick" => arguments.quick = true,
+            "--huge" => arguments.huge = true,
             "--case" => arguments.only = Some(number(words.next()).ok_or("--case wants a number")?),
             _ => numbers.push(number(Some(word.clone())).ok_or(format!("not a number: {word}"))?),
         }
@@ -43,9 +47,16 @@ fn arguments() -> Result<Arguments, String> {
 
 fn main() -> ExitCode {
     match arguments() {
+        Ok(arguments) if arguments.huge => match vault::on_large_stack(huge::run) {
+            Ok(()) => ExitCode::SUCCESS,
+            Err(why) => {
+                println!("DIFFERENCE: {why}");
+                ExitCode::FAILURE
+            }
+        },
         Ok(arguments) => vault::on_large_stack(|| run(&arguments)),
         Err(why) => {
-            eprintln!("{why}\nusage: difftest [CASES] [SEED] [--quick] [--case K]");
+            eprintln!("{why}\nusage: difftest [CASES] [SEED] [--quick] [--case K]\n       difftest --huge");
             ExitCode::from(2)
         }
     }

@@ -1,0 +1,158 @@
+//! The sizes at which 32 bits end: a store of the greatest length, indexes around 4,294,967,295 bytes. Each step wants
+//! some 5 GB of memory, so these run only when asked for (`--huge`).
+
+use crate::inputs::list;
+use oracle::records::{encode_body, records_of};
+use oracle::{calls, index, keywords, recipes, store, Fingerprint, U32};
+use std::collections::HashMap;
+use vault::raw;
+
+type Verdict = Result<(), String>;
+
+fn same<T: PartialEq + std::fmt::Debug>(what: &str, got: T, want: T) -> Verdict {
+    if got == want {
+        println!("  {what}: {got:?}");
+        Ok(())
+    } else {
+        Err(format!("{what}: {got:?}, expected {want:?}"))
+    }
+}
+
+fn key(k: usize) -> Fingerprint {
+    let mut key = [0xC3; 20];
+    key[5..13].copy_from_slice(&(k as u64).wrapping_mul(0x9E37_79B9_7F4A_7C15).to_le_bytes());
+    key
+}
+
+pub fn run() -> Verdict {
+    longest_store()?;
+    longest_index(0)?;
+    longest_index(1)?;
+    longer_than_a_scan_writes()
+}
+
+/// 65,000 chunks of 65,535 bytes: 4,261,595,008 bytes.
+fn longest_store() -> Verdict {
+    println!("the longest store");
+    let (count, size) = (65_000, 65_535);
+    let mut bytes = Vec::with_capacity(8 + count * (28 + size));
+    bytes.extend_from_slice(&store::MARK);
+    bytes.extend_from_slice(&(count as u32).to_le_bytes());
+    for k in 0..count {
+        bytes.extend_from_slice(&key(k));
+        bytes.extend_from_slice(&((8 + 28 * count + k * size) as u32).to_le_bytes());
+        bytes.extend_from_slice(&(size as u32).to_le_bytes());
+    }
+    let mut state = 1u32;
+    for k in 0..count {
+        // Nothing but dots, a keyword at a random place, and half a keyword at each end.
+        let start = bytes.len();
+        bytes.resize(start + size, b'.');
+        state = state.wrapping_mul(1_664_525).wrapping_add(1_013_904_223);
+        let at = start + 3 + (state >> 8) as usize % (size - 10);
+        bytes[at..at + 4].copy_from_slice(b"cash");
+        if k % 3 == 0 {
+            bytes[start + size - 2..].copy_from_slice(b"ca");
+            bytes[start..start + 2].copy_from_slice(b"sh");
+        }
+    }
+    same("length", bytes.len() as u64, 4_261_595_008)?;
+    let words = list(false, &[b"cash"]);
+    same("store check", raw::check_store(&bytes), 0)?;
+    same("store check, a byte short", raw::check_store(&bytes[..bytes.len() - 1]), 7)?;
+    let want = calls::index_of(&words, &bytes).map_err(|code| format!("the oracle refuses with {code}"))?;
+    same("scan_size", raw::scan_size(&words, &bytes), (0, want.len() as u64))?;
+    let mut out = vec![0xEE; want.len() + 5];
+    same("scan", raw::scan(&words, &bytes, &mut out), (0, want.len() as u64))?;
+    same("the index is the oracle's", out[..want.len()] == want && out[want.len()..] == [0xEE; 5], true)?;
+    same("last chunk", raw::chunk(&bytes, &key(count - 1)), (0, 4_261_595_008 - 65_535, 65_535))?;
+    // One file of all chunks, backwards: offsets up to 4,259,775,000.
+    let files = [(0..count).rev().map(key).collect::<Vec<_>>(), vec![key(0); 2]];
+    let recipes = recipes::encode(&files);
+    let mut expected = vec![0; 9 * 120_000];
+    let joined = calls::join(&want, &recipes, &mut expected);
+    expected.truncate(9 * joined.value as usize);
+    let mut out = vec![0xEE; expected.len()];
+    same("join", raw::join(&want, &recipes, &mut out), (joined.code, joined.value))?;
+    same("the list is the oracle's", out == expected, true)?;
+    let twin = 8 + 28 * (count - 1);
+    bytes.copy_within(8..28, twin);
+    same("store check, twins at both ends", raw::check_store(&bytes), 8)
+}
+
+/// A .. A, 16 times over: every keyword at nearly every place.
+fn keywords() -> Vec<u8> {
+    let words: Vec<Vec<u8>> = (1..=16).map(|n| vec![b'A'; n]).collect();
+    list(false, &words.iter().map(|w| &w[..]).collect::<Vec<_>>())
+}
+
+/// A store whose index has 4,294,967,295 bytes and `more`.
+///
+/// With these keywords L times A makes an entry and a body of 32 x L - 64 bytes (L from 300), and xAx one of 39.
+fn longest_index(more: u64) -> Verdict {
+    println!("an index of 4,294,967,295 + {more} bytes");
+    let words = keywords();
+    let left = U32 + more - 8 - words.len() as u64;
+    let odd = (0..32).find(|odd| (left - 39 * odd) % 32 == 0).expect("39 is odd");
+    let mut rest = (left - 39 * odd) / 32;
+    let mut chunks: Vec<(Fingerprint, Vec<u8>)> = Vec::new();
+    while rest > 0 {
+        // Never leave less than a chunk of 300.
+        let size = if rest > 65_533 && rest < 65_533 + 300 { 60_000 } else { rest.min(65_533) + 2 };
+        chunks.push((key(chunks.len()), vec![b'A'; size as usize]));
+        rest -= size - 2;
+    }
+    (0..odd).for_each(|_| chunks.push((key(chunks.len()), b"xAx".to_vec())));
+    let bytes = store::encode(&chunks);
+    same("scan_size", raw::scan_size(&words, &bytes), (0, U32 + more))?;
+    let mut out = vec![0; (U32 + more) as usize + 3];
+    if more > 0 {
+        same("scan", raw::scan(&words, &bytes, &mut out), (9, 0))?;
+        return same("nothing is written", out.iter().all(|b| *b == 0), true);
+    }
+    same("scan, a byte short", raw::scan(&words, &bytes, &mut out[..U32 as usize - 1]), (9, 0))?;
+    same("scan", raw::scan(&words, &bytes, &mut out), (0, U32))?;
+    // The oracle's bodies, each once.
+    let read = keywords::read(&words).map_err(|code| format!("the oracle refuses with {code}"))?;
+    let mut bodies: HashMap<&[u8], Vec<u8>> = HashMap::new();
+    let mut at = 8 + words.len() + 32 * chunks.len();
+    for (_, chunk) in &chunks {
+        let body = bodies.entry(chunk).or_insert_with(|| encode_body(&records_of(&read, chunk)));
+        if out[at..at + body.len()] != body[..] {
+            return Err(format!("the body at {at} is not the oracle's"));
+        }
+        at += body.len();
+    }
+    same("the bodies are the oracle's, and end", at as u64, U32)?;
+    same("bytes behind", &out[U32 as usize..], &[0, 0, 0])?;
+    out.truncate(U32 as usize);
+    let last = chunks.len() - 1;
+    same("index check", raw::check_index(&out), 0)?;
+    same("last body", raw::body(&out, &key(last)), (0, U32 - 7, 7))?;
+    // Over 16 keywords, L times A has 16 x L - 120 occurrences.
+    let recipes = recipes::encode(&[vec![key(last), key(0), key(last)]]);
+    same("count", raw::count(&out, &recipes), (0, 16 * 65_535 - 120 + 2))
+}
+
+/// No scan writes it, but an index may end beyond 32 bits as long as its last body starts within them.
+fn longer_than_a_scan_writes() -> Verdict {
+    println!("an index that ends beyond 4,294,967,295");
+    let words = keywords();
+    let read = keywords::read(&words).map_err(|code| format!("the oracle refuses with {code}"))?;
+    let body = encode_body(&records_of(&read, &[b'A'; 65_535]));
+    let entries: Vec<(Fingerprint, u64, &[u8])> = (0..2049).map(|k| (key(k), 65_535, &body[..])).collect();
+    let bytes = index::encode(&words, &entries);
+    let end = bytes.len() as u64;
+    same("it ends beyond", end > U32 && end - (body.len() as u64) < U32, true)?;
+    same("index check", raw::check_index(&bytes), 0)?;
+    same("last body", raw::body(&bytes, &key(2048)), (0, end - body.len() as u64, body.len() as u64))?;
+    let recipes = recipes::encode(&[vec![key(2048), key(0)]]);
+    // Two chunks of A, and what crosses: n - 1 starts for a keyword of n.
+    same("count", raw::count(&bytes, &recipes), (0, 2 * (16 * 65_535 - 120) + 120))?;
+    same("index check, a byte short", raw::check_index(&bytes[..bytes.len() - 1]), 11)?;
+    // One more entry's offset would not fit 4 bytes: it is wrong, whatever it says.
+    let entries: Vec<(Fingerprint, u64, &[u8])> =
+        (0..2050).map(|k| (key(k), 65_535, if k < 2049 { &body[..] } else { &[] })).collect();
+    drop(bytes);
+    same("index check, an offset past 32 bits", raw::check_index(&index::encode(&words, &entries)), 11)
+}

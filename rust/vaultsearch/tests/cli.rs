@@ -1,0 +1,219 @@
+//! The program as an operator runs it: outputs, exit status and messages.
+
+use std::fs;
+use std::path::PathBuf;
+use std::process::Command;
+
+struct Folder(PathBuf);
+
+impl Folder {
+    /// An empty folder of its own for each test, with the small vault of document 01.
+    fn new(name: &str) -> Folder {
+        let path = std::env::temp_dir().join(format!("vaultsearch-{name}-{}", std::process::id()));
+        let _ = fs::remove_dir_all(&path);
+        fs::create_dir_all(&path).unwrap();
+        let folder = Folder(path);
+        let mut store = b"DV1\n\x03\0\0\0".to_vec();
+        for (key, offset, length) in [(1, 92, 3), (2, 95, 4), (3, 99, 1)] {
+            store.extend_from_slice(&[key; 20]);
+            store.extend_from_slice(&[offset, 0, 0, 0, length, 0, 0, 0]);
+        }
+        store.extend_from_slice(b"XABABAXA");
+        folder.write("store.bin", &store);
+        folder.write("words.bin", &[2, 0, 3, 0x41, 0x42, 0x41, 2, 0x41, 0x41]);
+        folder.write("recipes.bin", &recipes(&[&[1, 2], &[3, 3], &[]]));
+        folder
+    }
+
+    fn write(&self, name: &str, bytes: &[u8]) {
+        fs::write(self.0.join(name), bytes).unwrap();
+    }
+
+    fn read(&self, name: &str) -> Vec<u8> {
+        fs::read(self.0.join(name)).unwrap()
+    }
+
+    /// Status, standard output, standard error.
+    fn run(&self, words: &str) -> (i32, String, String) {
+        let output =
+            Command::new(env!("CARGO_BIN_EXE_vaultsearch")).args(words.split(' ')).current_dir(&self.0).output().unwrap();
+        let text = |bytes: Vec<u8>| String::from_utf8(bytes).unwrap();
+        (output.status.code().unwrap(), text(output.stdout), text(output.stderr))
+    }
+
+    fn prints(&self, words: &str, want: &str) {
+        let (status, out, err) = self.run(words);
+        assert_eq!((status, out.as_str()), (0, want), "{words}: {err}");
+    }
+
+    /// Refused with that number: the status says it, and the message its meaning.
+    fn refuses(&self, words: &str, code: i32, meaning: &str) {
+        let (status, _, err) = self.run(words);
+        assert_eq!(status, code, "{words}: {err}");
+        assert!(err.contains(&format!("refused {code}: ")) && err.contains(meaning), "{words}: {err}");
+    }
+}
+
+impl Drop for Folder {
+    fn drop(&mut self) {
+        let _ = fs::remove_dir_all(&self.0);
+    }
+}
+
+fn recipes(files: &[&[u8]]) -> Vec<u8> {
+    let mut bytes = vec![files.len() as u8, 0, 0, 0];
+    for file in files {
+        bytes.extend_from_slice(&[file.len() as u8, 0, 0, 0]);
+        file.iter().for_each(|key| bytes.extend_from_slice(&[*key; 20]));
+    }
+    bytes
+}
+
+#[test]
+fn the_small_vault_in_every_format() {
+    let folder = Folder::new("formats");
+    let search = "search store.bin recipes.bin --words words.bin";
+    folder.prints(&format!("{search} --format plain"), "finds 3\n0 1 0\n0 3 0\n1 0 1\n");
+    folder.prints(
+        search,
+        "file 0\n           1  ABA\n           3  ABA\nfile 1\n           0  AA\n3 occurrences in 2 of 3 files\n",
+    );
+    folder.prints(&format!("{search} --count"), "3\n");
+    folder.write("names.txt", b"a.txt\nb c.txt\nempty\n");
+    let rows = "file\toffset\tkeyword\ttext\tname\n0\t1\t0\tABA\ta.txt\n0\t3\t0\tABA\ta.txt\n1\t0\t1\tAA\tb c.txt\n";
+    folder.prints(&format!("{search} --format tsv --names names.txt"), rows);
+    let (_, lines, _) = folder.run(&format!("{search} --format jsonl --names names.txt"));
+    assert_eq!(lines.lines().last(), Some("{\"file\":1,\"offset\":0,\"keyword\":1,\"text\":\"AA\",\"name\":\"b c.txt\"}"));
+    folder.prints(&format!("{search} --format raw -o list.bin"), "");
+    assert_eq!(folder.read("list.bin")[..9], [0, 0, 0, 0, 1, 0, 0, 0, 0]);
+    assert_eq!(folder.read("list.bin").len(), 27);
+}
+
+#[test]
+fn keywords_in_three_ways() {
+    let folder = Folder::new("keywords");
+    folder.write("list.txt", b"aba\r\n\naa\n");
+    let want = "finds 3\n0 1 0\n0 3 0\n1 0 1\n";
+    folder.prints("search store.bin recipes.bin --list list.txt --fold --format plain", want);
+    folder.prints("search store.bin recipes.bin --word aBa --word Aa --fold --format plain", want);
+    folder.prints("search store.bin recipes.bin --word aBa --format plain", "finds 0\n");
+    folder.refuses("search store.bin recipes.bin --word aB --word Ab --fold", 4, "alike");
+    assert_eq!(folder.run("search store.bin recipes.bin").0, 64);
+    assert_eq!(folder.run("search store.bin recipes.bin --word A --list list.txt").0, 64);
+    assert_eq!(folder.run("search store.bin recipes.bin --words words.bin --fold").0, 64);
+}
+
+#[test]
+fn an_index_is_kept_and_joined() {
+    let folder = Folder::new("index");
+    folder.prints("scan store.bin --words words.bin -o index.bin", "index.bin: 136 bytes for a store of 100 bytes\n");
+    assert_eq!(folder.read("index.bin")[113..120], [0, 1, 2, 0, 0, 0, 0]);
+    folder.prints("join index.bin recipes.bin --format plain", "finds 3\n0 1 0\n0 3 0\n1 0 1\n");
+    let good = "store.bin: good, 3 chunks\nindex.bin: good, 3 chunks\nrecipes.bin: good, 3 files, 3 occurrences\n";
+    folder.prints("check --store store.bin --index index.bin --recipes recipes.bin", good);
+    let key = "02".repeat(20);
+    folder.prints(&format!("lookup --store store.bin {key}"), "chunk of 4 bytes at 95\nABAX\n");
+    folder.prints(&format!("lookup --store store.bin {key} -o chunk"), "");
+    assert_eq!(folder.read("chunk"), b"ABAX");
+    let explained = "body of 10 bytes at 120\nkeyword 0 (ABA): prefix 0, suffix 1, 1 inside: 0\nkeyword 1 (AA): prefix 0, suffix 1, 0 inside: \n";
+    folder.prints(&format!("lookup --index index.bin {key}"), explained);
+    folder.refuses(&format!("lookup --store store.bin {}", "04".repeat(20)), 15, "not there");
+    folder.refuses("lookup --index index.bin 0102", 19, "20 bytes");
+}
+
+#[test]
+fn every_refusal_is_told() {
+    let folder = Folder::new("refusals");
+    folder.run("scan store.bin --words words.bin -o index.bin");
+    let (store, index, words) = (folder.read("store.bin"), folder.read("index.bin"), folder.read("words.bin"));
+    let with = |bytes: &[u8], at: usize, byte: u8| {
+        let mut bytes = bytes.to_vec();
+        bytes[at] = byte;
+        bytes
+    };
+    for (code, bytes, meaning) in [
+        (1, words[..8].to_vec(), "cut short"),
+        (2, with(&words, 0, 17), "1 to 16"),
+        (3, with(&words, 2, 33), "1 to 32"),
+        (4, vec![2, 1, 1, 0x41, 1, 0x61], "alike"),
+    ] {
+        folder.write("bad", &bytes);
+        folder.refuses("search store.bin recipes.bin --words bad", code, meaning);
+    }
+    for (code, bytes, meaning) in [
+        (5, index.clone(), "not a store"),
+        (6, with(&store, 4, 200), "directory"),
+        (7, store[..99].to_vec(), "doesn't end"),
+        (8, [&store[..36], &[1; 20], &store[56..]].concat(), "twice"),
+    ] {
+        folder.write("bad", &bytes);
+        folder.refuses("search bad recipes.bin --words words.bin", code, meaning);
+        folder.refuses("check --store bad", code, meaning);
+    }
+    for (code, bytes, meaning) in [
+        (10, store.clone(), "not an index"),
+        (11, index[..135].to_vec(), "doesn't end"),
+        (12, [&index[..49], &[1; 20], &index[69..]].concat(), "twice"),
+        (13, with(&index, 113, 9), "written form"),
+    ] {
+        folder.write("bad", &bytes);
+        folder.refuses("join bad recipes.bin", code, meaning);
+        folder.refuses("check --index bad", code, meaning);
+    }
+    for (code, bytes, meaning) in [
+        (14, vec![1, 0, 0], "not recipes"),
+        (15, recipes(&[&[9]]), "not there"),
+        (17, recipes(&[&[1, 3, 2]]), "shorter than the longest keyword"),
+    ] {
+        folder.write("bad", &bytes);
+        folder.refuses("join index.bin bad", code, meaning);
+        folder.refuses("search store.bin bad --words words.bin -o out", code, meaning);
+        assert!(!folder.0.join("out").exists(), "a refusal writes nothing");
+    }
+    // 65,538 times a chunk of 65,535 bytes.
+    let mut long = [&b"DV1\n\x01\0\0\0"[..], &[7; 20], &[36, 0, 0, 0, 0xFF, 0xFF, 0, 0]].concat();
+    long.resize(36 + 65_535, b'.');
+    folder.write("long", &long);
+    folder.write("bad", &[&[1, 0, 0, 0, 2, 0, 1, 0][..], &[7; 20 * 65_538]].concat());
+    folder.refuses("search long bad --words words.bin", 16, "4,294,967,295");
+}
+
+#[test]
+fn wrong_command_lines_and_files() {
+    let folder = Folder::new("usage");
+    for words in [
+        "frob",
+        "search store.bin",
+        "scan store.bin --word A",
+        "search --frob",
+        "join a b --format x",
+        "check",
+        "lookup 01",
+        "make-vault -o x",
+        "search a b --word",
+    ] {
+        let (status, _, err) = folder.run(words);
+        assert_eq!(status, 64, "{words}: {err}");
+    }
+    assert_eq!(folder.run("search nothing recipes.bin --word A").0, 74);
+    assert_eq!(folder.run("scan store.bin --word A -o no/such/folder").0, 74);
+    let (status, out, _) = folder.run("--help");
+    assert!(status == 0 && out.contains("EXIT STATUS"));
+}
+
+#[test]
+fn a_vault_of_plain_files() {
+    let folder = Folder::new("make");
+    fs::create_dir_all(folder.0.join("in/sub")).unwrap();
+    let text = |n: usize| (0..n).map(|k| b"lorem ipsum dolor "[(k * k / 7) % 18]).collect::<Vec<u8>>();
+    folder.write("in/a", &[text(3000), b"the keyword".to_vec(), text(9000)].concat());
+    folder.write("in/empty", b"");
+    folder.write("in/sub/b", &[b"the keyword".to_vec(), text(9000)].concat());
+    for cut in ["content --size 256", "fixed --size 64", "fixed --size 65535"] {
+        let (status, _, err) = folder.run(&format!("make-vault -o v --cut {cut} in"));
+        assert_eq!(status, 0, "{err}");
+        let found = "file\toffset\tkeyword\ttext\tname\n0\t3000\t0\tthe keyword\tin/a\n2\t0\t0\tthe keyword\tin/sub/b\n";
+        folder.write("list.txt", b"the keyword\n");
+        folder.prints("search v/store.bin v/recipes.bin --list list.txt --names v/names.txt --format tsv", found);
+    }
+}
