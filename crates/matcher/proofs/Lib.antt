@@ -3,3 +3,4 @@ pub mod Shapes
 pub mod Summing
 pub mod Full
 pub mod Recorded
+pub mod Bodies

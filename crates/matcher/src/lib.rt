@@ -7,7 +7,8 @@ ghost use lib.ListN.{length, getD};
 ghost use Rattle.spec.specs.Bytes.{leBytes, fieldsBytes, occursAt};
 ghost use Rattle.spec.specs.Keywords.{folded};
 ghost use Rattle.spec.specs.Records.{MatchRecord, reach, prefixOf, suffixOf, recordOf, form1, isEmpty, isTiny, kindOf, tinyBytes, fullBytes, recordBytes};
-ghost use Rattle.matcher.specs.Summaries.{offsetsFrom, summaryOf, headBytes, Wrote, CanPutFull, CanPut};
+ghost use Rattle.matcher.specs.Summaries.{offsetsFrom, summaryOf, headBytes, Wrote, CanPutFull, CanPut, CanSize, CanPutBody};
+ghost use Rattle.spec.specs.Scan.{scanBody};
 
 // Whether the keyword occurs at the offset of the chunk.
 pub fn occurs_at(keyword: &[u8], chunk: &[u8], at: usize, flag: u8) -> bool
@@ -336,4 +337,46 @@ pub fn put_record(out: &mut [u8], k: usize, keyword: &[u8], chunk: &[u8], flag: 
         return put_tiny(out, k, s);
     }
     put_full(out, k, s, keyword, chunk, flag)
+}
+
+// ---- bodies: the records of one chunk, by rising keyword number
+
+// The length of the chunk's body.
+pub fn body_size(list: &[u8], words: keywords::Keywords, chunk: &[u8]) -> usize
+    requires { ⌜ CanSize (now list) words (now chunk) ⌝ }
+    ensures { λ r. ⌜ r ≡ length (scanBody form1 (now (list .entry)) (now (chunk .entry))) ⌝ }
+{
+    let start = words.start;
+    let len = words.len;
+    let count = words.count;
+    let flag = words.flag;
+    let mut size: usize = 0;
+    let mut k: usize = 0;
+    while k < count {
+        let at = start[k];
+        let end = at + len[k];
+        size += record_size(&list[at..end], chunk, flag);
+        k += 1;
+    }
+    size
+}
+
+// Writes the chunk's body at the buffer's start.
+pub fn put_body(out: &mut [u8], list: &[u8], words: keywords::Keywords, chunk: &[u8]) -> usize
+    requires { ⌜ CanPutBody (now out) (now list) words (now chunk) ⌝ }
+    ensures { λ r. ⌜ Wrote (now (out .entry)) 0 (scanBody form1 (now (list .entry)) (now (chunk .entry))) (now (out .exit)) r ⌝ }
+{
+    let start = words.start;
+    let len = words.len;
+    let count = words.count;
+    let flag = words.flag;
+    let mut size: usize = 0;
+    let mut k: usize = 0;
+    while k < count {
+        let at = start[k];
+        let end = at + len[k];
+        size += put_record(&mut out[size..], k, &list[at..end], chunk, flag);
+        k += 1;
+    }
+    size
 }
