@@ -51,7 +51,7 @@ size-two false true c w m x = omega arith
 size-two false false true w m x = omega arith
 size-two false false false w m x = omega arith
 
-size-least : (f : Form) (bytes : List ℕ) → 3 ≤ recordSize f bytes
+pub size-least : (f : Form) (bytes : List ℕ) → 3 ≤ recordSize f bytes
 unfolding recordSize
 size-least f bytes = size-two (eqb (getD bytes 1 0) 0) (eqb (getD bytes 1 0) 1) (eqb (getD bytes 1 0) 2) (f .width) (f .width * getD bytes 4 0) (f .width * fieldAt bytes (5 + f .width) (f .width))
 

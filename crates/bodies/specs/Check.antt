@@ -2,7 +2,7 @@
 use mathlib.Core.Bool.{Bool, _&&_, cond}
 use mathlib.Core.List.{List}
 use mathlib.Core.Path.{_≡_}
-use Prim.Native.Nat.{ℕ, _+_, _*_, _≤_}
+use Prim.Native.Nat.{ℕ, _+_, _*_, _≤_, _<_}
 use lib.ListN.{length, drop, getD}
 use lib.Dec.{eqb, leb}
 use Rattle.spec.specs.Bytes.{fieldAt, fieldsOf, rising, every}
@@ -37,3 +37,9 @@ pub record Head (kind n size : ℕ) (bytes : List ℕ) : Type 0 where
   pub is : getD bytes 1 0 ≡ kind
   pub prefix : getD bytes 2 0 ≤ reach n size
   pub suffix : getD bytes 3 0 ≤ reach n size
+
+-- The lengths of `count` keywords, and a chunk's.
+pub record Ready (count size : ℕ) (lengths : List ℕ) : Type 0 where
+  pub room : count ≤ length lengths
+  pub fit : size ≤ 65535
+  pub each : (k : ℕ) → k < count → (1 ≤ getD lengths k 0) × (getD lengths k 0 ≤ 32)

@@ -1,11 +1,11 @@
 // Bodies of a match index: whether bytes are the written form of records in range (document 01, "Notes file": "A body is good if ..").
 ghost use mathlib.Core.Path.{_≡_};
-ghost use mathlib.Core.List.{List};
+ghost use mathlib.Core.List.{[], _∷_};
 ghost use Prim.Native.Nat.{ℕ, _+_, _*_, _≤_};
 ghost use lib.ListN.{length, getD, take, drop};
-ghost use Rattle.spec.specs.Bytes.{fieldsOf};
+ghost use Rattle.spec.specs.Bytes.{fieldsOf, begins};
 ghost use Rattle.spec.specs.Records.{form1, reach, goodBody};
-ghost use Rattle.bodies.specs.Check.{goodSize, inOrder, offsetsGood, Lengths, Head};
+ghost use Rattle.bodies.specs.Check.{goodSize, inOrder, offsetsGood, Lengths, Head, Ready};
 
 // The greatest length of a prefix or suffix.
 pub fn reach_of(n: usize, size: usize) -> usize
@@ -192,4 +192,36 @@ pub fn record_good(bytes: &[u8], n: usize, size: usize) -> usize
         return none(bytes, n, size);
     }
     single(bytes, n, size)
+}
+
+// The body's next number, at `at`, is k.
+fn is_next(body: &[u8], at: usize, k: usize) -> bool
+    ensures { λ r. ⌜ r ≡ begins (k ∷ []) (drop at (now (body .entry))) ⌝ }
+{
+    if body.len() <= at {
+        return false;
+    }
+    k == body[at] as usize
+}
+
+// The body is the written form of records in range, for keywords of these lengths and a chunk of length `size`.
+pub fn body_good(body: &[u8], lengths: &[usize], count: usize, size: usize) -> bool
+    requires { ⌜ Ready count size (now lengths) ⌝ }
+    ensures { λ r. ⌜ r ≡ goodBody form1 (take count (now (lengths .entry))) size (now (body .entry)) ⌝ }
+{
+    let mut at: usize = 0;
+    let mut k: usize = 0;
+    while k < count {
+        if !is_next(body, at, k) {
+            k += 1;
+            continue;
+        }
+        let taken = record_good(&body[at..], lengths[k], size);
+        if taken == 0 {
+            return false;
+        }
+        at += taken;
+        k += 1;
+    }
+    at == body.len()
 }

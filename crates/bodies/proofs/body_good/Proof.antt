@@ -1,0 +1,122 @@
+use mathlib.Core.Path.{_≡_, refl, sym, ap, _∙_}
+use mathlib.Core.Logic.{_≢_, _⊎_, inl, inr}
+use mathlib.Core.Bool.{Bool, true, false}
+use Prim.Native.Nat.{ℕ, _+_, _-_, _*_, _/_, _%_, _≤_, _<_}
+use native.Mathlib.Omega.{arith}
+use lib.ListN.{length, getD, drop}
+use denote.Ref.{now}
+use borrow.Author.Needs.{needs}
+use borrow.Author.Tests.{not-true, not-false}
+use Rattle.bodies.proofs.Turns.{left-all, turn-absent, turn-start, turn-length, turn-bad, turn-good, turn-within, left-end}
+use lib.ListN.{take}
+use Rattle.spec.specs.Records.{form1, goodBody}
+use Rattle.spec.specs.Steps.{goodFrom}
+use Rattle.bodies.specs.Check.{goodSize, Lengths, Ready}
+use Rattle.bodies.proofs.body_good.Statement.{statement}
+use Rattle.bodies.proofs.body_good.Tie as tie
+use Rattle.bodies.proofs.body_good.Reads as reads
+use Rattle.bodies.proofs.body_good.Lts as lts
+use Rattle.bodies.proofs.is_next.Reads as is-next-reads
+use Rattle.bodies.proofs.record_good.Reads as record-good-reads
+
+abbrev Inv-loop : tie.InvT-loop
+Inv-loop body lengths count size at₀ k₀ at k =
+    (k ≤ count) × (at ≤ length body) × (goodFrom form1 k (drop k (take count lengths)) size (drop at body) ≡ goodBody form1 (take count lengths) size body)
+
+abbrev μ-loop : tie.MeasureT-loop
+μ-loop body lengths count size at₀ k₀ at k = count - k
+
+loop-holds : tie.Need-loop-holds Inv-loop μ-loop
+loop-holds c =
+    let a = c .before .before .args in
+    (omega arith, omega arith, left-all (now (a .lengths)) (now (a .body)) (a .count) (a .size) (c .before .before .pre))
+
+is-next-requires : tie.Need-is-next-requires Inv-loop μ-loop
+is-next-requires c κs = search needs
+
+add-k : tie.Need-add-k Inv-loop μ-loop
+add-k c = search needs
+
+loop-less : tie.Need-loop-less Inv-loop μ-loop
+loop-less c = search needs
+
+loop-again : tie.Need-loop-again Inv-loop μ-loop
+loop-again c =
+    let a = c .before .before .before .before .before .before .args in
+    let at = c .before .before .before .loop in
+    (omega arith, at .inv .1, turn-absent (now (a .lengths)) (now (a .body)) (a .count) (a .size) (c .before .before .before .before .before .before .pre) (at .k) (at .at) (c .before .before .loop-test .taken) (sym (c .before .is-next .ensures) ∙ not-true _ (c .if1 .taken)) ∙ at .inv .2)
+
+sub-record-good : tie.Need-sub-record-good Inv-loop μ-loop
+sub-record-good c = search needs
+
+part-record-good-start : tie.Need-part-record-good-start Inv-loop μ-loop
+part-record-good-start c = search needs
+
+part-record-good-end : tie.Need-part-record-good-end Inv-loop μ-loop
+part-record-good-end c = search needs
+
+mul-record-good : tie.Need-mul-record-good Inv-loop μ-loop
+mul-record-good c = search needs
+
+shared-slice-read-record-good : tie.Need-shared-slice-read-record-good Inv-loop μ-loop
+shared-slice-read-record-good c = search needs
+
+record-good-requires : tie.Need-record-good-requires Inv-loop μ-loop
+record-good-requires c κs =
+    let a = c .before .before .before .before .before .before .before .before .args in
+    let at = c .before .before .before .before .before .loop in
+    (turn-start (now (a .lengths)) (now (a .body)) (a .count) (a .size) (c .before .before .before .before .before .before .before .before .pre) (at .k) (at .at) (c .before .before .before .before .loop-test .taken) (sym (c .before .before .before .is-next .ensures) ∙ not-false _ (c .before .before .if1 .left)), turn-length (now (a .lengths)) (now (a .body)) (a .count) (a .size) (c .before .before .before .before .before .before .before .before .pre) (at .k) (at .at) (c .before .before .before .before .loop-test .taken) (sym (c .before .before .before .is-next .ensures) ∙ not-false _ (c .before .before .if1 .left)))
+
+returns : tie.Need-returns Inv-loop μ-loop
+returns c =
+    let a = c .before .before .before .before .before .before .before .before .before .before .args in
+    let at = c .before .before .before .before .before .before .before .loop in
+    turn-bad (now (a .lengths)) (now (a .body)) (a .count) (a .size) (c .before .before .before .before .before .before .before .before .before .before .pre) (at .k) (at .at) (c .before .before .before .before .before .before .loop-test .taken) (sym (c .before .before .before .before .before .is-next .ensures) ∙ not-false _ (c .before .before .before .before .if1 .left)) (c .before .record-good .result) (c .before .record-good .ensures) (c .if2 .taken) ∙ at .inv .2
+
+add-at : tie.Need-add-at Inv-loop μ-loop
+add-at c =
+    let a = c .before .before .before .before .before .before .before .before .before .before .args in
+    let at = c .before .before .before .before .before .before .before .loop in
+    record { fits = omega (arith, turn-within (now (a .lengths)) (now (a .body)) (a .count) (a .size) (c .before .before .before .before .before .before .before .before .before .before .pre) (at .k) (at .at) (c .before .before .before .before .before .before .loop-test .taken) (sym (c .before .before .before .before .before .is-next .ensures) ∙ not-false _ (c .before .before .before .before .if1 .left)) (c .before .record-good .result) (c .before .record-good .ensures) (at .inv .1)) }
+
+add-k-2 : tie.Need-add-k-2 Inv-loop μ-loop
+add-k-2 c = search needs
+
+loop-less-2 : tie.Need-loop-less-2 Inv-loop μ-loop
+loop-less-2 c = search needs
+
+loop-again-2 : tie.Need-loop-again-2 Inv-loop μ-loop
+loop-again-2 c =
+    let a = c .before .before .before .before .before .before .before .before .before .before .args in
+    let at = c .before .before .before .before .before .before .before .loop in
+    (omega arith, turn-within (now (a .lengths)) (now (a .body)) (a .count) (a .size) (c .before .before .before .before .before .before .before .before .before .before .pre) (at .k) (at .at) (c .before .before .before .before .before .before .loop-test .taken) (sym (c .before .before .before .before .before .is-next .ensures) ∙ not-false _ (c .before .before .before .before .if1 .left)) (c .before .record-good .result) (c .before .record-good .ensures) (at .inv .1), turn-good (now (a .lengths)) (now (a .body)) (a .count) (a .size) (c .before .before .before .before .before .before .before .before .before .before .pre) (at .k) (at .at) (c .before .before .before .before .before .before .loop-test .taken) (sym (c .before .before .before .before .before .is-next .ensures) ∙ not-false _ (c .before .before .before .before .if1 .left)) (c .before .record-good .result) (c .before .record-good .ensures) (c .if2 .left) ∙ at .inv .2)
+
+returns-2 : tie.Need-returns-2 Inv-loop μ-loop
+returns-2 c =
+    let a = c .before .before .before .before .args in
+    let at = c .before .loop in
+    left-end (now (a .lengths)) (now (a .body)) (a .count) (a .size) (c .before .before .before .before .pre) (at .k) (at .at) (c .loop-test .left) (at .inv .1) ∙ at .inv .2
+
+pub body-good-spec : {M : Type 1} → statement M
+body-good-spec =
+    tie.close
+    (tie.spec
+    Inv-loop
+    μ-loop
+    loop-holds
+    is-next-requires
+    add-k
+    loop-less
+    loop-again
+    sub-record-good
+    part-record-good-start
+    part-record-good-end
+    mul-record-good
+    shared-slice-read-record-good
+    record-good-requires
+    returns
+    add-at
+    add-k-2
+    loop-less-2
+    loop-again-2
+    returns-2)
