@@ -110,14 +110,8 @@ module _ (list : List ℕ) (code : ℕ) (e : code ≡ firstOf (frontTests list))
   pub whole-refused : (code ≡ 0 → ⊥) → code ≡ keywordCode list
   whole-refused h = refused-whole code _ h ∙ sym whole-code
 
-  pub whole-over : code ≡ 0 → listSize list < length list → 1 ≡ keywordCode list
-  whole-over z l = sym (whole-code ∙ rw (z, lt-ltb (listSize list) (length list) l))
-
-  pub whole-alike : code ≡ 0 → length list ≤ listSize list → (t : Bool) → t ≡ twice (foldedKeywords list) → t ≡ true → 4 ≡ keywordCode list
-  whole-alike z l t d h = sym (whole-code ∙ rw (z, le-ltb (listSize list) (length list) l, ← d, h))
-
-  pub whole-good : code ≡ 0 → length list ≤ listSize list → (t : Bool) → t ≡ twice (foldedKeywords list) → t ≡ false → 0 ≡ keywordCode list
-  whole-good z l t d h = sym (whole-code ∙ rw (z, le-ltb (listSize list) (length list) l, ← d, h))
+  pub whole-rest : code ≡ 0 → (size : ℕ) → size ≡ listSize list → (t : Bool) → t ≡ twice (foldedKeywords list) → cond (ltb size (length list)) 1 (cond t 4 0) ≡ keywordCode list
+  whole-rest z size e t d = sym (whole-code ∙ rw (z, ← e, ← d))
 
 -- a list that was split has its places
 pub places : (list : List ℕ) (count flag size most : ℕ) (start len : List ℕ) → Readable list → Parsed list count flag size most start len → Places list flag count start len

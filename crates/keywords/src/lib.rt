@@ -1,6 +1,6 @@
 // Keyword lists: the fold of a byte, the keyword check, and where an accepted list has its keywords (document 01, "Words").
 ghost use mathlib.Core.Path.{_≡_};
-ghost use mathlib.Core.List.{[]};
+ghost use mathlib.Core.List.{[], _∷_};
 ghost use Prim.Native.Nat.{_+_, _≤_, _<_, max};
 ghost use lib.ListN.{length, drop, getD};
 ghost use Rattle.spec.specs.Bytes.{same, contains, twice};
@@ -179,12 +179,12 @@ fn again(
     requires { ⌜ Places (now list) flag count (now start) (now len) × (i < count) ⌝ }
     ensures { λ r. ⌜ r ≡ contains (getD (foldedKeywords (now (list .entry))) i []) (drop (i + 1) (foldedKeywords (now (list .entry)))) ⌝ }
 {
-    let mut j: usize = i + 1;
-    while j < count {
-        if alike_at(list, flag, count, start, len, i, j) {
+    let mut other: usize = i + 1;
+    while other < count {
+        if alike_at(list, flag, count, start, len, i, other) {
             return true;
         }
-        j += 1;
+        other += 1;
     }
     false
 }
@@ -194,12 +194,12 @@ fn repeats(list: &[u8], flag: u8, count: usize, start: &[usize; 16], len: &[usiz
     requires { ⌜ Places (now list) flag count (now start) (now len) ⌝ }
     ensures { λ r. ⌜ r ≡ twice (foldedKeywords (now (list .entry))) ⌝ }
 {
-    let mut i: usize = 0;
-    while i < count {
-        if again(list, flag, count, start, len, i) {
+    let mut one: usize = 0;
+    while one < count {
+        if again(list, flag, count, start, len, one) {
             return true;
         }
-        i += 1;
+        one += 1;
     }
     false
 }
@@ -221,6 +221,19 @@ pub fn check_front(list: &[u8]) -> u8
     0
 }
 
+// The number of the first condition that holds, 0 where none does.
+fn first_of(a: bool, x: u8, b: bool, y: u8) -> u8
+    ensures { λ r. ⌜ r ≡ firstOf ((a, x) ∷ (b, y) ∷ []) ⌝ }
+{
+    if a {
+        return x;
+    }
+    if b {
+        return y;
+    }
+    0
+}
+
 // The keyword check.
 pub fn check(list: &[u8]) -> u8
     ensures { λ r. ⌜ r ≡ keywordCode (now (list .entry)) ⌝ }
@@ -230,13 +243,9 @@ pub fn check(list: &[u8]) -> u8
         return code;
     }
     let k = split(list);
-    if k.size < list.len() {
-        return 1;
-    }
     let start = k.start;
     let len = k.len;
-    if repeats(list, k.flag, k.count, &start, &len) {
-        return 4;
-    }
-    0
+    let over = k.size < list.len();
+    let twins = repeats(list, k.flag, k.count, &start, &len);
+    first_of(over, 1, twins, 4)
 }

@@ -17,13 +17,13 @@ use Rattle.keywords.proofs.again.Lts as lts
 use Rattle.keywords.proofs.alike_at.Reads as alike-at-reads
 
 abbrev Inv-loop : tie.InvT-loop
-Inv-loop list flag count start len i j₀ j = (j ≤ count) × (contains (getD (foldedKeywords list) i []) (drop j (foldedKeywords list)) ≡ contains (getD (foldedKeywords list) i []) (drop (i + 1) (foldedKeywords list)))
+Inv-loop list flag count start len i other₀ other = (other ≤ count) × (contains (getD (foldedKeywords list) i []) (drop other (foldedKeywords list)) ≡ contains (getD (foldedKeywords list) i []) (drop (i + 1) (foldedKeywords list)))
 
 abbrev μ-loop : tie.MeasureT-loop
-μ-loop list flag count start len i j₀ j = count - j
+μ-loop list flag count start len i other₀ other = count - other
 
-add-j : tie.Need-add-j Inv-loop μ-loop
-add-j c = search needs
+add-other : tie.Need-add-other Inv-loop μ-loop
+add-other c = search needs
 
 loop-holds : tie.Need-loop-holds Inv-loop μ-loop
 loop-holds c = (omega arith, refl)
@@ -35,10 +35,10 @@ returns : tie.Need-returns Inv-loop μ-loop
 returns c =
     let at = c .before .before .before in
     let s = at .before .before in
-    contains-hit (foldedKeywords (s .args .list .now)) (at .loop .j) (omega (arith, folded-count (s .args .list .now), s .pre .0 .counts)) (c .before .alike-at .result) _ (getD (foldedKeywords (s .args .list .now)) (s .args .i) []) (c .before .alike-at .ensures) (c .if1 .taken) (at .loop .inv .1)
+    contains-hit (foldedKeywords (s .args .list .now)) (at .loop .other) (omega (arith, folded-count (s .args .list .now), s .pre .0 .counts)) (c .before .alike-at .result) _ (getD (foldedKeywords (s .args .list .now)) (s .args .i) []) (c .before .alike-at .ensures) (c .if1 .taken) (at .loop .inv .1)
 
-add-j-2 : tie.Need-add-j-2 Inv-loop μ-loop
-add-j-2 c = search needs
+add-other-2 : tie.Need-add-other-2 Inv-loop μ-loop
+add-other-2 c = search needs
 
 loop-less : tie.Need-loop-less Inv-loop μ-loop
 loop-less c = search needs
@@ -47,12 +47,12 @@ loop-again : tie.Need-loop-again Inv-loop μ-loop
 loop-again c =
     let at = c .before .before .before in
     let s = at .before .before in
-    (omega arith, contains-on (foldedKeywords (s .args .list .now)) (at .loop .j) (omega (arith, folded-count (s .args .list .now), s .pre .0 .counts)) (c .before .alike-at .result) _ (getD (foldedKeywords (s .args .list .now)) (s .args .i) []) (c .before .alike-at .ensures) (c .if1 .left) (at .loop .inv .1))
+    (omega arith, contains-on (foldedKeywords (s .args .list .now)) (at .loop .other) (omega (arith, folded-count (s .args .list .now), s .pre .0 .counts)) (c .before .alike-at .result) _ (getD (foldedKeywords (s .args .list .now)) (s .args .i) []) (c .before .alike-at .ensures) (c .if1 .left) (at .loop .inv .1))
 
 returns-2 : tie.Need-returns-2 Inv-loop μ-loop
 returns-2 c =
     let s = c .before .before .before in
-    contains-end (foldedKeywords (s .args .list .now)) (c .before .loop .j) (getD (foldedKeywords (s .args .list .now)) (s .args .i) []) (omega (arith, folded-count (s .args .list .now), s .pre .0 .counts)) ∙ c .before .loop .inv .1
+    contains-end (foldedKeywords (s .args .list .now)) (c .before .loop .other) (getD (foldedKeywords (s .args .list .now)) (s .args .i) []) (omega (arith, folded-count (s .args .list .now), s .pre .0 .counts)) ∙ c .before .loop .inv .1
 
 pub again-spec : {M : Type 1} → statement M
 again-spec =
@@ -60,11 +60,11 @@ again-spec =
     (tie.spec
     Inv-loop
     μ-loop
-    add-j
+    add-other
     loop-holds
     alike-at-requires
     returns
-    add-j-2
+    add-other-2
     loop-less
     loop-again
     returns-2)

@@ -3,12 +3,13 @@ use mathlib.Core.Path.{_≡_, refl, sym, _∙_}
 use Prim.Native.Nat.{ℕ, _+_, _≤_, _<_}
 use native.Mathlib.Omega.{arith}
 use denote.Ref.{now}
-use Rattle.keywords.proofs.Fronts.{whole-refused, whole-over, whole-alike, whole-good, front-readable, places}
+use Rattle.keywords.proofs.Fronts.{whole-refused, whole-rest, front-readable, places}
 use borrow.Author.Needs.{needs}
 use Rattle.keywords.proofs.check.Statement.{statement}
 use Rattle.keywords.proofs.check.Tie as tie
 use Rattle.keywords.proofs.check.Reads as reads
 use Rattle.keywords.proofs.check.Lts as lts
+use Rattle.keywords.proofs.first_of.Reads as first-of-reads
 use Rattle.keywords.proofs.read_front.Reads as read-front-reads
 use Rattle.keywords.proofs.repeats.Reads as repeats-reads
 use Rattle.keywords.proofs.split.Reads as split-reads
@@ -22,17 +23,14 @@ returns c = whole-refused (c .before .before .before .args .list .now) (c .befor
 split-requires : tie.Need-split-requires
 split-requires c κs = front-readable (c .before .before .before .args .list .now) (sym (c .before .read-front .ensures) ∙ c .if1 .left)
 
-returns-2 : tie.Need-returns-2
-returns-2 c = whole-over (c .before .before .before .before .before .before .args .list .now) (c .before .before .before .before .read-front .result) (c .before .before .before .before .read-front .ensures) (c .before .before .before .if1 .left) (omega (arith, c .before .before .split .ensures .ends))
-
 repeats-requires : tie.Need-repeats-requires
-repeats-requires c κs = places (c .before .before .before .before .before .before .before .before .before .before .args .list .now) _ _ _ _ _ _ (front-readable (c .before .before .before .before .before .before .before .before .before .before .args .list .now) (sym (c .before .before .before .before .before .before .before .before .read-front .ensures) ∙ c .before .before .before .before .before .before .before .if1 .left)) (c .before .before .before .before .before .before .split .ensures)
+repeats-requires c κs = places (c .before .before .before .before .before .before .before .before .before .args .list .now) _ _ _ _ _ _ (front-readable (c .before .before .before .before .before .before .before .before .before .args .list .now) (sym (c .before .before .before .before .before .before .before .read-front .ensures) ∙ c .before .before .before .before .before .before .if1 .left)) (c .before .before .before .before .before .split .ensures)
 
-returns-3 : tie.Need-returns-3
-returns-3 c = whole-alike (c .before .before .before .before .before .before .before .before .before .before .before .before .args .list .now) (c .before .before .before .before .before .before .before .before .before .before .read-front .result) (c .before .before .before .before .before .before .before .before .before .before .read-front .ensures) (c .before .before .before .before .before .before .before .before .before .if1 .left) (omega (arith, c .before .before .before .before .before .before .before .before .split .ensures .ends)) (c .before .repeats .result) (c .before .repeats .ensures) (c .if3 .taken)
+first-of-requires : tie.Need-first-of-requires
+first-of-requires c κs = search needs
 
-returns-4 : tie.Need-returns-4
-returns-4 c = whole-good (c .before .before .before .before .before .before .before .before .before .before .before .before .args .list .now) (c .before .before .before .before .before .before .before .before .before .before .read-front .result) (c .before .before .before .before .before .before .before .before .before .before .read-front .ensures) (c .before .before .before .before .before .before .before .before .before .if1 .left) (omega (arith, c .before .before .before .before .before .before .before .before .split .ensures .ends)) (c .before .repeats .result) (c .before .repeats .ensures) (c .if3 .left)
+returns-2 : tie.Need-returns-2
+returns-2 c = c .first-of .ensures ∙ whole-rest (c .before .before .before .before .before .before .before .before .before .before .before .args .list .now) (c .before .before .before .before .before .before .before .before .before .read-front .result) (c .before .before .before .before .before .before .before .before .before .read-front .ensures) (c .before .before .before .before .before .before .before .before .if1 .left) (c .before .before .before .before .before .before .before .split .result .size) (c .before .before .before .before .before .before .before .split .ensures .ends) (c .before .repeats .result) (c .before .repeats .ensures)
 
 pub check-spec : {M : Type 1} → statement M
 check-spec =
@@ -41,7 +39,6 @@ check-spec =
     read-front-requires
     returns
     split-requires
-    returns-2
     repeats-requires
-    returns-3
-    returns-4)
+    first-of-requires
+    returns-2)

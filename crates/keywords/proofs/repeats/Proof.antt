@@ -17,10 +17,10 @@ use Rattle.keywords.proofs.repeats.Lts as lts
 use Rattle.keywords.proofs.again.Reads as again-reads
 
 abbrev Inv-loop : tie.InvT-loop
-Inv-loop list flag count start len i₀ i = (i ≤ count) × (twice (drop i (foldedKeywords list)) ≡ twice (foldedKeywords list))
+Inv-loop list flag count start len one₀ one = (one ≤ count) × (twice (drop one (foldedKeywords list)) ≡ twice (foldedKeywords list))
 
 abbrev μ-loop : tie.MeasureT-loop
-μ-loop list flag count start len i₀ i = count - i
+μ-loop list flag count start len one₀ one = count - one
 
 loop-holds : tie.Need-loop-holds Inv-loop μ-loop
 loop-holds c = (omega arith, refl)
@@ -32,10 +32,10 @@ returns : tie.Need-returns Inv-loop μ-loop
 returns c =
     let at = c .before .before .before in
     let s = at .before .before in
-    twice-hit (foldedKeywords (s .args .list .now)) (at .loop .i) (omega (arith, folded-count (s .args .list .now), s .pre .counts)) (c .before .again .result) _ (c .before .again .ensures) (c .if1 .taken) (at .loop .inv .1)
+    twice-hit (foldedKeywords (s .args .list .now)) (at .loop .one) (omega (arith, folded-count (s .args .list .now), s .pre .counts)) (c .before .again .result) _ (c .before .again .ensures) (c .if1 .taken) (at .loop .inv .1)
 
-add-i : tie.Need-add-i Inv-loop μ-loop
-add-i c = search needs
+add-one : tie.Need-add-one Inv-loop μ-loop
+add-one c = search needs
 
 loop-less : tie.Need-loop-less Inv-loop μ-loop
 loop-less c = search needs
@@ -44,12 +44,12 @@ loop-again : tie.Need-loop-again Inv-loop μ-loop
 loop-again c =
     let at = c .before .before .before in
     let s = at .before .before in
-    (omega arith, twice-on (foldedKeywords (s .args .list .now)) (at .loop .i) (omega (arith, folded-count (s .args .list .now), s .pre .counts)) (c .before .again .result) _ (c .before .again .ensures) (c .if1 .left) (at .loop .inv .1))
+    (omega arith, twice-on (foldedKeywords (s .args .list .now)) (at .loop .one) (omega (arith, folded-count (s .args .list .now), s .pre .counts)) (c .before .again .result) _ (c .before .again .ensures) (c .if1 .left) (at .loop .inv .1))
 
 returns-2 : tie.Need-returns-2 Inv-loop μ-loop
 returns-2 c =
     let s = c .before .before .before in
-    twice-end (foldedKeywords (s .args .list .now)) (c .before .loop .i) (omega (arith, folded-count (s .args .list .now), s .pre .counts)) ∙ c .before .loop .inv .1
+    twice-end (foldedKeywords (s .args .list .now)) (c .before .loop .one) (omega (arith, folded-count (s .args .list .now), s .pre .counts)) ∙ c .before .loop .inv .1
 
 pub repeats-spec : {M : Type 1} → statement M
 repeats-spec =
@@ -60,7 +60,7 @@ repeats-spec =
     loop-holds
     again-requires
     returns
-    add-i
+    add-one
     loop-less
     loop-again
     returns-2)
