@@ -1,0 +1,75 @@
+// The match records of a chunk, read from its body in a match index as plain numbers. No offset is copied: a row says where the index
+// has them.
+ghost use mathlib.Core.Path.{_≡_};
+ghost use Prim.Native.Nat.{_+_, _≤_};
+ghost use lib.ListN.{length};
+ghost use Rattle.spec.specs.Bytes.{part};
+ghost use Rattle.spec.specs.Records.{form1, readRecord, recordSize};
+ghost use Rattle.loader.specs.Loaded.{recordNext, sizeNext, RowAt, Loadable, Loaded};
+
+// Bytes of an offset, and of the exact count.
+const WIDTH: usize = 2;
+
+// What a suffix of length 1 adds to the tiny byte.
+const TINY_STEP: usize = 2;
+
+// A row is four numbers: prefix, suffix, the place of the list of offsets, and how many there are.
+const PLACE: usize = 2;
+
+const LEFT: usize = 3;
+
+// The row of the record that starts at `at`; `len` bytes of the body are left from there.
+fn record_at(index: &[u8], at: usize, len: usize) -> [usize; 4]
+    requires { ⌜ (at + len ≤ length (now index)) × (recordSize form1 (part (now index) at len) ≤ len) ⌝ }
+    ensures { λ r. ⌜ RowAt (now (index .entry)) 2 at r (readRecord form1 (part (now (index .entry)) at len)) (recordSize form1 (part (now (index .entry)) at len)) ⌝ }
+{
+    let kind = index[at + 1];
+    let prefix = index[at + 2] as usize;
+    if kind == 0 {
+        return [prefix % TINY_STEP, prefix / TINY_STEP, at + 3, 0];
+    }
+    let suffix = index[at + 3] as usize;
+    let count = index[at + 4] as usize;
+    if kind == 1 {
+        if count == 0 {
+            return [prefix, suffix, at + (5 + WIDTH), 0];
+        }
+        return [prefix, suffix, at + 5, 1];
+    }
+    if kind == 2 {
+        return [prefix, suffix, at + (5 + WIDTH), count];
+    }
+    let exact = field::read(index, at + (5 + WIDTH), WIDTH) as usize;
+    [prefix, suffix, at + (5 + 2 * WIDTH), exact]
+}
+
+// The row of keyword k: no prefix, suffix or offset where its number is not next.
+fn row_at(index: &[u8], at: usize, len: usize, k: usize) -> [usize; 4]
+    requires { ⌜ (at + len ≤ length (now index)) × (sizeNext form1 k (part (now index) at len) ≤ len) ⌝ }
+    ensures { λ r. ⌜ RowAt (now (index .entry)) 2 at r (recordNext form1 k (part (now (index .entry)) at len)) (sizeNext form1 k (part (now (index .entry)) at len)) ⌝ }
+{
+    if len == 0 {
+        return [0, 0, at, 0];
+    }
+    let number = index[at] as usize;
+    if number != k {
+        return [0, 0, at, 0];
+    }
+    record_at(index, at, len)
+}
+
+// The rows of `count` keywords, from the body of `len` bytes at `at`. A record ends where its list of offsets does.
+pub fn load(index: &[u8], at: usize, len: usize, count: usize, rows: &mut [[usize; 4]; 16])
+    requires { ⌜ Loadable (now index) at len count (now rows) ⌝ }
+    ensures { λ _. ⌜ Loaded (now (index .entry)) at len count (now (rows .exit)) ⌝ }
+{
+    let end = at + len;
+    let mut place = at;
+    let mut k: usize = 0;
+    while k < count {
+        let row = row_at(index, place, end - place, k);
+        rows[k] = row;
+        place = row[PLACE] + WIDTH * row[LEFT];
+        k += 1;
+    }
+}
