@@ -1,0 +1,64 @@
+use mathlib.Core.Path.{_≡_, refl, sym, ap, _∙_}
+use mathlib.Core.List.{List, []}
+use Prim.Native.Nat.{ℕ, _+_, _*_, _-_, _≤_, _<_}
+use native.Mathlib.Omega.{arith}
+use lib.ListN.{length, getD, take, drop}
+use denote.Ref.{now}
+use Rattle.spec.specs.Bytes.{part, positionOf}
+use Rattle.spec.specs.Directory.{offsetAt, lengthAt}
+use Rattle.spec.specs.Store.{storeLayout, storeKeys, chunkAt}
+use Rattle.spec.specs.Lookup.{findChunk, chunkStart, chunkLength, chunkOf}
+use Rattle.store.specs.Examined.{EntryOf}
+use Rattle.store.proofs.Answers.{chunk-room, chunk-slice}
+use borrow.Author.Needs.{needs}
+use Rattle.store.proofs.chunk_at.Statement.{statement}
+use Rattle.store.proofs.chunk_at.Tie as tie
+use Rattle.store.proofs.chunk_at.Reads as reads
+use Rattle.store.proofs.chunk_at.Lts as lts
+use Rattle.store.proofs.entry_field.Reads as entry-field-reads
+
+-- the chunk lies in the store
+room : (c : tie.After-entry-field2) → c .before .entry-field .result + c .entry-field2 .result ≤ length (now (c .before .before .before .args .store))
+room c =
+    let start = c .before .before .before in
+    omega (arith, c .before .entry-field .ensures, c .entry-field2 .ensures, chunk-room (now (start .args .store)) (start .args .k) (start .pre))
+
+entry-field-requires : tie.Need-entry-field-requires
+entry-field-requires c κs = search needs
+
+entry-field-requires-2 : tie.Need-entry-field-requires-2
+entry-field-requires-2 c κs = search needs
+
+add-result : tie.Need-add-result
+add-result c = omega (arith, room c)
+
+sub-result : tie.Need-sub-result
+sub-result c = search needs
+
+part-result-start : tie.Need-part-result-start
+part-result-start c = search needs
+
+part-result-end : tie.Need-part-result-end
+part-result-end c = let r = room c in search needs
+
+returns : tie.Need-returns
+returns c =
+    let sized = c .before in
+    let a = sized .before .before .before .args in
+    record {
+      holds = chunk-slice (now (a .store)) (a .k) (sized .before .before .before .pre) (sized .before .entry-field .result) (sized .entry-field2 .result) (sized .before .entry-field .ensures) (sized .entry-field2 .ensures);
+      block = refl;
+      place = ap (λ (n : ℕ). n + a .store .ptr .1) (sized .before .entry-field .ensures);
+    }
+
+pub chunk-at-spec : {M : Type 1} → statement M
+chunk-at-spec =
+    tie.close
+    (tie.spec
+    entry-field-requires
+    entry-field-requires-2
+    add-result
+    sub-result
+    part-result-start
+    part-result-end
+    returns)

@@ -1,0 +1,36 @@
+use mathlib.Core.Path.{_≡_, refl, sym, ap, _∙_}
+use mathlib.Core.List.{List, []}
+use Prim.Native.Nat.{ℕ, _+_, _*_, _-_, _≤_, _<_}
+use native.Mathlib.Omega.{arith}
+use lib.ListN.{length, getD, take, drop}
+use denote.Ref.{now}
+use Rattle.spec.specs.Bytes.{part, positionOf}
+use Rattle.spec.specs.Directory.{offsetAt, lengthAt}
+use Rattle.spec.specs.Store.{storeLayout, storeKeys, chunkAt}
+use Rattle.spec.specs.Lookup.{findChunk, chunkStart, chunkLength, chunkOf}
+use Rattle.store.specs.Examined.{EntryOf}
+use Rattle.store.proofs.Answers.{entry-room}
+use borrow.Author.Needs.{needs}
+use Rattle.store.proofs.entry_field.Statement.{statement}
+use Rattle.store.proofs.entry_field.Tie as tie
+use Rattle.store.proofs.entry_field.Reads as reads
+use Rattle.store.proofs.entry_field.Lts as lts
+use Rattle.field.proofs.read.Reads as read-reads
+
+mul-read : tie.Need-mul-read
+mul-read c = let a = c .before in omega (arith, entry-room (now (a .args .store)) (a .args .k) (a .pre .0))
+
+add-read : tie.Need-add-read
+add-read c = let a = c .before in omega (arith, entry-room (now (a .args .store)) (a .args .k) (a .pre .0))
+
+add-read-2 : tie.Need-add-read-2
+add-read-2 c = let a = c .before in omega (arith, entry-room (now (a .args .store)) (a .args .k) (a .pre .0), a .pre .1)
+
+read-requires : tie.Need-read-requires
+read-requires c κs = let a = c .before in (omega arith, omega (arith, entry-room (now (a .args .store)) (a .args .k) (a .pre .0), a .pre .1))
+
+returns : tie.Need-returns
+returns c = search needs
+
+pub entry-field-spec : {M : Type 1} → statement M
+entry-field-spec = tie.close (tie.spec mul-read add-read add-read-2 read-requires returns)

@@ -1,0 +1,144 @@
+use mathlib.Core.Path.{_≡_, refl, sym, ap, _∙_, subst}
+use mathlib.Core.Bool.{Bool, true, false}
+use mathlib.Core.List.{List, []}
+use Prim.Native.Nat.{ℕ, suc, _+_, _*_, _-_, _≤_, _<_}
+use native.Mathlib.Omega.{arith}
+use lib.ListN.{length, getD, take}
+use denote.Ref.{now}
+use Rattle.spec.specs.Bytes.{same, positionOf}
+use Rattle.spec.specs.Outcome.{answer}
+use Rattle.spec.specs.Store.{storeMark, storeLayout, storeKeys, storeCode, chunkCount, chunkAt}
+use Rattle.spec.specs.Lookup.{findChunk, chunkStart, chunkLength, chunkOf}
+use Rattle.directory.specs.Chains.{Empty, keysFrom, Built}
+use borrow.Author.Tests.{not-true, not-false}
+use Rattle.store.proofs.Answers.{refused-with, short, unmarked, many, cut, wrong, twin, examined}
+use Rattle.store.specs.Examined.{Examined, EntryOf}
+use borrow.Author.Needs.{needs}
+use Rattle.store.proofs.examine.Statement.{statement}
+use Rattle.store.proofs.examine.Tie as tie
+use Rattle.store.proofs.examine.Reads as reads
+use Rattle.store.proofs.examine.Lts as lts
+use Rattle.directory.proofs.build.Reads as build-reads
+use Rattle.directory.proofs.entries.Reads as entries-reads
+use Rattle.store.proofs.count.Reads as count-reads
+use Rattle.store.proofs.marked.Reads as marked-reads
+
+-- what the tests on the first 8 bytes say
+header : (c : tie.Else2)
+    → let store = now (c .before .before .before .before .before .before .args .store) in
+    (8 ≤ length store) × (same (take 4 store) storeMark ≡ true)
+header c = (c .before .before .if1 .left, sym (c .before .marked .ensures) ∙ not-false (c .before .marked .result) (c .if2 .left))
+
+returns : tie.Need-returns
+returns c =
+    let store = now (c .before .before .before .before .args .store) in
+    refused-with store 5 (short store (c .if1 .taken)) (omega arith)
+
+marked-requires : tie.Need-marked-requires
+marked-requires c κs = search needs
+
+returns-2 : tie.Need-returns-2
+returns-2 c =
+    let store = now (c .before .before .before .before .before .before .args .store) in
+    refused-with store 5 (unmarked store (c .before .before .if1 .left) (sym (c .before .marked .ensures) ∙ not-true (c .before .marked .result) (c .if2 .taken))) (omega arith)
+
+count-requires : tie.Need-count-requires
+count-requires c κs = search needs
+
+returns-3 : tie.Need-returns-3
+returns-3 c =
+    let opened = c .before .before in
+    let store = now (opened .before .before .before .before .before .before .args .store) in
+    let h = header opened in
+    refused-with store 6 (many store (h .0) (h .1) (c .before .count .result) (c .before .count .ensures) (c .if3 .taken)) (omega arith)
+
+mul-if4 : tie.Need-mul-if4
+mul-if4 c = search needs
+
+add-if4 : tie.Need-add-if4
+add-if4 c = search needs
+
+returns-4 : tie.Need-returns-4
+returns-4 c =
+    let counted = c .before .before in
+    let opened = counted .before in
+    let store = now (opened .before .before .before .before .before .before .args .store) in
+    let h = header opened in
+    refused-with store 6 (cut store (h .0) (h .1) (counted .count .result) (counted .count .ensures) (c .before .if3 .left) (c .if4 .taken)) (omega arith)
+
+entries-requires : tie.Need-entries-requires
+entries-requires c κs = search needs
+
+returns-5 : tie.Need-returns-5
+returns-5 c =
+    let counted = c .before .before .before .before in
+    let opened = counted .before in
+    let store = now (opened .before .before .before .before .before .before .args .store) in
+    let h = header opened in
+    refused-with store (c .before .entries .result)
+    (wrong store (h .0) (h .1) (counted .count .result) (counted .count .ensures) (c .before .before .before .if3 .left) (c .before .before .if4 .left)
+    (c .before .entries .result) (c .before .entries .ensures) (c .if5 .taken))
+    (omega (arith, c .if5 .taken))
+
+build-requires : tie.Need-build-requires
+build-requires c κs = search needs
+
+same-length : tie.Need-same-length
+same-length c = search needs
+
+same-length-2 : tie.Need-same-length-2
+same-length-2 c = search needs
+
+returns-6 : tie.Need-returns-6
+returns-6 c =
+    let built = c .before .before .before .before .before in
+    let good = built .before .before .before in
+    let sized = good .before .before in
+    let counted = sized .before .before in
+    let opened = counted .before in
+    let store = now (opened .before .before .before .before .before .before .args .store) in
+    let h = header opened in
+    refused-with store 8
+    (twin store (h .0) (h .1) (counted .count .result) (counted .count .ensures) (sized .before .if3 .left) (sized .if4 .left)
+    (sym (good .before .entries .ensures) ∙ good .if5 .left) (sym (built .build .ensures .found) ∙ c .if6 .taken))
+    (omega arith)
+
+same-length-3 : tie.Need-same-length-3
+same-length-3 c = search needs
+
+same-length-4 : tie.Need-same-length-4
+same-length-4 c = search needs
+
+returns-7 : tie.Need-returns-7
+returns-7 c =
+    let built = c .before .before .before .before .before in
+    let good = built .before .before .before in
+    let sized = good .before .before in
+    let counted = sized .before .before in
+    let opened = counted .before in
+    let store = now (opened .before .before .before .before .before .before .args .store) in
+    let h = header opened in
+    examined store (h .0) (h .1) (counted .count .result) (counted .count .ensures) (sized .before .if3 .left) (sized .if4 .left)
+    (sym (good .before .entries .ensures) ∙ good .if5 .left) (built .build .result) (built .build .ensures) (c .if6 .left)
+
+pub examine-spec : {M : Type 1} → statement M
+examine-spec =
+    tie.close
+    (tie.spec
+    returns
+    marked-requires
+    returns-2
+    count-requires
+    returns-3
+    mul-if4
+    add-if4
+    returns-4
+    entries-requires
+    returns-5
+    build-requires
+    same-length
+    same-length-2
+    returns-6
+    same-length-3
+    same-length-4
+    returns-7)

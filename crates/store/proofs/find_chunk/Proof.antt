@@ -1,0 +1,44 @@
+use mathlib.Core.Path.{_≡_, refl, sym, ap, _∙_, subst}
+use mathlib.Core.Bool.{Bool, true, false}
+use mathlib.Core.List.{List, []}
+use Prim.Native.Nat.{ℕ, suc, _+_, _*_, _-_, _≤_, _<_}
+use native.Mathlib.Omega.{arith}
+use lib.ListN.{length, getD, take}
+use denote.Ref.{now}
+use Rattle.spec.specs.Bytes.{same, positionOf}
+use Rattle.spec.specs.Outcome.{answer}
+use Rattle.spec.specs.Store.{storeMark, storeLayout, storeKeys, storeCode, chunkCount, chunkAt}
+use Rattle.spec.specs.Lookup.{findChunk, chunkStart, chunkLength, chunkOf}
+use Rattle.directory.specs.Chains.{Empty}
+use Rattle.store.specs.Examined.{Examined, EntryOf}
+use Rattle.store.proofs.Answers.{done-code, refused-code}
+use borrow.Author.Needs.{needs}
+use Rattle.store.proofs.find_chunk.Statement.{statement}
+use Rattle.store.proofs.find_chunk.Tie as tie
+use Rattle.store.proofs.find_chunk.Reads as reads
+use Rattle.store.proofs.find_chunk.Lts as lts
+use Rattle.store.proofs.locate.Reads as locate-reads
+
+locate-requires : tie.Need-locate-requires
+locate-requires c κs = search needs
+
+enum-told : tie.Need-enum-told
+enum-told c = search needs
+
+enum-known-code : tie.Need-enum-known-code
+enum-known-code c = search needs
+
+returns : tie.Need-returns
+returns c =
+    let called = c .before .before in
+    let a = called .before .before .before .args in
+    sym (done-code (c .enum-told .given .0 .0) (findChunk (now (a .store)) (now (a .fp))) (positionOf (now (a .fp)) (storeKeys (now (a .store)))) (sym (c .enum-told .given .1) ∙ called .locate .ensures) .0)
+
+returns-2 : tie.Need-returns-2
+returns-2 c =
+    let called = c .before .before .before in
+    let a = called .before .before .before .args in
+    refused-code (c .before .code .given .0 .0) (findChunk (now (a .store)) (now (a .fp))) (positionOf (now (a .fp)) (storeKeys (now (a .store)))) (sym (c .before .code .given .1) ∙ called .locate .ensures) .0
+
+pub find-chunk-spec : {M : Type 1} → statement M
+find-chunk-spec = tie.close (tie.spec locate-requires enum-told enum-known-code returns returns-2)

@@ -1,0 +1,115 @@
+use mathlib.Core.Path.{_≡_, refl, sym, ap, _∙_, subst}
+use mathlib.Core.Bool.{Bool, true, false}
+use mathlib.Core.List.{List, []}
+use Prim.Native.Nat.{ℕ, suc, _+_, _*_, _-_, _≤_, _<_}
+use native.Mathlib.Omega.{arith}
+use lib.ListN.{length, getD, take}
+use denote.Ref.{now}
+use Rattle.spec.specs.Bytes.{same, positionOf}
+use Rattle.spec.specs.Outcome.{answer}
+use Rattle.spec.specs.Store.{storeMark, storeLayout, storeKeys, storeCode, chunkCount, chunkAt}
+use Rattle.spec.specs.Lookup.{findChunk, chunkStart, chunkLength, chunkOf}
+use Rattle.directory.specs.Chains.{keysFrom, Chained}
+use Rattle.store.specs.Examined.{Examined, EntryOf}
+use Rattle.store.proofs.Answers.{zeros, keys-from, lies, refuses, finds, lookup-refused, lookup-length, lookup-none, lookup-found}
+use Rattle.spec.proofs.StoreLaws.{store-good}
+use borrow.Author.Needs.{needs}
+use Rattle.store.proofs.locate.Statement.{statement}
+use Rattle.store.proofs.locate.Tie as tie
+use Rattle.store.proofs.locate.Reads as reads
+use Rattle.store.proofs.locate.Lts as lts
+use Rattle.directory.proofs.find.Reads as find-reads
+use Rattle.store.proofs.count.Reads as count-reads
+use Rattle.store.proofs.examine.Reads as examine-reads
+
+slice-aggregate-examine : tie.Need-slice-aggregate-examine
+slice-aggregate-examine c = search needs
+
+slice-aggregate-examine-2 : tie.Need-slice-aggregate-examine-2
+slice-aggregate-examine-2 c = search needs
+
+examine-requires : tie.Need-examine-requires
+examine-requires c κs = zeros
+
+-- the store passed its check
+passed : (c : tie.Else1) → storeCode (now (c .before .before .before .before .before .before .before .before .args .store)) ≡ 0
+passed c = sym (c .before .before .before .examine .ensures .number) ∙ c .if1 .left
+
+-- the fingerprint's place
+placed : (c : tie.After-find)
+    → let a = c .before .before .before .before .before .before .before .before .before .before .before .before .before .args in
+    c .find .result ≡ positionOf (now (a .fp)) (storeKeys (now (a .store)))
+placed c =
+    let counted = c .before .before .before in
+    let a = counted .before .before .before .before .before .before .before .before .before .before .args in
+    c .find .ensures ∙ ap (positionOf (now (a .fp))) (keys-from (now (a .store)) (counted .count .result) (counted .count .ensures))
+
+returns : tie.Need-returns
+returns c =
+    let called = c .before .before .before in
+    let a = called .before .before .before .before .before .args in
+    refuses (called .examine .result) (findChunk (now (a .store)) (now (a .fp))) (positionOf (now (a .fp)) (storeKeys (now (a .store))))
+    (lookup-refused (now (a .store)) (now (a .fp)) (called .examine .result) (called .examine .ensures .number) (c .if1 .taken)) (c .if1 .taken)
+
+returns-2 : tie.Need-returns-2
+returns-2 c =
+    let a = c .before .before .before .before .before .before .before .before .before .args in
+    refuses 19 (findChunk (now (a .store)) (now (a .fp))) (positionOf (now (a .fp)) (storeKeys (now (a .store))))
+    (lookup-length (now (a .store)) (now (a .fp)) (passed (c .before)) (c .if2 .taken)) (λ z. omega arith)
+
+count-requires : tie.Need-count-requires
+count-requires c κs = store-good (now (c .before .before .before .before .before .before .before .before .before .args .store)) (passed (c .before)) .header
+
+slice-aggregate-find : tie.Need-slice-aggregate-find
+slice-aggregate-find c = search needs
+
+slice-aggregate-find-2 : tie.Need-slice-aggregate-find-2
+slice-aggregate-find-2 c = search needs
+
+find-requires : tie.Need-find-requires
+find-requires c κs =
+    let counted = c .before .before in
+    let called = counted .before .before .before .before .before in
+    let a = called .before .before .before .before .before .args in
+    let z = passed (counted .before .before) in (
+      lies (now (a .store)) (counted .count .result) z (counted .count .ensures),
+      (
+        subst (λ (keys : List (List ℕ)). Chained keys 0 (called .examine .last .1 .0) (called .examine .last .1 .1 .0))
+            (sym (keys-from (now (a .store)) (counted .count .result) (counted .count .ensures))) (called .examine .ensures .chains z),
+        counted .before .if2 .left,
+      ),
+    )
+
+returns-3 : tie.Need-returns-3
+returns-3 c =
+    let counted = c .before .before .before .before in
+    let a = counted .before .before .before .before .before .before .before .before .before .before .args in
+    refuses 15 (findChunk (now (a .store)) (now (a .fp))) (positionOf (now (a .fp)) (storeKeys (now (a .store))))
+    (lookup-none (now (a .store)) (now (a .fp)) (passed (counted .before .before)) (counted .before .if2 .left) (counted .count .result) (counted .count .ensures)
+    (c .before .find .result) (placed (c .before)) (c .if3 .taken))
+    (λ z. omega arith)
+
+returns-4 : tie.Need-returns-4
+returns-4 c =
+    let counted = c .before .before .before .before in
+    let a = counted .before .before .before .before .before .before .before .before .before .before .args in
+    finds (c .before .find .result) (findChunk (now (a .store)) (now (a .fp))) (positionOf (now (a .fp)) (storeKeys (now (a .store))))
+    (lookup-found (now (a .store)) (now (a .fp)) (passed (counted .before .before)) (counted .before .if2 .left) (counted .count .result) (counted .count .ensures)
+    (c .before .find .result) (placed (c .before)) (c .if3 .left))
+    (placed (c .before))
+
+pub locate-spec : {M : Type 1} → statement M
+locate-spec =
+    tie.close
+    (tie.spec
+    slice-aggregate-examine
+    slice-aggregate-examine-2
+    examine-requires
+    returns
+    returns-2
+    count-requires
+    slice-aggregate-find
+    slice-aggregate-find-2
+    find-requires
+    returns-3
+    returns-4)

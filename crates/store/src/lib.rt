@@ -1,0 +1,155 @@
+// Stores: their check, the lookup of a chunk by its fingerprint, and their entries one by one. Document 01, "Store" and "The two lookups".
+ghost use mathlib.Core.Path.{_≡_};
+ghost use Prim.Native.Nat.{_+_, _≤_};
+ghost use mathlib.Core.List.{[]};
+ghost use lib.ListN.{length, getD, take};
+ghost use Rattle.spec.specs.Bytes.{same, positionOf};
+ghost use Rattle.spec.specs.Outcome.{answer};
+ghost use Rattle.spec.specs.Directory.{entryField, offsetAt};
+ghost use Rattle.spec.specs.Store.{storeMark, storeLayout, storeKeys, storeCode, chunkCount, chunkAt};
+ghost use Rattle.spec.specs.Lookup.{findChunk, chunkStart, chunkLength, chunkOf};
+ghost use Rattle.directory.specs.Chains.{Empty};
+ghost use Rattle.directory.specs.Slices.{SliceOf};
+ghost use Rattle.store.specs.Examined.{Examined, EntryOf};
+
+const MARK: [u8; 4] = [0x44, 0x56, 0x31, 0x0A];
+
+// The first four bytes are the mark.
+fn marked(store: &[u8]) -> bool
+    requires { ⌜ 4 ≤ length (now store) ⌝ }
+    ensures { λ r. ⌜ r ≡ same (take 4 (now (store .entry))) storeMark ⌝ }
+{
+    field::equal(&store[..4], &MARK)
+}
+
+// The chunk count.
+pub fn count(store: &[u8]) -> usize
+    requires { ⌜ 8 ≤ length (now store) ⌝ }
+    ensures { λ r. ⌜ r ≡ chunkCount (now (store .entry)) ⌝ }
+{
+    field::read(store, 4, 4) as usize
+}
+
+// The store check; it leaves the index of the fingerprints in the arrays.
+fn examine(store: &[u8], heads: &mut [u32], next: &mut [u32]) -> u8
+    requires { ⌜ Empty (now heads) (now next) ⌝ }
+    ensures { λ r. ⌜ Examined (now (store .entry)) (now (heads .exit)) (now (next .exit)) r ⌝ }
+{
+    if store.len() < 8 {
+        return 5;
+    }
+    if !marked(store) {
+        return 5;
+    }
+    let c = count(store);
+    if 65000 < c {
+        return 6;
+    }
+    if store.len() < 8 + 28 * c {
+        return 6;
+    }
+    let code = directory::entries(store, 8, 28, 24, 20, 24, 65535, 7, c);
+    if code != 0 {
+        return code;
+    }
+    if directory::build(store, 8, 28, c, heads, next) {
+        return 8;
+    }
+    0
+}
+
+// The store check.
+pub fn check(store: &[u8]) -> u8
+    ensures { λ r. ⌜ r ≡ storeCode (now (store .entry)) ⌝ }
+{
+    let mut heads = [0u32; 65536];
+    let mut next = [0u32; 65000];
+    examine(store, &mut heads, &mut next)
+}
+
+// The entry of a fingerprint, or the number that refuses the lookup.
+fn locate(store: &[u8], fp: &[u8]) -> spec::Outcome
+    ensures { λ r. ⌜ r ≡ answer (findChunk (now (store .entry)) (now (fp .entry))) (positionOf (now (fp .entry)) (storeKeys (now (store .entry)))) ⌝ }
+{
+    let mut heads = [0u32; 65536];
+    let mut next = [0u32; 65000];
+    let code = examine(store, &mut heads, &mut next);
+    if code != 0 {
+        return spec::Outcome::Refused(code);
+    }
+    if fp.len() != 20 {
+        return spec::Outcome::Refused(19);
+    }
+    let c = count(store);
+    let k = directory::find(store, 8, 28, c, &heads, &next, fp);
+    if k == c {
+        return spec::Outcome::Refused(15);
+    }
+    spec::Outcome::Done(k)
+}
+
+// The number of a lookup: 0 when the fingerprint is found.
+pub fn find_chunk(store: &[u8], fp: &[u8]) -> u8
+    ensures { λ r. ⌜ r ≡ findChunk (now (store .entry)) (now (fp .entry)) ⌝ }
+{
+    match locate(store, fp) {
+        spec::Outcome::Done(_) => 0,
+        spec::Outcome::Refused(code) => code,
+    }
+}
+
+// The field of entry k that starts at byte `at` of it.
+fn entry_field(store: &[u8], k: usize, at: usize) -> usize
+    requires { ⌜ EntryOf (now store) k × (at + 4 ≤ 28) ⌝ }
+    ensures { λ r. ⌜ r ≡ entryField storeLayout (now (store .entry)) at k ⌝ }
+{
+    field::read(store, 8 + 28 * k + at, 4) as usize
+}
+
+// The fingerprint of entry k.
+pub fn key_at(store: &[u8], k: usize) -> &[u8]
+    requires { ⌜ EntryOf (now store) k ⌝ }
+    ensures { λ r. ⌜ now r ≡ getD (storeKeys (now (store .entry))) k [] ⌝ }
+{
+    directory::key(store, 8, 28, k)
+}
+
+// The chunk of entry k: the store's own slice, uncopied.
+pub fn chunk_at(store: &[u8], k: usize) -> &[u8]
+    requires { ⌜ EntryOf (now store) k ⌝ }
+    ensures { λ r. ⌜ SliceOf (store .entry) r (chunkAt (now (store .entry)) k) (offsetAt storeLayout (now (store .entry)) k) ⌝ }
+{
+    let at = entry_field(store, k, 20);
+    let n = entry_field(store, k, 24);
+    &store[at..at + n]
+}
+
+// Where the chunk of a fingerprint starts; 0 on a refusal.
+pub fn chunk_start(store: &[u8], fp: &[u8]) -> usize
+    ensures { λ r. ⌜ r ≡ chunkStart (now (store .entry)) (now (fp .entry)) ⌝ }
+{
+    match locate(store, fp) {
+        spec::Outcome::Done(k) => entry_field(store, k, 20),
+        spec::Outcome::Refused(_) => 0,
+    }
+}
+
+// How long the chunk of a fingerprint is; 0 on a refusal.
+pub fn chunk_length(store: &[u8], fp: &[u8]) -> usize
+    ensures { λ r. ⌜ r ≡ chunkLength (now (store .entry)) (now (fp .entry)) ⌝ }
+{
+    match locate(store, fp) {
+        spec::Outcome::Done(k) => entry_field(store, k, 24),
+        spec::Outcome::Refused(_) => 0,
+    }
+}
+
+// The chunk of a fingerprint: a slice of the store itself, never of the fingerprint; the empty slice at the store's start on a refusal.
+pub fn chunk<'a, 'b>(store: &'a [u8], fp: &'b [u8]) -> &'a [u8]
+    ensures { λ r. ⌜ SliceOf (store .entry) r (chunkOf (now (store .entry)) (now (fp .entry))) (chunkStart (now (store .entry)) (now (fp .entry))) ⌝ }
+{
+    match locate(store, fp) {
+        spec::Outcome::Done(k) => chunk_at(store, k),
+        spec::Outcome::Refused(_) => &store[..0],
+    }
+}
