@@ -52,11 +52,14 @@ pub fn plain(keywords: &[&[u8]], file: u32, data: &[u8], list: &mut Vec<Occurren
 
 /// Aho and Corasick's automaton as a full table: a row of 256 targets for each state, one read a byte.
 pub struct Automaton {
-    /// Target times 256, with the lowest bit set where a keyword ends.
-    table: Vec<u32>,
+    /// Target times 256, with the lowest bit set where a keyword ends; 16 keywords of 32 bytes have 513 states at most.
+    table: Box<[u32; CELLS]>,
     /// The keywords that end in a state: number and length.
     ends: Vec<Vec<(u8, u32)>>,
 }
+
+/// A power of two above 513 x 256, so that a masked index needs no test.
+const CELLS: usize = 1 << 18;
 
 impl Automaton {
     pub fn new(keywords: &[&[u8]]) -> Automaton {
@@ -93,8 +96,9 @@ impl Automaton {
             }
         }
         let entry = |target: &usize| (*target as u32) * 256 + u32::from(!ends[*target].is_empty());
-        let table = rows.iter().flat_map(|row| row.iter().map(entry)).collect();
-        Automaton { table, ends }
+        let mut cells: Vec<u32> = rows.iter().flat_map(|row| row.iter().map(entry)).collect();
+        cells.resize(CELLS, 0);
+        Automaton { table: cells.try_into().expect("it has that length"), ends }
     }
 
     /// The finds of one file, put into the list's order.
@@ -102,7 +106,7 @@ impl Automaton {
         let first = list.len();
         let mut state = 0u32;
         for (at, b) in data.iter().enumerate() {
-            state = self.table[((state & !255) | u32::from(*b)) as usize];
+            state = self.table[((state & 0x3FF00) | u32::from(*b)) as usize];
             if state & 1 == 1 {
                 for (keyword, length) in &self.ends[(state / 256) as usize] {
                     list.push(Occurrence { file, offset: at as u32 + 1 - length, keyword: *keyword });

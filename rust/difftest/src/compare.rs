@@ -43,26 +43,26 @@ type Verdict = Result<(), String>;
 impl Comparison<'_> {
     pub fn run(&mut self, case: &Case) -> Verdict {
         *self.tally.kinds.entry(case.kind).or_default() += 1;
-        // Exact allocations, so that valgrind sees one byte too far.
-        let exact = |bytes: &[u8]| bytes.to_vec().into_boxed_slice();
-        let (list, stored, recipes) = (exact(&case.list), exact(&case.store), exact(&case.recipes));
-        let scanned = self.scans(&list, &stored)?;
-        let chunks = store::read(&stored);
-        for key in &case.keys {
-            self.lookup("find_chunk", raw::chunk(&stored, key), calls::chunk_in(&chunks, key))?;
+        let mut input = |bytes: &[u8]| Input::new(bytes, self.rng.below(4));
+        let (list, stored, recipes) = (input(&case.list), input(&case.store), input(&case.recipes));
+        let own = case.index.as_ref().map(|index| input(index));
+        let scanned = self.scans(list.get(), stored.get())?;
+        let chunks = store::read(stored.get());
+        // The last fingerprint is a part of the store itself: its first entry's.
+        for key in case.keys.iter().map(|key| &key[..]).chain(stored.get().get(8..28)) {
+            self.lookup("find_chunk", raw::chunk(stored.get(), key), calls::chunk_in(&chunks, key))?;
         }
-        let own = case.index.as_ref().map(|i| exact(i));
-        if let Some(index) = own.as_deref().or(scanned.as_deref().ok()) {
-            self.joins(index, &recipes)?;
+        if let Some(index) = own.as_ref().map(Input::get).or(scanned.as_deref().ok()) {
+            self.joins(index, recipes.get())?;
             let read = index::read(index);
-            for key in &case.keys {
+            let entry = 8 + case.list.len();
+            for key in case.keys.iter().map(|key| &key[..]).chain(index.get(entry..entry + 20)) {
                 self.lookup("find_body", raw::body(index, key), calls::body_in(&read, key))?;
             }
         }
-        self.searches(&list, &stored, &recipes, &scanned)?;
-        if (&*list, &*stored, &*recipes) != (&case.list[..], &case.store[..], &case.recipes[..])
-            || own.is_some_and(|i| Some(i.to_vec()) != case.index)
-        {
+        self.searches(list.get(), stored.get(), recipes.get(), &scanned)?;
+        let kept = list.get() == case.list && stored.get() == case.store && recipes.get() == case.recipes;
+        if !kept || own.is_some_and(|index| Some(index.get()) != case.index.as_deref()) {
             return Err("an input was changed".into());
         }
         Ok(())
@@ -239,6 +239,22 @@ impl Comparison<'_> {
         }
         self.tally.direct += 1;
         Ok(())
+    }
+}
+
+/// An input that starts at any address and ends where its memory does, so that valgrind sees one byte too far.
+struct Input {
+    memory: Box<[u8]>,
+    start: usize,
+}
+
+impl Input {
+    fn new(bytes: &[u8], start: usize) -> Input {
+        Input { memory: [&[0; 4][..start], bytes].concat().into_boxed_slice(), start }
+    }
+
+    fn get(&self) -> &[u8] {
+        &self.memory[self.start..]
     }
 }
 

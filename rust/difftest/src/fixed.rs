@@ -189,6 +189,19 @@ fn indexes() -> Vec<Case> {
         bad.index = Some(index::encode(&list(false, &[b"A"]), &[([1; 20], 255, body)]));
         cases.push(bad);
     }
+    // The wrong kind for a count, else as it should be: 254 and 255 offsets as kind 2 and as kind 3.
+    for (count, kind, byte) in
+        [(254, 2, 254), (254, 3, 254), (254, 3, 255), (255, 2, 255), (255, 3, 255), (256, 2, 0), (256, 3, 0)]
+    {
+        let mut body = vec![0, kind, 0, 0, byte, 0, 0];
+        if kind == 3 {
+            body.extend_from_slice(&(count as u16).to_le_bytes());
+        }
+        (0..count as u16).for_each(|at| body.extend_from_slice(&at.to_le_bytes()));
+        let mut bad = case("bodies by hand", list(false, &[b"A"]), &small_chunks(), &[vec![[1; 20]]]);
+        bad.index = Some(index::encode(&list(false, &[b"A"]), &[([1; 20], 256, body)]));
+        cases.push(bad);
+    }
     // Sums that wrap in 32 bits, in the index and in the store.
     for length in [u32::MAX, u32::MAX - 1, 0x8000_0000] {
         let mut wraps = case("sums past 32 bits", list(false, &[b"A"]), &small_chunks(), &[]);
