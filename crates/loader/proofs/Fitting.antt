@@ -2,11 +2,11 @@
 -- By induction on the keywords, as the body check goes. Assumes nothing.
 use mathlib.Core.Path.{_≡_, refl, sym, ap, _∙_}
 use mathlib.Core.Logic.{_⊎_, inl, inr}
-use mathlib.Core.Bool.{Bool, true, false, _&&_}
+use mathlib.Core.Bool.{true, false, _&&_}
 use mathlib.Core.List.{List, [], _∷_, _++_}
-use Prim.Native.Nat.{ℕ, zero, suc, _+_, _≤_, _<_, min}
+use Prim.Native.Nat.{ℕ, suc, _≤_, min}
 use native.Mathlib.Omega.{arith}
-use lib.Dec.{leb, ltb, leb·zero}
+use lib.Dec.{ltb, leb·zero}
 use lib.ListN.{length, take, drop, length-take, take-append-drop}
 use Rattle.spec.specs.Bytes.{begins, same}
 use Rattle.spec.specs.Records.{MatchRecord, Form, form1, isEmpty, inRange, recordBytes, readRecord, recordSize, goodBody}

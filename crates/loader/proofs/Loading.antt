@@ -1,18 +1,18 @@
 -- The loop over keywords: the rows below k are loaded, and the bytes from `place` on are what is left to read. Assumes nothing.
-use mathlib.Core.Path.{_≡_, refl, sym, ap, _∙_}
+use mathlib.Core.Path.{_≡_, sym, ap, _∙_}
 use mathlib.Core.Logic.{_⊎_, inl, inr, _≢_}
-use mathlib.Core.Bool.{Bool, true, false, cond, _&&_}
+use mathlib.Core.Bool.{true, false, _&&_}
 use mathlib.Core.List.{List, [], _∷_}
-use Prim.Native.Nat.{ℕ, zero, suc, _+_, _-_, _*_, _≤_, _<_}
-use native.Mathlib.Nat.{add-zero, zero-add, add-sub-cancel-left, eq-or-lt-of-le}
+use Prim.Native.Nat.{ℕ, suc, _+_, _-_, _*_, _≤_, _<_}
+use native.Mathlib.Nat.{add-zero, zero-add, eq-or-lt-of-le}
 use native.Mathlib.Numerals.{add-one}
 use native.Mathlib.Omega.{arith}
 use lib.Dec.{leb}
-use lib.ListN.{length, take, drop, getD, set, length-take, length-set}
+use lib.ListN.{length, drop, getD, set, length-take, length-set}
 use lib.Seq.{getD-set-same, getD-set-other}
 use Rattle.spec.specs.Bytes.{part, begins}
-use Rattle.spec.specs.Records.{MatchRecord, Form, form1, emptyRecord, readFrom}
-use Rattle.spec.proofs.Tests.{bool-cases, and-left, and-right, le-of-and}
+use Rattle.spec.specs.Records.{Form, form1, emptyRecord, readFrom}
+use Rattle.spec.proofs.Tests.{bool-cases, and-right, le-of-and}
 use Rattle.loader.specs.Loaded.{recordNext, sizeNext, fitsFrom, Row, RowAt, rowOf, recordIn, Loadable, Loaded}
 use Rattle.loader.proofs.Rows.{part-drop}
 

@@ -2,19 +2,19 @@
 -- places; the record's size, known to be there, gives the room for every read. Assumes nothing.
 use mathlib.Core.Path.{_≡_, refl, sym, ap, _∙_}
 use mathlib.Core.Logic.{_≢_}
-use mathlib.Core.Bool.{Bool, true, false, cond, _&&_, and-true}
+use mathlib.Core.Bool.{true, false, and-true}
 use mathlib.Core.List.{List, [], _∷_}
 use Prim.Native.Nat.{ℕ, zero, suc, _+_, _-_, _*_, _/_, _%_, _≤_, _<_}
-use native.Mathlib.Nat.{add-zero, zero-add, suc-add, mul-zero, mul-one, mul-suc, add-sub-cancel-left}
+use native.Mathlib.Nat.{add-zero, zero-add, suc-add, mul-suc}
 use native.Mathlib.Omega.{arith}
 use lib.Dec.{eqb}
 use lib.ListN.{length, take, drop, getD, length-drop}
-use lib.Seq.{length-take-le, take-take, take-nil, drop-nil, drop-drop, getD-take, getD-drop}
+use lib.Seq.{length-take-le, take-take, take-nil, drop-drop, getD-take, getD-drop}
 use Rattle.spec.specs.Bytes.{part, leValue, fieldAt, fieldsOf, begins}
-use Rattle.spec.specs.Records.{Form, form1, emptyRecord, readOffsets, readRecord, recordSize}
+use Rattle.spec.specs.Records.{Form, readOffsets, readRecord, recordSize}
 use Rattle.spec.proofs.Tests.{eqb-same, eqb-ne, cond-elim}
 use Rattle.spec.proofs.FieldLists.{length-fieldsOf}
-use Rattle.loader.specs.Loaded.{recordNext, sizeNext, Row, RowAt}
+use Rattle.loader.specs.Loaded.{recordNext, sizeNext, RowAt}
 
 -- ---- parts of a list
 

@@ -1,13 +1,10 @@
 -- `loader::load` meets its contract.
-use Prim.Native.Nat.{ℕ, _+_, _-_, _*_, _≤_, _<_}
+use Prim.Native.Nat.{_+_, _-_, _*_, _≤_}
 use native.Mathlib.Omega.{arith}
 use lib.ListN.{length, getD}
 use Rattle.loader.proofs.Loading.{Loading, loading-start, loading-on, room-next, row-room, loaded}
 use Rattle.loader.proofs.load.Statement.{statement}
 use Rattle.loader.proofs.load.Tie as tie
-use Rattle.loader.proofs.load.Reads as reads
-use Rattle.loader.proofs.load.Lts as lts
-use Rattle.loader.proofs.row_at.Reads as row-at-reads
 
 abbrev Inv-loop : tie.InvT-loop
 Inv-loop index at len count rows₀ end place₀ k₀ rows place k = (k ≤ count) × Loading index at len count rows place k

@@ -1,5 +1,5 @@
 -- `loader::record_at` meets its contract: each kind's row is a law of Rows.
-use Prim.Native.Nat.{ℕ, _+_, _≤_}
+use Prim.Native.Nat.{_+_, _≤_}
 use native.Mathlib.Omega.{arith}
 use lib.ListN.{length}
 use Rattle.spec.specs.Records.{form1}
@@ -7,9 +7,6 @@ use Rattle.loader.proofs.Rows.{room-least, room-full, room-exact, row-t
 use borrow.Author.Needs.{needs}
 use Rattle.loader.proofs.record_at.Statement.{statement}
 use Rattle.loader.proofs.record_at.Tie as tie
-use Rattle.loader.proofs.record_at.Reads as reads
-use Rattle.loader.proofs.record_at.Lts as lts
-use Rattle.field.proofs.read.Reads as read-reads
 
 -- room for what every record has, and for a full record's head
 least : (s : tie.Start) → s .args .at + 3 ≤ length (s .args .index .now)

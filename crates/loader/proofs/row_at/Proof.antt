@@ -1,15 +1,10 @@
 -- `loader::row_at` meets its contract.
-use Prim.Native.Nat.{ℕ, _+_, _≤_}
 use native.Mathlib.Omega.{arith}
-use lib.ListN.{length}
 use Rattle.spec.specs.Records.{form1}
 use Rattle.loader.proofs.Rows.{row-none-left, row-other, size-here, row-here}
 use borrow.Author.Needs.{needs}
 use Rattle.loader.proofs.row_at.Statement.{statement}
 use Rattle.loader.proofs.row_at.Tie as tie
-use Rattle.loader.proofs.row_at.Reads as reads
-use Rattle.loader.proofs.row_at.Lts as lts
-use Rattle.loader.proofs.record_at.Reads as record-at-reads
 
 returns : tie.Need-returns
 returns c =
