@@ -1,0 +1,135 @@
+-- The walk over a file's places: before place j, what the places from j on still add. Assumes nothing.
+use mathlib.Core.Path.{_≡_, refl, sym, ap, ap₂, _∙_}
+use mathlib.Core.Logic.{_⊎_, inl, inr}
+use mathlib.Core.Bool.{Bool, true, false, _&&_, _||_, not, and-false, true≢false}
+use mathlib.Core.List.{List, [], _∷_, map}
+use Prim.Native.Nat.{ℕ, zero, suc, _+_, _-_, _*_, _≤_, _<_, min}
+use native.Mathlib.Nat.{zero-add}
+use native.Mathlib.Numerals.{add-one}
+use native.Mathlib.Omega.{arith}
+use borrow.Author.Tests.{eq-eqb, ne-eqb, lt-ltb, le-ltb, lt-leb, le-leb}
+use lib.Dec.{leb, ltb}
+use lib.ListN.{length, take, drop, getD, drop-of-length-le, length-drop}
+use lib.Seq.{drop-cons}
+use Rattle.spec.specs.Bytes.{contains, positionOf, every, sum}
+use Rattle.spec.specs.Outcome.{firstOf}
+use Rattle.spec.specs.Recipes.{allButLast, roomy, sizesIn, fileCode, filesCode}
+use Rattle.spec.proofs.Tests.{le-or-lt}
+use Rattle.spec.proofs.EntryLaws.{contains-position}
+use Rattle.files.specs.Measures.{innerShort, Measured}
+
+-- ---- inner chunks
+
+pub inner-first : (j n size due : ℕ) → j ≡ 0 → false ≡ innerShort j n size due
+inner-first j n size due e = rw e
+
+pub inner-last : (j n size due : ℕ) → n ≤ j + 1 → false ≡ innerShort j n size due
+inner-last j n size due h = rw (le-ltb (suc j) n (omega arith), and-false)
+
+pub inner-long : (j n size due : ℕ) → due ≤ size → false ≡ innerShort j n size due
+inner-long j n size due h = rw (le-ltb size due h, and-false)
+
+pub inner-tight : (j n size due : ℕ) → (j ≡ 0 → ⊥) → j + 1 < n → size < due → true ≡ innerShort j n size due
+inner-tight j n size due f h l = rw (lt-ltb 0 j (omega arith), lt-ltb (suc j) n (omega arith), lt-ltb size due l)
+
+-- what the places from j on have to keep: the first is not asked
+abbrev pub roomyFrom : ℕ → ℕ → List ℕ → Bool
+roomyFrom due zero sizes = roomy due sizes
+roomyFrom due (suc j) sizes = allButLast due sizes
+
+not-ltb : (a b : ℕ) → not (ltb a b) ≡ leb b a
+not-ltb a b = go (le-or-lt b a)
+  where
+    go : (b ≤ a) ⊎ (a < b) → not (ltb a b) ≡ leb b a
+    go (inl h) = rw (le-ltb a b h, le-leb b a h)
+    go (inr h) = rw (lt-ltb a b h, lt-leb b a h)
+
+-- one place: `rest` are the sizes behind it
+roomy-step : (due j n size : ℕ) (rest : List ℕ) → suc j + length rest ≡ n → roomyFrom due j (size ∷ rest) ≡ (not (innerShort j n size due) && roomyFrom due (suc j) rest)
+roomy-step due zero n size rest e = refl
+roomy-step due (suc j) n size [] e = rw (le-ltb (suc (suc j)) n (omega arith), and-false)
+roomy-step due (suc j) n size (t ∷ rest) e = rw (lt-ltb 0 (suc j) (omega arith), lt-ltb (suc (suc j)) n (omega arith), not-ltb size due)
+
+-- ---- before place j
+
+module _ (keys : List (List ℕ)) (sizeOf : ℕ → ℕ) (due : ℕ) (file : List (List ℕ)) where
+  abbrev sizes : List (List ℕ) → List ℕ
+  sizes places = sizesIn keys sizeOf due places
+
+  abbrev known : List (List ℕ) → Bool
+  known places = every (λ key. contains key keys) places
+
+  pub record Measuring (j total : ℕ) (short : Bool) : Type 0 where
+    pub found : known (drop j file) ≡ known file
+    pub few : total ≤ 4294967296
+    pub long : min (total + sum (sizes (drop j file))) 4294967296 ≡ min (sum (sizes file)) 4294967296
+    pub inner : (not short && roomyFrom due j (sizes (drop j file))) ≡ roomy due (sizes file)
+
+  pub measuring-start : Measuring 0 0 false
+  measuring-start = record { found = refl; few = omega arith; long = rw zero-add; inner = refl }
+
+  length-sizes : (places : List (List ℕ)) → length (sizes places) ≡ length places
+  length-sizes [] = refl
+  length-sizes (x ∷ xs) = ap suc (length-sizes xs)
+
+  -- a fingerprint that is not there
+  pub measuring-missing : (j total : ℕ) (short : Bool) → Measuring j total short → (h : j < length file) → length keys ≤ positionOf (getD file j []) keys → true ≡ not (known file)
+  measuring-missing j total short m h l =
+      rw (← m .found, drop-cons file j [] h, contains-position (getD file j []) keys, le-ltb (positionOf (getD file j []) keys) (length keys) l)
+
+  or-not : (a b x : Bool) → (not (a || b) && x) ≡ (not b && (not a && x))
+  or-not true true x = refl
+  or-not true false x = refl
+  or-not false true x = refl
+  or-not false false x = refl
+
+  pub measuring-on : (j total : ℕ) (short : Bool) → Measuring j total short → (h : j < length file) → (k size : ℕ) → k ≡ positionOf (getD file j []) keys → k < length keys → size ≡ sizeOf k
+      → (more : ℕ) → more ≡ min (total + size) 4294967296 → (tight : Bool) → tight ≡ innerShort j (length file) size due → Measuring (j + 1) more (tight || short)
+  measuring-on j total short m h k size e l s more f tight g =
+      let here : sizes (drop j file) ≡ size ∷ sizes (drop (j + 1) file) = rw (add-one, drop-cons file j [] h, ← e, ← s) in
+      let there : known (drop j file) ≡ known (drop (j + 1) file) = rw (add-one, drop-cons file j [] h, contains-position (getD file j []) keys, ← e, lt-ltb k (length keys) l) in
+      let behind : suc j + length (sizes (drop (j + 1) file)) ≡ length file = omega (arith, length-sizes (drop (j + 1) file), length-drop (j + 1) file) in
+      let step : roomyFrom due j (size ∷ sizes (drop (j + 1) file)) ≡ (not tight && roomyFrom due (j + 1) (sizes (drop (j + 1) file)))
+      = rw (g, add-one j) (roomy-step due j (length file) size (sizes (drop (suc j) file)) (rw add-one at behind)) in
+      record {
+        found = sym there ∙ m .found;
+        few = omega arith;
+        long = omega (arith, ap sum here, m .long, f);
+        inner = or-not tight short (roomyFrom due (j + 1) (sizes (drop (j + 1) file))) ∙ ap (λ (x : Bool). not short && x) (sym step ∙ ap (λ (x : List ℕ). roomyFrom due j x) (sym here)) ∙ m .inner;
+      }
+
+  roomy-none : (j : ℕ) → roomyFrom due j [] ≡ true
+  roomy-none zero = refl
+  roomy-none (suc j) = refl
+
+  not-not : (a : Bool) → a ≡ not (not a && true)
+  not-not true = refl
+  not-not false = refl
+
+  pub measuring-end : (j total : ℕ) (short : Bool) → Measuring j total short → length file ≤ j → Measured keys sizeOf due file false total short
+  measuring-end j total short m h =
+      let z : drop j file ≡ [] = drop-of-length-le file h in
+      record {
+        lacks = rw (← m .found, z);
+        long = λ e. omega (arith, m .few, rw z at (m .long));
+        tight = λ e. not-not short ∙ ap not (ap (λ (x : Bool). not short && x) (sym (rw z (roomy-none j))) ∙ m .inner);
+      }
+
+  pub measured-missing : (j total : ℕ) (short : Bool) → Measuring j total short → j < length file → length keys ≤ positionOf (getD file j []) keys → Measured keys sizeOf due file true total short
+  measured-missing j total short m h l =
+      record { lacks = measuring-missing j total short m h l; long = λ e. absurd (true≢false e); tight = λ e. absurd (true≢false e) }
+
+  -- ---- the tests in their order
+
+  cap : (n : ℕ) → ltb 4294967295 (min n 4294967296) ≡ ltb 4294967295 n
+  cap n = go (le-or-lt n 4294967295)
+    where
+      go : (n ≤ 4294967295) ⊎ (4294967295 < n) → ltb 4294967295 (min n 4294967296) ≡ ltb 4294967295 n
+      go (inl h) = rw (le-ltb 4294967295 n h, le-ltb 4294967295 (min n 4294967296) (omega arith))
+      go (inr h) = rw (lt-ltb 4294967295 n h, lt-ltb 4294967295 (min n 4294967296) (omega arith))
+
+  pub measured-code : (missing : Bool) (total : ℕ) (short : Bool) → Measured keys sizeOf due file missing total short
+      → firstOf ((missing, 15) ∷ (ltb 4294967295 total, 16) ∷ (short, 17) ∷ []) ≡ fileCode keys sizeOf due file
+  unfolding fileCode
+  measured-code true total short m = rw (← m .lacks)
+  measured-code false total short m = rw (← m .lacks, m .long refl, m .tight refl, cap (sum (sizes file)))
