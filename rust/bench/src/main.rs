@@ -194,7 +194,7 @@ fn directories(options: &Options) {
     let index = empty_index(&list, 65_000);
     println!("65,000 entries");
     let tell = |what: &str, (time, fixed): (f64, f64)| {
-        println!("  {what:<32} {time:>9.3} ms, {:>6.1} ns an entry (loop {fixed:.1} ms)", 1e6 * time / 65_000.0)
+        println!("  {what:<36} {time:>9.3} ms, {:>6.1} ns an entry (loop {fixed:.1} ms)", 1e6 * time / 65_000.0)
     };
     tell("store check", measured(options, || vault::check_store(black_box(&store)).expect("a good store")));
     tell("index check, empty bodies", measured(options, || vault::check_index(black_box(&index)).expect("a good index")));

@@ -271,6 +271,7 @@ pub fn large() -> Vec<(&'static str, fn(&mut Rng) -> Vec<Case>)> {
         ("the longest file", longest_file),
         ("9 x count past 32 bits", past_32_bits),
         ("65,000 chunks", many_chunks),
+        ("one hash chain", one_chain),
         ("megabytes", megabytes),
     ]
 }
@@ -398,6 +399,29 @@ fn many_chunks(rng: &mut Rng) -> Vec<Case> {
         bytes[end - 1] ^= 0x40;
         last.index = Some(bytes);
         cases.push(last);
+    }
+    cases
+}
+
+/// Fingerprints that the library's directory hashes alike (a polynomial of five fields modulo 65,521).
+fn one_chain(rng: &mut Rng) -> Vec<Case> {
+    let mut cases = Vec::new();
+    for field in [0, 4, 8, 12, 16] {
+        let base = rng.below(60_000) as u32;
+        let chunks: Chunks = (0..3_000u32)
+            .map(|k| {
+                let mut key = [0x55; 20];
+                key[field..field + 4].copy_from_slice(&(base + 65_521 * k).to_le_bytes());
+                (key, (0..rng.range(1, 5)).map(|_| *rng.pick(b"ABx")).collect())
+            })
+            .collect();
+        let files: Vec<Vec<Fingerprint>> = (0..100).map(|_| (0..2).map(|_| rng.pick(&chunks).0).collect()).collect();
+        let good = case("one hash chain", list(false, &[b"AB", b"A"]), &chunks, &files);
+        cases.push(good.clone());
+        let mut twin = good;
+        let (from, to) = (8 + 28 * rng.below(1_500), 8 + 28 * rng.range(1_500, 2_999));
+        twin.store.copy_within(from..from + 20, to);
+        cases.push(twin);
     }
     cases
 }
