@@ -1,0 +1,72 @@
+/* Kehoraimo: a search over deduplicated backups that is proved right.
+ *
+ * Build the library by `make lib` (it is proved first): target/staticlib/libvault_c.a, for x86-64 Linux.
+ * Every function takes every input, ends, and answers 0 or the number of the refusal; README.md has the table of numbers. A refusal
+ * changes no byte of a buffer. A number behind a pointer is a part of the answer: the length or the count where the work is done, and 0
+ * on a refusal. A buffer must not overlap another argument. A null pointer may stand only where the length beside it is 0.
+ * The checks of a store or an index, and so every call below that makes them, need about 600 KB of stack.
+ */
+#ifndef KEHORAIMO_VAULT_H
+#define KEHORAIMO_VAULT_H
+
+#include <stddef.h>
+#include <stdint.h>
+
+#ifdef __cplusplus
+extern "C" {
+#endif
+
+/* ---- checks: 0, or the number of the first test that fails */
+
+/* A keyword list: 1 to 4. */
+uint8_t vault_check_keywords(const uint8_t *list, size_t list_length);
+
+/* A store: 5 to 8. */
+uint8_t vault_check_store(const uint8_t *store, size_t store_length);
+
+/* A match index: 10, 1 to 4, 11 to 13. */
+uint8_t vault_check_index(const uint8_t *index, size_t index_length);
+
+/* ---- scan: the match index of a store, for a keyword list */
+
+/* The length of the index that a scan would write: 0 with the length, or 1 to 8. */
+uint8_t vault_scan_size(const uint8_t *list, size_t list_length, const uint8_t *store, size_t store_length, uint64_t *length);
+
+/* Writes the index to the start of the buffer: 0 with its length, or 1 to 9. Bytes behind the index are unchanged. */
+uint8_t vault_scan(const uint8_t *list, size_t list_length, const uint8_t *store, size_t store_length,
+                   uint8_t *out, size_t out_length, uint64_t *length);
+
+/* ---- join: the occurrences in the files of the recipes, from an index alone */
+
+/* How many occurrences a join would list: 0 with the count, or 10, 1 to 4, 11 to 17. */
+uint8_t vault_count(const uint8_t *index, size_t index_length, const uint8_t *recipes, size_t recipes_length, uint64_t *count);
+
+/* Writes the list to the start of the buffer, 9 bytes an occurrence: file (4), offset (4), keyword (1), least significant byte first,
+ * rising by file, offset, keyword: 0 with the count, or 10, 1 to 4, 11 to 18. Bytes behind the list are unchanged. */
+uint8_t vault_join(const uint8_t *index, size_t index_length, const uint8_t *recipes, size_t recipes_length,
+                   uint8_t *out, size_t out_length, uint64_t *count);
+
+/* ---- lookups by a fingerprint of 20 bytes */
+
+/* The chunk in a store: 0 when found, or 5 to 8, 19, 15; where it starts in the store and how long it is, both 0 on a refusal. */
+uint8_t vault_find_chunk(const uint8_t *store, size_t store_length, const uint8_t *key, size_t key_length);
+uint64_t vault_chunk_start(const uint8_t *store, size_t store_length, const uint8_t *key, size_t key_length);
+uint64_t vault_chunk_length(const uint8_t *store, size_t store_length, const uint8_t *key, size_t key_length);
+
+/* The body in an index: 0 when found, or the index check's numbers, 19, 15; where it starts in the index and how long it is (a body may be
+ * empty: only the number tells that from a refusal). */
+uint8_t vault_find_body(const uint8_t *index, size_t index_length, const uint8_t *key, size_t key_length);
+uint64_t vault_body_start(const uint8_t *index, size_t index_length, const uint8_t *key, size_t key_length);
+uint64_t vault_body_length(const uint8_t *index, size_t index_length, const uint8_t *key, size_t key_length);
+
+/* ---- the search whole: a scan into the index buffer, then a join of that index into the list buffer */
+
+/* 0 with the index's length and the count; or the scan's number, both 0; or the join's number with the index's length. */
+uint8_t vault_search(const uint8_t *list, size_t list_length, const uint8_t *store, size_t store_length,
+                     const uint8_t *recipes, size_t recipes_length, uint8_t *index, size_t index_buffer_length,
+                     uint8_t *out, size_t out_length, uint64_t *index_length, uint64_t *count);
+
+#ifdef __cplusplus
+}
+#endif
+#endif
