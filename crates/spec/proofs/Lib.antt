@@ -29,3 +29,4 @@ pub mod ScanLaws
 pub mod OneForm
 pub mod Borders
 pub mod Writing
+pub mod FileLaws
