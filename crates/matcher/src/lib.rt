@@ -186,6 +186,9 @@ pub fn is_tiny(s: Summary) -> bool
     !is_empty(s)
 }
 
+// The most offsets of a record of kind 2; with more the exact count is written too, kind 3.
+const LISTED_MOST: usize = 254;
+
 // The kind of a full record.
 pub fn kind_of(count: usize) -> u8
     ensures { λ r. ⌜ r ≡ kindOf count ⌝ }
@@ -193,7 +196,7 @@ pub fn kind_of(count: usize) -> u8
     if count <= 1 {
         return 1;
     }
-    if count <= 254 {
+    if count <= LISTED_MOST {
         return 2;
     }
     3
@@ -224,7 +227,7 @@ pub fn full_size(count: usize) -> usize
     if count <= 1 {
         return HEAD;
     }
-    if count <= 254 {
+    if count <= LISTED_MOST {
         return HEAD + WIDTH * count;
     }
     HEAD + WIDTH + WIDTH * count
@@ -317,7 +320,7 @@ pub fn put_full(
         return head;
     }
     let first = s.first;
-    if count <= 254 {
+    if count <= LISTED_MOST {
         return put_offsets(out, head, keyword, chunk, flag, first);
     }
     field::write(out, head, WIDTH, count as u64);
