@@ -2,20 +2,20 @@
 -- A key's position is not changed by skipping the entries of other hashes (`skip`); a lookup is that law at each step of a chain.
 use mathlib.Core.Path.{_≡_, refl, sym, ap, _∙_, subst}
 use mathlib.Core.Logic.{_⊎_, inl, inr, ⊎-elim}
-use mathlib.Core.Bool.{Bool, true, false, _||_, cond}
+use mathlib.Core.Bool.{Bool, true, false, _||_}
 use mathlib.Core.List.{List, [], _∷_}
-use Prim.Native.Nat.{ℕ, zero, suc, _+_, _*_, _-_, _%_, _≤_, _<_}
+use Prim.Native.Nat.{ℕ, suc, _+_, _*_, _-_, _≤_, _<_}
 use native.Mathlib.Nat.{sub-self, add-zero, zero-add, suc-add, add-assoc, mul-le-mul-left, mul-suc, eq-or-lt-of-le}
 use native.Mathlib.Omega.{arith}
 use borrow.Author.Tests.{eqb-true, eqb-false, lt-ltb, le-ltb}
 use lib.Dec.{eqb, ltb}
-use lib.ListN.{length, getD, set, drop, take, length-set, length-take, length-drop, drop-of-length-le}
-use lib.Seq.{getD-set-same, getD-set-other, drop-cons, getD-drop, drop-drop, drop-length}
-use Rattle.spec.specs.Bytes.{part, leValue, fieldsOf, fieldAt, same, contains, twice, positionOf}
+use lib.ListN.{length, getD, set, drop, length-set, length-take, length-drop, drop-of-length-le}
+use lib.Seq.{getD-set-same, getD-set-other, drop-cons, getD-drop, drop-drop}
+use Rattle.spec.specs.Bytes.{part, fieldsOf, fieldAt, same, contains, twice, positionOf}
 use Rattle.spec.proofs.Tests.{bool-cases, le-or-lt}
 use Rattle.spec.proofs.EntryLaws.{length-keys, key-at, contains-position}
-use Rattle.spec.proofs.Same.{same-eq, same-not}
-use Rattle.directory.specs.Chains.{mixed, mixedAll, hashOf, keysFrom, tailWith, placeFrom, Starts, Linked, Chained, Inserted, Built, Lies, Empty}
+use Rattle.spec.proofs.Same.{same-not}
+use Rattle.directory.specs.Chains.{mixed, hashOf, keysFrom, tailWith, placeFrom, Starts, Linked, Chained, Lies, Empty}
 
 -- ---- the hash
 

@@ -1,6 +1,5 @@
 -- One turn of the check of a directory's entries, over plain numbers: what is left to check from entry k on, `n` entries, is `r`. Assumes nothing.
-use mathlib.Core.Path.{_≡_, refl, sym, ap, _∙_, subst}
-use mathlib.Core.Bool.{true, false}
+use mathlib.Core.Path.{_≡_, sym, ap, _∙_}
 use mathlib.Core.List.{List}
 use Prim.Native.Nat.{ℕ, suc, _+_, _*_, _-_, _≤_, _<_}
 use native.Mathlib.Nat.{mul-suc, mul-le-mul-left}
@@ -8,7 +7,7 @@ use native.Mathlib.Numerals.{add-one}
 use native.Mathlib.Omega.{arith}
 use lib.ListN.{length}
 use Rattle.spec.specs.Bytes.{fieldAt}
-use Rattle.spec.specs.Directory.{Layout, sizeAt, offsetAt, lengthAt, entriesCode, directoryEnd}
+use Rattle.spec.specs.Directory.{Layout, sizeAt, offsetAt, lengthAt, entriesCode}
 use Rattle.spec.proofs.EntryLaws.{entries-more, entries-none, entries-long, entries-gap, entries-end, entries-short, entries-past}
 
 -- an entry and its fields lie in the bytes

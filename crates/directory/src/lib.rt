@@ -2,7 +2,7 @@
 // Fingerprints are found by hash chains in two arrays of the caller, built from the last entry to the first.
 ghost use mathlib.Core.Path.{_≡_};
 ghost use Prim.Native.Nat.{suc, _+_, _-_, _*_, _≤_, _<_};
-ghost use lib.ListN.{length, getD, drop, take};
+ghost use lib.ListN.{length};
 ghost use Rattle.spec.specs.Bytes.{part, positionOf};
 ghost use Rattle.spec.specs.Directory.{entriesCode};
 ghost use Rattle.directory.specs.Chains.{mixed, hashOf, keysFrom, placeFrom, Starts, Linked, Chained, Inserted, Built, Lies, Empty, layoutOf};

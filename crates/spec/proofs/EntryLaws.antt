@@ -2,28 +2,20 @@
 -- Every law is one induction along its definition; the check's laws are one step of it, and the record that all its steps give.
 use mathlib.Core.Path.{_≡_, refl, sym, ap, _∙_, subst}
 use mathlib.Core.Logic.{_⊎_, inl, inr, ⊎-elim}
-use mathlib.Core.Bool.{Bool, true, false, _&&_, _||_, not, cond, or-true, true≢false}
-use mathlib.Core.List.{List, [], _∷_, _++_}
+use mathlib.Core.Bool.{true, false, or-true, true≢false}
+use mathlib.Core.List.{List, [], _∷_}
 use Prim.Native.Nat.{ℕ, zero, suc, _+_, _*_, _-_, _≤_, _<_}
-use native.Mathlib.Nat.{eq-or-lt-of-le, suc-add, add-suc, sub-zero, mul-zero, mul-suc, zero-lt-suc, add-assoc, add-zero}
+use native.Mathlib.Nat.{eq-or-lt-of-le, suc-add, add-suc, sub-zero, mul-zero, mul-suc, add-assoc, add-zero}
 use native.Mathlib.Omega.{arith}
-use borrow.Author.Tests.{eq-eqb, ne-eqb, eqb-true, eqb-false, lt-ltb, le-ltb, ltb-true, ltb-false, not-true, not-false}
-use lib.Dec.{eqb, leb, ltb}
+use borrow.Author.Tests.{eq-eqb, ne-eqb, eqb-true, eqb-false, lt-ltb, le-ltb}
+use lib.Dec.{eqb, ltb}
 use lib.ListN.{length, getD, take, drop, length-take, length-drop}
 use lib.Seq.{drop-drop}
 use Rattle.spec.specs.Bytes.{part, same, contains, twice, positionOf, each, sum}
-use Rattle.spec.specs.Outcome.{firstOf, whole}
 use Rattle.spec.specs.Directory.{Layout, keysOf, keysIn, directoryEnd, sizeAt, offsetAt, lengthAt, entriesCode}
 use Rattle.spec.proofs.Tests.{bool-cases, le-or-lt}
+use Rattle.spec.proofs.Codes.{last-whole, or-left, or-right}
 use Rattle.spec.proofs.Same.{same-eq, same-refl, same-not}
-
-or-false-left : (a b : Bool) → (a || b) ≡ false → a ≡ false
-or-false-left true b e = e
-or-false-left false b e = refl
-
-or-false-right : (a b : Bool) → (a || b) ≡ false → b ≡ false
-or-false-right true b e = absurd (true≢false e)
-or-false-right false b e = e
 
 ltb-suc : (m n : ℕ) → ltb (suc m) (suc n) ≡ ltb m n
 ltb-suc m n = go (le-or-lt n m)
@@ -112,18 +104,10 @@ position-at [] k t h = let z : ⊥ = omega arith in absurd z
 position-at (x ∷ keys) zero t h = rw same-refl
 position-at (x ∷ keys) (suc k) t h =
     let differ : same (getD keys k []) x ≡ false =
-    same-not (getD keys k []) x (λ e. absurd (true≢false (sym (ap (λ (y : List ℕ). contains y keys) (sym e) ∙ contains-at keys k (omega arith)) ∙ or-false-left (contains x keys) (twice keys) t))) in
-    rw differ (ap suc (position-at keys k (or-false-right (contains x keys) (twice keys) t) (omega arith)))
+    same-not (getD keys k []) x (λ e. absurd (true≢false (sym (ap (λ (y : List ℕ). contains y keys) (sym e) ∙ contains-at keys k (omega arith)) ∙ or-left (contains x keys) (twice keys) t))) in
+    rw differ (ap suc (position-at keys k (or-right (contains x keys) (twice keys) t) (omega arith)))
 
 -- ---- the check of a directory, entry by entry
-
--- a check that is the last of its tests
-pub whole-last : (c : ℕ) → firstOf (whole c ∷ []) ≡ c
-whole-last c = go (le-or-lt c 0)
-  where
-    go : (c ≤ 0) ⊎ (0 < c) → firstOf (whole c ∷ []) ≡ c
-    go (inl h) = rw (le-ltb 0 c h) (omega arith)
-    go (inr h) = rw (lt-ltb 0 c h)
 
 module _ (layout : Layout) (bytes : List ℕ) (most code : ℕ) where
   -- a good entry hands on to the next
@@ -131,7 +115,7 @@ module _ (layout : Layout) (bytes : List ℕ) (most code : ℕ) where
       → entriesCode layout bytes most code (suc n) k at ≡ entriesCode layout bytes most code n (suc k) (at + lengthAt layout bytes k)
   entries-more n k at a b e =
       rw (ne-eqb (sizeAt layout bytes k) 0 (λ z. omega arith), le-ltb most (sizeAt layout bytes k) b, eq-eqb (offsetAt layout bytes k) at e)
-      (whole-last (entriesCode layout bytes most code n (suc k) (at + lengthAt layout bytes k)))
+      (last-whole (entriesCode layout bytes most code n (suc k) (at + lengthAt layout bytes k)))
 
   -- the wrong ones
   pub entries-none : (n k at : ℕ) → sizeAt layout bytes k ≡ 0 → entriesCode layout bytes most code (suc n) k at ≡ code

@@ -1,6 +1,6 @@
 -- The answers of the store check and of a lookup, each by the tests that led there. Assumes nothing.
-use mathlib.Core.Path.{_≡_, refl, sym, ap, ap₂, _∙_, subst}
-use mathlib.Core.Logic.{_≢_, _⊎_, inl, inr, ⊎-elim}
+use mathlib.Core.Path.{_≡_, sym, ap, ap₂, _∙_, subst}
+use mathlib.Core.Logic.{_≢_, ⊎-elim}
 use mathlib.Core.Bool.{Bool, true, false, not}
 use mathlib.Core.List.{List, [], _∷_}
 use Prim.Native.Nat.{ℕ, _+_, _*_, _-_, _≤_, _<_}
@@ -10,7 +10,6 @@ use borrow.Author.Tests.{eq-eqb, ne-eqb, eqb-true, eqb-false, lt-ltb, le-ltb, lt
 use lib.Dec.{eqb, ltb}
 use lib.ListN.{length, getD, take, drop, replicate, length-replicate, getD-replicate}
 use Rattle.spec.specs.Bytes.{part, same, contains, twice, positionOf}
-use Rattle.spec.specs.declared.Outcome.{Outcome}
 use Rattle.spec.specs.declared.Outcome.the-variants.{Done, Refused}
 use Rattle.spec.specs.Outcome.{firstOf, whole, answer}
 use Rattle.spec.specs.Directory.{entriesCode, offsetAt, lengthAt}
@@ -22,7 +21,7 @@ use Rattle.spec.proofs.EntryLaws.{keyIn-at, contains-position, position-le}
 use Rattle.spec.proofs.StoreLaws.{store-good, length-storeKeys}
 use denote.Ref.{RefT}
 use Rattle.directory.specs.Slices.{SliceOf}
-use Rattle.directory.specs.Chains.{keysFrom, Chained, Built, Lies, Empty, layoutOf}
+use Rattle.directory.specs.Chains.{keysFrom, Chained, Built, Lies, Empty}
 use Rattle.store.specs.Examined.{Examined, EntryOf}
 
 -- the arrays of zeros

@@ -12,6 +12,7 @@ ghost use Rattle.directory.specs.Chains.{Empty};
 ghost use Rattle.directory.specs.Slices.{SliceOf};
 ghost use Rattle.store.specs.Examined.{Examined, EntryOf};
 
+// 44 56 31 0A
 const MARK: [u8; 4] = [0x44, 0x56, 0x31, 0x0A];
 
 // The first four bytes are the mark.
@@ -30,7 +31,7 @@ pub fn count(store: &[u8]) -> usize
     field::read(store, 4, 4) as usize
 }
 
-// The store check; it leaves the index of the fingerprints in the arrays.
+// The store check, with document 01's numbers; it leaves the index of the fingerprints in the arrays.
 fn examine(store: &[u8], heads: &mut [u32], next: &mut [u32]) -> u8
     requires { ⌜ Empty (now heads) (now next) ⌝ }
     ensures { λ r. ⌜ Examined (now (store .entry)) (now (heads .exit)) (now (next .exit)) r ⌝ }

@@ -1,19 +1,15 @@
+-- `build` meets its contract. The loop goes down: the entries from e on are in the index, and `twin` is `twice` of their keys.
 use borrow.Author.Needs.{needs}
-use mathlib.Core.Path.{_≡_, refl, sym, ap, _∙_, subst}
-use mathlib.Core.Bool.{Bool, true, false, _||_}
-use mathlib.Core.List.{List, []}
-use Prim.Native.Nat.{ℕ, suc, _+_, _*_, _-_, _≤_, _<_}
+use mathlib.Core.Path.{_≡_, refl, ap, _∙_, subst}
+use Prim.Native.Nat.{ℕ, suc, _-_, _≤_}
 use native.Mathlib.Omega.{arith}
-use lib.ListN.{length, getD, drop}
+use lib.ListN.{length, drop}
 use denote.Ref.{now}
 use Rattle.spec.specs.Bytes.{twice}
-use Rattle.directory.specs.Chains.{hashOf, keysFrom, placeFrom, Starts, Linked, Chained, Lies}
+use Rattle.directory.specs.Chains.{keysFrom, Chained}
 use Rattle.directory.proofs.ChainLaws.{empty, twice-none, twice-step, length-from}
 use Rattle.directory.proofs.build.Statement.{statement}
 use Rattle.directory.proofs.build.Tie as tie
-use Rattle.directory.proofs.build.Reads as reads
-use Rattle.directory.proofs.build.Lts as lts
-use Rattle.directory.proofs.insert.Reads as insert-reads
 
 abbrev Inv-loop : tie.InvT-loop
 Inv-loop bytes start stride count heads₀ next₀ twin₀ e₀ heads next twin e =

@@ -1,20 +1,15 @@
-use mathlib.Core.Path.{_≡_, refl, sym, ap, _∙_, subst}
-use mathlib.Core.List.{List}
-use Prim.Native.Nat.{ℕ, suc, _+_, _*_, _-_, _≤_, _<_}
+-- `entries` meets its contract. The loop keeps what is left of the check: its number from entry k on is the number of the whole (EntryTurns).
+use mathlib.Core.Path.{_≡_, refl, sym, ap, _∙_}
+use Prim.Native.Nat.{ℕ, _+_, _*_, _-_, _≤_}
 use native.Mathlib.Nat.{mul-zero, add-zero, sub-zero}
 use native.Mathlib.Omega.{arith}
 use lib.ListN.{length}
 use denote.Ref.{now}
-use Rattle.spec.specs.Bytes.{fieldAt}
-use Rattle.spec.specs.Directory.{Layout, sizeAt, offsetAt, lengthAt, entriesCode}
+use Rattle.spec.specs.Directory.{sizeAt, offsetAt, lengthAt, entriesCode}
 use Rattle.directory.specs.Chains.{layoutOf}
 use Rattle.directory.proofs.EntryTurns.{entry-room, field-at, next-base, turn-none, turn-long, turn-gap, turn-past, turn-more, turn-short, turn-end}
-use borrow.Author.Needs.{needs}
 use Rattle.directory.proofs.entries.Statement.{statement}
 use Rattle.directory.proofs.entries.Tie as tie
-use Rattle.directory.proofs.entries.Reads as reads
-use Rattle.directory.proofs.entries.Lts as lts
-use Rattle.field.proofs.read.Reads as read-reads
 
 abbrev Inv-loop : tie.InvT-loop
 Inv-loop bytes start stride sizes offsets lengths most code count at₀ base₀ k₀ at base k =

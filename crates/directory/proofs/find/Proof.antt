@@ -1,21 +1,16 @@
-use mathlib.Core.Path.{_≡_, refl, sym, ap, _∙_, subst}
-use mathlib.Core.Bool.{Bool, true, false, _||_}
-use mathlib.Core.List.{List, []}
-use Prim.Native.Nat.{ℕ, suc, _+_, _*_, _-_, _≤_, _<_}
+-- `find` meets its contract: the chain of the key's hash begins where `heads` says (`headed`).
+use mathlib.Core.Path.{ap, _∙_}
+use Prim.Native.Nat.{ℕ}
 use native.Mathlib.Omega.{arith}
 use native.Mathlib.Nat.{zero-add}
-use lib.ListN.{length, getD, drop}
+use lib.ListN.{getD}
 use denote.Ref.{now}
 use Rattle.spec.specs.Bytes.{positionOf}
-use Rattle.directory.specs.Chains.{hashOf, keysFrom, placeFrom, Starts, Linked, Chained, Lies}
+use Rattle.directory.specs.Chains.{keysFrom}
 use Rattle.directory.proofs.ChainLaws.{Headed, headed, hash-lt, length-from}
 use borrow.Author.Needs.{needs}
 use Rattle.directory.proofs.find.Statement.{statement}
 use Rattle.directory.proofs.find.Tie as tie
-use Rattle.directory.proofs.find.Reads as reads
-use Rattle.directory.proofs.find.Lts as lts
-use Rattle.directory.proofs.follow.Reads as follow-reads
-use Rattle.directory.proofs.hash.Reads as hash-reads
 
 -- where the key's chain begins
 at-head : (c : tie.After-shared-slice-known5)

@@ -1,20 +1,15 @@
-use mathlib.Core.Path.{_≡_, refl, sym, ap, _∙_, subst}
-use mathlib.Core.Bool.{Bool, true, false}
-use mathlib.Core.List.{List, []}
-use Prim.Native.Nat.{ℕ, suc, _+_, _*_, _-_, _≤_, _<_}
+-- `follow` meets its contract. The loop keeps the key's place, counted from the entry that it stands at; a step of the chain does not change it (`step`).
+use mathlib.Core.Path.{_≡_, refl, sym, ap, _∙_}
+use mathlib.Core.List.{[]}
+use Prim.Native.Nat.{_-_, _≤_}
 use native.Mathlib.Omega.{arith}
-use lib.ListN.{length, getD}
+use lib.ListN.{getD}
 use denote.Ref.{now}
-use Rattle.spec.specs.Bytes.{part, same}
-use Rattle.directory.specs.Chains.{keysFrom, placeFrom, Starts, Linked, Lies}
+use Rattle.spec.specs.Bytes.{same}
+use Rattle.directory.specs.Chains.{keysFrom, placeFrom, Starts}
 use Rattle.directory.proofs.ChainLaws.{Stepped, step, place-hit, place-none, length-from, key-room, key-in}
-use borrow.Author.Needs.{needs}
 use Rattle.directory.proofs.follow.Statement.{statement}
 use Rattle.directory.proofs.follow.Tie as tie
-use Rattle.directory.proofs.follow.Reads as reads
-use Rattle.directory.proofs.follow.Lts as lts
-use Rattle.directory.proofs.key.Reads as key-reads
-use Rattle.field.proofs.equal.Reads as equal-reads
 
 abbrev Inv-loop : tie.InvT-loop
 Inv-loop bytes start stride count next from probe n₀ n =

@@ -1,15 +1,11 @@
-use mathlib.Core.Path.{_≡_, ap, ap₂, _∙_}
-use Prim.Native.Nat.{ℕ}
+-- `hash` meets its contract: five fields mixed one after the other are the definition (`hashed`).
+use mathlib.Core.Path.{ap, ap₂, _∙_}
 use denote.Ref.{now}
 use Rattle.directory.specs.Chains.{mixed}
 use Rattle.directory.proofs.ChainLaws.{hashed}
 use borrow.Author.Needs.{needs}
 use Rattle.directory.proofs.hash.Statement.{statement}
 use Rattle.directory.proofs.hash.Tie as tie
-use Rattle.directory.proofs.hash.Reads as reads
-use Rattle.directory.proofs.hash.Lts as lts
-use Rattle.directory.proofs.mix.Reads as mix-reads
-use Rattle.field.proofs.read.Reads as read-reads
 
 read-requires : tie.Need-read-requires
 read-requires c κs = search needs

@@ -1,22 +1,17 @@
-use mathlib.Core.Path.{_≡_, refl, sym, ap, _∙_, subst}
-use mathlib.Core.Bool.{Bool, true, false, _||_}
+-- `insert` meets its contract: the entry's key is looked for among the later ones, then the entry is put in front of its chain (`inserted`).
+use mathlib.Core.Path.{_≡_, ap, _∙_}
 use mathlib.Core.List.{List, []}
-use Prim.Native.Nat.{ℕ, suc, _+_, _*_, _-_, _≤_, _<_}
+use Prim.Native.Nat.{ℕ, suc, _<_}
 use native.Mathlib.Omega.{arith}
 use lib.Dec.{ltb}
 use lib.ListN.{length, getD, drop}
 use denote.Ref.{now}
 use Rattle.spec.specs.Bytes.{contains}
-use Rattle.directory.specs.Chains.{hashOf, keysFrom, placeFrom, Starts, Linked, Chained, Lies}
+use Rattle.directory.specs.Chains.{hashOf, keysFrom}
 use Rattle.directory.proofs.ChainLaws.{Headed, headed, contained, inserted, hash-lt, length-from, key-room, key-in, key-length}
 use borrow.Author.Needs.{needs}
 use Rattle.directory.proofs.insert.Statement.{statement}
 use Rattle.directory.proofs.insert.Tie as tie
-use Rattle.directory.proofs.insert.Reads as reads
-use Rattle.directory.proofs.insert.Lts as lts
-use Rattle.directory.proofs.follow.Reads as follow-reads
-use Rattle.directory.proofs.hash.Reads as hash-reads
-use Rattle.directory.proofs.key.Reads as key-reads
 
 -- the key that was read is the entry's
 read-key : (c : tie.After-key)

@@ -1,4 +1,5 @@
-use mathlib.Core.Path.{_≡_, ap}
+-- `key` meets its contract: the slice of 20 bytes.
+use mathlib.Core.Path.{ap}
 use Prim.Native.Nat.{ℕ, _+_, _*_}
 use native.Mathlib.Nat.{add-sub-cancel-left}
 use lib.ListN.{take, drop}
@@ -6,8 +7,6 @@ use denote.Ref.{now}
 use borrow.Author.Needs.{needs}
 use Rattle.directory.proofs.key.Statement.{statement}
 use Rattle.directory.proofs.key.Tie as tie
-use Rattle.directory.proofs.key.Reads as reads
-use Rattle.directory.proofs.key.Lts as lts
 
 mul-at : tie.Need-mul-at
 mul-at c = search needs

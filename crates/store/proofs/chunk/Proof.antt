@@ -1,23 +1,15 @@
+-- `chunk` meets its contract: the chunk of the entry that `locate` finds, and its place in the store.
 use mathlib.Core.Path.{_≡_, refl, sym, ap, _∙_}
-use mathlib.Core.List.{List, []}
-use Prim.Native.Nat.{ℕ, _+_, _*_, _-_, _≤_, _<_}
+use Prim.Native.Nat.{ℕ, _+_}
 use native.Mathlib.Nat.{zero-add}
-use native.Mathlib.Omega.{arith}
-use lib.ListN.{length, getD, take, drop}
 use denote.Ref.{now}
-use Rattle.spec.specs.Bytes.{part, positionOf}
-use Rattle.spec.specs.Directory.{offsetAt, lengthAt}
-use Rattle.spec.specs.Store.{storeLayout, storeKeys, chunkAt}
-use Rattle.spec.specs.Lookup.{findChunk, chunkStart, chunkLength, chunkOf}
-use Rattle.store.specs.Examined.{EntryOf}
+use Rattle.spec.specs.Bytes.{positionOf}
+use Rattle.spec.specs.Store.{storeKeys}
+use Rattle.spec.specs.Lookup.{findChunk}
 use Rattle.store.proofs.Answers.{done-code, refused-code, found-entry, slice-found, slice-refused, start-refused}
 use borrow.Author.Needs.{needs}
 use Rattle.store.proofs.chunk.Statement.{statement}
 use Rattle.store.proofs.chunk.Tie as tie
-use Rattle.store.proofs.chunk.Reads as reads
-use Rattle.store.proofs.chunk.Lts as lts
-use Rattle.store.proofs.chunk_at.Reads as chunk-at-reads
-use Rattle.store.proofs.locate.Reads as locate-reads
 
 -- the entry that was found
 told : (c : tie.After-known-told)

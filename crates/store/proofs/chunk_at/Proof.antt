@@ -1,21 +1,13 @@
-use mathlib.Core.Path.{_≡_, refl, sym, ap, _∙_}
-use mathlib.Core.List.{List, []}
-use Prim.Native.Nat.{ℕ, _+_, _*_, _-_, _≤_, _<_}
+-- `chunk_at` meets its contract: the chunks of a store that passed its check lie in it.
+use mathlib.Core.Path.{refl, ap}
+use Prim.Native.Nat.{ℕ, _+_, _≤_}
 use native.Mathlib.Omega.{arith}
-use lib.ListN.{length, getD, take, drop}
+use lib.ListN.{length}
 use denote.Ref.{now}
-use Rattle.spec.specs.Bytes.{part, positionOf}
-use Rattle.spec.specs.Directory.{offsetAt, lengthAt}
-use Rattle.spec.specs.Store.{storeLayout, storeKeys, chunkAt}
-use Rattle.spec.specs.Lookup.{findChunk, chunkStart, chunkLength, chunkOf}
-use Rattle.store.specs.Examined.{EntryOf}
 use Rattle.store.proofs.Answers.{chunk-room, chunk-slice}
 use borrow.Author.Needs.{needs}
 use Rattle.store.proofs.chunk_at.Statement.{statement}
 use Rattle.store.proofs.chunk_at.Tie as tie
-use Rattle.store.proofs.chunk_at.Reads as reads
-use Rattle.store.proofs.chunk_at.Lts as lts
-use Rattle.store.proofs.entry_field.Reads as entry-field-reads
 
 -- the chunk lies in the store
 room : (c : tie.After-entry-field2) → c .before .entry-field .result + c .entry-field2 .result ≤ length (now (c .before .before .before .args .store))

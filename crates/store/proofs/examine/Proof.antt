@@ -1,27 +1,17 @@
-use mathlib.Core.Path.{_≡_, refl, sym, ap, _∙_, subst}
-use mathlib.Core.Bool.{Bool, true, false}
-use mathlib.Core.List.{List, []}
-use Prim.Native.Nat.{ℕ, suc, _+_, _*_, _-_, _≤_, _<_}
+-- `examine` meets its contract: each return by the tests that led there (Answers).
+use mathlib.Core.Path.{_≡_, sym, _∙_}
+use mathlib.Core.Bool.{true}
+use Prim.Native.Nat.{_≤_}
 use native.Mathlib.Omega.{arith}
-use lib.ListN.{length, getD, take}
+use lib.ListN.{length, take}
 use denote.Ref.{now}
-use Rattle.spec.specs.Bytes.{same, positionOf}
-use Rattle.spec.specs.Outcome.{answer}
-use Rattle.spec.specs.Store.{storeMark, storeLayout, storeKeys, storeCode, chunkCount, chunkAt}
-use Rattle.spec.specs.Lookup.{findChunk, chunkStart, chunkLength, chunkOf}
-use Rattle.directory.specs.Chains.{Empty, keysFrom, Built}
+use Rattle.spec.specs.Bytes.{same}
+use Rattle.spec.specs.Store.{storeMark}
 use borrow.Author.Tests.{not-true, not-false}
 use Rattle.store.proofs.Answers.{refused-with, short, unmarked, many, cut, wrong, twin, examined}
-use Rattle.store.specs.Examined.{Examined, EntryOf}
 use borrow.Author.Needs.{needs}
 use Rattle.store.proofs.examine.Statement.{statement}
 use Rattle.store.proofs.examine.Tie as tie
-use Rattle.store.proofs.examine.Reads as reads
-use Rattle.store.proofs.examine.Lts as lts
-use Rattle.directory.proofs.build.Reads as build-reads
-use Rattle.directory.proofs.entries.Reads as entries-reads
-use Rattle.store.proofs.count.Reads as count-reads
-use Rattle.store.proofs.marked.Reads as marked-reads
 
 -- what the tests on the first 8 bytes say
 header : (c : tie.Else2)

@@ -1,23 +1,13 @@
-use mathlib.Core.Path.{_≡_, refl, sym, ap, _∙_, subst}
-use mathlib.Core.Bool.{Bool, true, false}
-use mathlib.Core.List.{List, []}
-use Prim.Native.Nat.{ℕ, suc, _+_, _*_, _-_, _≤_, _<_}
-use native.Mathlib.Omega.{arith}
-use lib.ListN.{length, getD, take}
+-- `find_chunk` meets its contract: the number of what `locate` answers.
+use mathlib.Core.Path.{sym, _∙_}
 use denote.Ref.{now}
-use Rattle.spec.specs.Bytes.{same, positionOf}
-use Rattle.spec.specs.Outcome.{answer}
-use Rattle.spec.specs.Store.{storeMark, storeLayout, storeKeys, storeCode, chunkCount, chunkAt}
-use Rattle.spec.specs.Lookup.{findChunk, chunkStart, chunkLength, chunkOf}
-use Rattle.directory.specs.Chains.{Empty}
-use Rattle.store.specs.Examined.{Examined, EntryOf}
+use Rattle.spec.specs.Bytes.{positionOf}
+use Rattle.spec.specs.Store.{storeKeys}
+use Rattle.spec.specs.Lookup.{findChunk}
 use Rattle.store.proofs.Answers.{done-code, refused-code}
 use borrow.Author.Needs.{needs}
 use Rattle.store.proofs.find_chunk.Statement.{statement}
 use Rattle.store.proofs.find_chunk.Tie as tie
-use Rattle.store.proofs.find_chunk.Reads as reads
-use Rattle.store.proofs.find_chunk.Lts as lts
-use Rattle.store.proofs.locate.Reads as locate-reads
 
 locate-requires : tie.Need-locate-requires
 locate-requires c κs = search needs

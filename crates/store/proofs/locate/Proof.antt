@@ -1,26 +1,18 @@
-use mathlib.Core.Path.{_≡_, refl, sym, ap, _∙_, subst}
-use mathlib.Core.Bool.{Bool, true, false}
-use mathlib.Core.List.{List, []}
-use Prim.Native.Nat.{ℕ, suc, _+_, _*_, _-_, _≤_, _<_}
+-- `locate` meets its contract: each return by the tests that led there (Answers).
+use mathlib.Core.Path.{_≡_, sym, ap, _∙_, subst}
+use mathlib.Core.List.{List}
+use Prim.Native.Nat.{ℕ}
 use native.Mathlib.Omega.{arith}
-use lib.ListN.{length, getD, take}
 use denote.Ref.{now}
-use Rattle.spec.specs.Bytes.{same, positionOf}
-use Rattle.spec.specs.Outcome.{answer}
-use Rattle.spec.specs.Store.{storeMark, storeLayout, storeKeys, storeCode, chunkCount, chunkAt}
-use Rattle.spec.specs.Lookup.{findChunk, chunkStart, chunkLength, chunkOf}
-use Rattle.directory.specs.Chains.{keysFrom, Chained}
-use Rattle.store.specs.Examined.{Examined, EntryOf}
+use Rattle.spec.specs.Bytes.{positionOf}
+use Rattle.spec.specs.Store.{storeKeys, storeCode}
+use Rattle.spec.specs.Lookup.{findChunk}
+use Rattle.directory.specs.Chains.{Chained}
 use Rattle.store.proofs.Answers.{zeros, keys-from, lies, refuses, finds, lookup-refused, lookup-length, lookup-none, lookup-found}
 use Rattle.spec.proofs.StoreLaws.{store-good}
 use borrow.Author.Needs.{needs}
 use Rattle.store.proofs.locate.Statement.{statement}
 use Rattle.store.proofs.locate.Tie as tie
-use Rattle.store.proofs.locate.Reads as reads
-use Rattle.store.proofs.locate.Lts as lts
-use Rattle.directory.proofs.find.Reads as find-reads
-use Rattle.store.proofs.count.Reads as count-reads
-use Rattle.store.proofs.examine.Reads as examine-reads
 
 slice-aggregate-examine : tie.Need-slice-aggregate-examine
 slice-aggregate-examine c = search needs
