@@ -1,19 +1,19 @@
 -- The walk over a file's places: before place j, what the places from j on still add. Assumes nothing.
-use mathlib.Core.Path.{_≡_, refl, sym, ap, ap₂, _∙_}
+use mathlib.Core.Path.{_≡_, refl, sym, ap, _∙_}
 use mathlib.Core.Logic.{_⊎_, inl, inr}
 use mathlib.Core.Bool.{Bool, true, false, _&&_, _||_, not, and-false, true≢false}
-use mathlib.Core.List.{List, [], _∷_, map}
-use Prim.Native.Nat.{ℕ, zero, suc, _+_, _-_, _*_, _≤_, _<_, min}
+use mathlib.Core.List.{List, [], _∷_}
+use Prim.Native.Nat.{ℕ, zero, suc, _+_, _≤_, _<_, min}
 use native.Mathlib.Nat.{zero-add}
 use native.Mathlib.Numerals.{add-one}
 use native.Mathlib.Omega.{arith}
-use borrow.Author.Tests.{eq-eqb, ne-eqb, lt-ltb, le-ltb, lt-leb, le-leb}
+use borrow.Author.Tests.{lt-ltb, le-ltb, lt-leb, le-leb}
 use lib.Dec.{leb, ltb}
-use lib.ListN.{length, take, drop, getD, drop-of-length-le, length-drop}
+use lib.ListN.{length, drop, getD, drop-of-length-le, length-drop}
 use lib.Seq.{drop-cons}
 use Rattle.spec.specs.Bytes.{contains, positionOf, every, sum}
 use Rattle.spec.specs.Outcome.{firstOf}
-use Rattle.spec.specs.Recipes.{allButLast, roomy, sizesIn, fileCode, filesCode}
+use Rattle.spec.specs.Recipes.{allButLast, roomy, sizesIn, fileCode}
 use Rattle.spec.proofs.Tests.{le-or-lt}
 use Rattle.spec.proofs.EntryLaws.{contains-position}
 use Rattle.files.specs.Measures.{innerShort, Measured}

@@ -1,5 +1,5 @@
 -- The directory of an index, in the terms of the contracts and in those of the definitions. Assumes nothing.
-use mathlib.Core.Path.{_≡_, refl}
+use mathlib.Core.Path.{_≡_}
 use mathlib.Core.List.{List}
 use Prim.Native.Nat.{ℕ, _+_}
 use Rattle.spec.specs.Directory.{sizeAt}

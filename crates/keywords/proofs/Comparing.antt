@@ -1,22 +1,20 @@
 -- Keywords that compare alike: one byte of a comparison, one keyword against the later ones, each against its later ones. Assumes nothing.
-use mathlib.Core.Path.{_≡_, refl, sym, ap, _∙_}
-use mathlib.Core.Logic.{_≢_}
+use mathlib.Core.Path.{_≡_, sym, _∙_}
 use mathlib.Core.Bool.{Bool, true, false, _&&_, _||_}
-use mathlib.Core.List.{List, [], _∷_}
-use Prim.Native.Nat.{ℕ, suc, _+_, _-_, _≤_, _<_}
+use mathlib.Core.List.{List, []}
+use Prim.Native.Nat.{ℕ, _+_, _-_, _≤_, _<_}
 use native.Mathlib.Nat.{add-sub-cancel-left}
 use native.Mathlib.Numerals.{add-one}
-use native.Mathlib.Omega.{arith}
 use borrow.Author.Tests.{eq-eqb, ne-eqb}
 use lib.Dec.{eqb}
 use lib.ListN.{length, take, drop, getD, drop-of-length-le}
 use lib.Seq.{drop-cons}
-use Rattle.spec.specs.Bytes.{part, same, contains, twice}
-use Rattle.spec.specs.Keywords.{foldByte, folded, flagOf, keywordsOf, foldedKeywords}
+use Rattle.spec.specs.Bytes.{same, contains, twice}
+use Rattle.spec.specs.Keywords.{foldByte, folded, flagOf, foldedKeywords}
 use Rattle.spec.proofs.Same.{same-lengths, same-turn, same-end}
 use Rattle.spec.proofs.Folding.{folded-length, folded-get}
-use Rattle.spec.proofs.KeywordLaws.{folded-count, folded-keyword}
-use Rattle.keywords.specs.Parsed.{Placed, Places}
+use Rattle.spec.proofs.KeywordLaws.{folded-keyword}
+use Rattle.keywords.specs.Parsed.{Placed}
 
 module _ (flag : ℕ) (a b : List ℕ) where
   -- what is left to compare at byte i

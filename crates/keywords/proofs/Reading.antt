@@ -2,16 +2,16 @@
 use mathlib.Core.Path.{_≡_, refl, sym, ap, _∙_}
 use mathlib.Core.Logic.{_⊎_, inl, inr}
 use mathlib.Core.List.{List, [], _∷_}
-use Prim.Native.Nat.{ℕ, zero, suc, _+_, _-_, _≤_, _<_, max}
+use Prim.Native.Nat.{ℕ, suc, _+_, _-_, _≤_, _<_, max}
 use native.Mathlib.Nat.{add-zero, sub-zero, eq-or-lt-of-le}
 use native.Mathlib.Numerals.{add-one}
 use native.Mathlib.Omega.{arith}
-use lib.ListN.{length, take, drop, getD, set, length-drop, length-set, drop-of-length-le, replicate, length-replicate}
+use lib.ListN.{length, drop, getD, set, length-drop, length-set, drop-of-length-le, replicate}
 use lib.Seq.{drop-cons, drop-drop, getD-drop, length-take-le, getD-set-same, getD-set-other}
 use Rattle.spec.specs.Bytes.{part}
 use Rattle.spec.specs.Keywords.{countOf, flagOf, readKeywords, keywordsSize, keywordsOf, listSize, longest, readCode, keywordFrontCode}
 use Rattle.spec.proofs.Tests.{le-or-lt}
-use Rattle.spec.proofs.KeywordLaws.{Step, read-step, read-absent, read-room, read-most, accepted}
+use Rattle.spec.proofs.KeywordLaws.{read-step, read-absent, read-room, read-most, accepted}
 use Rattle.keywords.specs.Parsed.{Readable, Placed, Parsed}
 
 -- ---- one keyword, n the length byte at `at`

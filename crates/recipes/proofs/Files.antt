@@ -1,22 +1,21 @@
 -- The files of recipes one after the other: one step of `filesWhole`, and what a file's place gives. Assumes nothing.
-use mathlib.Core.Path.{_≡_, refl, sym, ap, ap₂, _∙_}
-use mathlib.Core.Logic.{_⊎_, inl, inr}
+use mathlib.Core.Path.{_≡_, refl, sym, ap, _∙_}
 use mathlib.Core.Bool.{Bool, true, false, cond, _&&_, not, and-false}
 use mathlib.Core.List.{List, [], _∷_}
-use Prim.Native.Nat.{ℕ, zero, suc, _+_, _-_, _*_, _/_, _≤_, _<_}
-use native.Mathlib.Nat.{le-div-iff-mul-le, mul-comm, sub-zero}
+use Prim.Native.Nat.{ℕ, suc, _+_, _-_, _*_, _/_, _≤_, _<_}
+use native.Mathlib.Nat.{sub-zero}
 use native.Mathlib.Omega.{arith}
 use borrow.Author.Tests.{le-leb, lt-leb, leb-true, ltb-false, not-false, lt-ltb, le-ltb}
-use lib.Dec.{leb, ltb}
-use lib.ListN.{length, take, drop, getD, length-drop, drop-of-length-le}
+use lib.Dec.{leb}
+use lib.ListN.{length, drop, getD, length-drop, drop-of-length-le}
 use lib.Seq.{drop-drop}
-use Rattle.spec.specs.Bytes.{part, fieldAt, same}
+use Rattle.spec.specs.Bytes.{part, fieldAt}
 use Rattle.spec.specs.Directory.{keysOf}
 use Rattle.spec.specs.Recipes.{fileCount, filesWhole, readFiles, filesOf, recipesCode}
 use Rattle.spec.proofs.Tests.{and-left, and-right}
 use Rattle.spec.proofs.Same.{same-not}
 use Rattle.spec.proofs.Codes.{passed}
-use Rattle.spec.proofs.EntryLaws.{key-at, length-keys}
+use Rattle.spec.proofs.EntryLaws.{key-at}
 
 -- ---- one file, n its chunk count, `left` files behind it
 

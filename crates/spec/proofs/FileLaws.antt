@@ -1,11 +1,10 @@
 -- What a file's code 0 gives: every fingerprint is in the directory, the file is not too long, inner chunks are long enough. Assumes nothing.
-use mathlib.Core.Path.{_≡_, refl, sym, ap, _∙_}
-use mathlib.Core.Bool.{Bool, true, false, not}
+use mathlib.Core.Path.{_≡_, sym, _∙_}
+use mathlib.Core.Bool.{Bool, true}
 use mathlib.Core.List.{List, [], _∷_, map}
-use Prim.Native.Nat.{ℕ, zero, suc, _+_, _≤_, _<_}
+use Prim.Native.Nat.{ℕ, zero, suc, _≤_, _<_}
 use native.Mathlib.Omega.{arith}
 use borrow.Author.Tests.{ltb-true, ltb-false, not-false}
-use lib.Dec.{ltb}
 use lib.ListN.{length, drop, getD}
 use Rattle.spec.specs.Bytes.{contains, positionOf, every, sum}
 use Rattle.spec.specs.Recipes.{roomy, sizesIn, fileCode, filesCode}

@@ -1,20 +1,15 @@
 -- `files::entry_of` meets its contract. Assumes nothing.
-use mathlib.Core.Path.{_≡_, ap, _∙_}
+use mathlib.Core.Path.{ap, _∙_}
 use mathlib.Core.List.{List}
-use Prim.Native.Nat.{ℕ, _+_, _*_, _≤_}
-use native.Mathlib.Omega.{arith}
+use Prim.Native.Nat.{ℕ, _+_, _*_}
 use lib.ListN.{length}
 use denote.Ref.{now}
-use Rattle.spec.specs.Bytes.{part, positionOf}
+use Rattle.spec.specs.Bytes.{positionOf}
 use Rattle.files.specs.Measures.{keysAt}
 use Rattle.files.proofs.Places.{part-length}
 use borrow.Author.Needs.{needs}
 use Rattle.files.proofs.entry_of.Statement.{statement}
 use Rattle.files.proofs.entry_of.Tie as tie
-use Rattle.files.proofs.entry_of.Reads as reads
-use Rattle.files.proofs.entry_of.Lts as lts
-use Rattle.directory.proofs.find.Reads as find-reads
-use Rattle.directory.proofs.key.Reads as key-reads
 
 key-requires : tie.Need-key-requires
 key-requires c κs = search needs

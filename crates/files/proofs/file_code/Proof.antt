@@ -1,7 +1,6 @@
 -- `files::file_code` meets its contract: the measure's tests in their order. Assumes nothing.
-use mathlib.Core.Path.{_≡_, _∙_}
-use Prim.Native.Nat.{ℕ, _+_, _*_, _≤_}
-use lib.ListN.{length, drop}
+use mathlib.Core.Path.{_∙_}
+use lib.ListN.{drop}
 use denote.Ref.{now}
 use Rattle.spec.specs.Directory.{keysOf}
 use Rattle.files.specs.Measures.{keysAt, sizesAt}
@@ -9,10 +8,6 @@ use Rattle.files.proofs.Measuring.{measured-code}
 use borrow.Author.Needs.{needs}
 use Rattle.files.proofs.file_code.Statement.{statement}
 use Rattle.files.proofs.file_code.Tie as tie
-use Rattle.files.proofs.file_code.Reads as reads
-use Rattle.files.proofs.file_code.Lts as lts
-use Rattle.files.proofs.first_of.Reads as first-of-reads
-use Rattle.files.proofs.measure_file.Reads as measure-file-reads
 
 measure-file-requires : tie.Need-measure-file-requires
 measure-file-requires c κs = search needs

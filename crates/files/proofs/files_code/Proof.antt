@@ -1,8 +1,7 @@
 -- `files::files_code` meets its contract: the walk along the files. Assumes nothing.
-use mathlib.Core.Path.{_≡_, refl, sym, ap, _∙_}
-use Prim.Native.Nat.{ℕ, _+_, _-_, _*_, _≤_, _<_}
+use mathlib.Core.Path.{_≡_, refl}
+use Prim.Native.Nat.{_-_}
 use native.Mathlib.Omega.{arith}
-use lib.ListN.{length, drop}
 use denote.Ref.{now}
 use Rattle.spec.specs.Bytes.{fieldAt}
 use Rattle.spec.specs.Recipes.{fileCount}
@@ -11,10 +10,6 @@ use Rattle.files.specs.Measures.{keysAt, sizesAt}
 use Rattle.files.proofs.Places.{Coded, file-refused, file-passed, files-passed}
 use Rattle.files.proofs.files_code.Statement.{statement}
 use Rattle.files.proofs.files_code.Tie as tie
-use Rattle.files.proofs.files_code.Reads as reads
-use Rattle.files.proofs.files_code.Lts as lts
-use Rattle.files.proofs.file_code.Reads as file-code-reads
-use Rattle.recipes.proofs.count_at.Reads as count-at-reads
 
 abbrev Inv-loop : tie.InvT-loop
 Inv-loop recipes index start count heads next due files at₀ k₀ at k = (files ≡ fileCount recipes) × Walk recipes k at × Coded (keysAt index start count) (sizesAt index start) due recipes k at

@@ -3,8 +3,6 @@ use Rattle.files.proofs.Measuring.{inner-first, inner-last, inner-long,
 use borrow.Author.Needs.{needs}
 use Rattle.files.proofs.inner_short.Statement.{statement}
 use Rattle.files.proofs.inner_short.Tie as tie
-use Rattle.files.proofs.inner_short.Reads as reads
-use Rattle.files.proofs.inner_short.Lts as lts
 
 returns : tie.Need-returns
 returns c = inner-first (c .before .args .j) (c .before .args .n) (c .before .args .size) (c .before .args .due) (c .if1 .taken)

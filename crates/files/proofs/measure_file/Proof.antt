@@ -1,21 +1,14 @@
 -- `files::measure_file` meets its contract: the walk over the places. Assumes nothing.
-use mathlib.Core.Path.{_≡_, refl, sym, ap, _∙_}
-use Prim.Native.Nat.{ℕ, _+_, _-_, _*_, _≤_, _<_, min}
+use Prim.Native.Nat.{_-_, _≤_}
 use native.Mathlib.Omega.{arith}
-use lib.ListN.{length, drop}
+use lib.ListN.{drop}
 use denote.Ref.{now}
 use Rattle.spec.specs.Directory.{keysOf}
-use Rattle.files.specs.Measures.{keysAt, sizesAt, innerShort}
-use Rattle.files.proofs.Measuring.{Measuring, measuring-start}
+use Rattle.files.specs.Measures.{keysAt, sizesAt}
+use Rattle.files.proofs.Measuring.{measuring-start}
 use Rattle.files.proofs.Places.{Before, place-missing, place-on, place-end}
 use Rattle.files.proofs.measure_file.Statement.{statement}
 use Rattle.files.proofs.measure_file.Tie as tie
-use Rattle.files.proofs.measure_file.Reads as reads
-use Rattle.files.proofs.measure_file.Lts as lts
-use Rattle.files.proofs.capped.Reads as capped-reads
-use Rattle.files.proofs.entry_of.Reads as entry-of-reads
-use Rattle.files.proofs.inner_short.Reads as inner-short-reads
-use Rattle.files.proofs.size_of.Reads as size-of-reads
 
 abbrev Inv-loop : tie.InvT-loop
 Inv-loop recipes from n index start count heads next due total₀ short₀ j₀ total short j = (j ≤ n) × Before recipes from n index start count due j total short

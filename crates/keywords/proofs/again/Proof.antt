@@ -1,20 +1,17 @@
 -- `keywords::again` meets its contract, by the keywords that are left to compare. Assumes nothing.
-use mathlib.Core.Path.{_≡_, refl, sym, ap, _∙_}
+use mathlib.Core.Path.{_≡_, refl, _∙_}
 use mathlib.Core.List.{[]}
-use Prim.Native.Nat.{ℕ, _+_, _-_, _≤_, _<_}
+use Prim.Native.Nat.{_+_, _-_, _≤_}
 use native.Mathlib.Omega.{arith}
 use borrow.Author.Needs.{needs}
-use lib.ListN.{length, getD, drop}
+use lib.ListN.{getD, drop}
 use denote.Ref.{now}
-use Rattle.spec.specs.Bytes.{same, contains}
+use Rattle.spec.specs.Bytes.{contains}
 use Rattle.spec.specs.Keywords.{foldedKeywords}
 use Rattle.spec.proofs.KeywordLaws.{folded-count}
 use Rattle.keywords.proofs.Comparing.{contains-hit, contains-on, contains-end}
 use Rattle.keywords.proofs.again.Statement.{statement}
 use Rattle.keywords.proofs.again.Tie as tie
-use Rattle.keywords.proofs.again.Reads as reads
-use Rattle.keywords.proofs.again.Lts as lts
-use Rattle.keywords.proofs.alike_at.Reads as alike-at-reads
 
 abbrev Inv-loop : tie.InvT-loop
 Inv-loop list flag count start len i other₀ other = (other ≤ count) × (contains (getD (foldedKeywords list) i []) (drop other (foldedKeywords list)) ≡ contains (getD (foldedKeywords list) i []) (drop (i + 1) (foldedKeywords list)))

@@ -1,18 +1,15 @@
 use borrow.Author.Needs.{needs}
 -- `keywords::alike` meets its contract, by what is left to compare. Assumes nothing.
-use mathlib.Core.Path.{_≡_, refl, sym, ap, _∙_}
-use Prim.Native.Nat.{ℕ, _+_, _-_, _≤_, _<_}
+use mathlib.Core.Path.{_≡_, _∙_}
+use Prim.Native.Nat.{_-_, _≤_}
 use native.Mathlib.Omega.{arith}
-use lib.ListN.{length, getD}
+use lib.ListN.{length}
 use denote.Ref.{now}
 use Rattle.spec.specs.Bytes.{same}
 use Rattle.spec.specs.Keywords.{folded}
 use Rattle.keywords.proofs.Comparing.{left, alike-lengths, alike-on, alike-not, alike-end}
 use Rattle.keywords.proofs.alike.Statement.{statement}
 use Rattle.keywords.proofs.alike.Tie as tie
-use Rattle.keywords.proofs.alike.Reads as reads
-use Rattle.keywords.proofs.alike.Lts as lts
-use Rattle.keywords.proofs.fold.Reads as fold-reads
 
 abbrev Inv-loop : tie.InvT-loop
 Inv-loop flag a b i₀ i = (length a ≡ length b) × (i ≤ length a) × (left flag a b i ≡ same (folded flag a) (folded flag b))

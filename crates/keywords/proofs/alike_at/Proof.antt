@@ -1,19 +1,13 @@
 -- `keywords::alike_at` meets its contract: the parts are the keywords. Assumes nothing.
-use mathlib.Core.Path.{_≡_, refl, sym, ap, ap₂, _∙_}
+use mathlib.Core.Path.{ap₂, _∙_}
 use mathlib.Core.Bool.{Bool}
-use Prim.Native.Nat.{ℕ, _+_, _-_, _≤_, _<_}
 use native.Mathlib.Omega.{arith}
-use lib.ListN.{length, getD, take, drop}
 use denote.Ref.{now}
 use Rattle.spec.specs.Bytes.{same}
-use Rattle.spec.specs.Keywords.{folded, foldedKeywords}
 use Rattle.keywords.proofs.Comparing.{part-folded}
 use borrow.Author.Needs.{needs}
 use Rattle.keywords.proofs.alike_at.Statement.{statement}
 use Rattle.keywords.proofs.alike_at.Tie as tie
-use Rattle.keywords.proofs.alike_at.Reads as reads
-use Rattle.keywords.proofs.alike_at.Lts as lts
-use Rattle.keywords.proofs.alike.Reads as alike-reads
 
 mul-a : tie.Need-mul-a
 mul-a c = search needs

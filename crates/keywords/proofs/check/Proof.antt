@@ -1,18 +1,10 @@
 -- `keywords::check` meets its contract: the tests in their order. Assumes nothing.
-use mathlib.Core.Path.{_≡_, refl, sym, _∙_}
-use Prim.Native.Nat.{ℕ, _+_, _≤_, _<_}
-use native.Mathlib.Omega.{arith}
+use mathlib.Core.Path.{sym, _∙_}
 use denote.Ref.{now}
 use Rattle.keywords.proofs.Fronts.{whole-refused, whole-rest, front-readable, places}
 use borrow.Author.Needs.{needs}
 use Rattle.keywords.proofs.check.Statement.{statement}
 use Rattle.keywords.proofs.check.Tie as tie
-use Rattle.keywords.proofs.check.Reads as reads
-use Rattle.keywords.proofs.check.Lts as lts
-use Rattle.keywords.proofs.first_of.Reads as first-of-reads
-use Rattle.keywords.proofs.read_front.Reads as read-front-reads
-use Rattle.keywords.proofs.repeats.Reads as repeats-reads
-use Rattle.keywords.proofs.split.Reads as split-reads
 
 read-front-requires : tie.Need-read-front-requires
 read-front-requires c κs = search needs

@@ -3,9 +3,6 @@ use Rattle.keywords.proofs.Reading.{readable}
 use borrow.Author.Needs.{needs}
 use Rattle.keywords.proofs.parse.Statement.{statement}
 use Rattle.keywords.proofs.parse.Tie as tie
-use Rattle.keywords.proofs.parse.Reads as reads
-use Rattle.keywords.proofs.parse.Lts as lts
-use Rattle.keywords.proofs.split.Reads as split-reads
 
 split-requires : tie.Need-split-requires
 split-requires c κs = readable (c .before .args .list .now) (c .before .pre)

@@ -1,16 +1,11 @@
 -- `keywords::read_front` meets its contract. Assumes nothing.
-use mathlib.Core.Path.{_≡_, refl, sym, ap, _∙_}
-use Prim.Native.Nat.{ℕ, _+_, _-_, _≤_, _<_}
+use mathlib.Core.Path.{_∙_}
 use native.Mathlib.Omega.{arith}
-use lib.ListN.{length, getD, drop}
 use denote.Ref.{now}
 use Rattle.keywords.proofs.Fronts.{front-short, front-none, front-many, front-flag, front-on}
 use borrow.Author.Needs.{needs}
 use Rattle.keywords.proofs.read_front.Statement.{statement}
 use Rattle.keywords.proofs.read_front.Tie as tie
-use Rattle.keywords.proofs.read_front.Reads as reads
-use Rattle.keywords.proofs.read_front.Lts as lts
-use Rattle.keywords.proofs.read_keywords.Reads as read-keywords-reads
 
 returns : tie.Need-returns
 returns c = let s = c .before .before in front-short (s .args .list .now) (omega arith)

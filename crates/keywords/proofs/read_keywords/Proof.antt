@@ -1,17 +1,15 @@
 use borrow.Author.Needs.{needs}
 -- `keywords::read_keywords` meets its contract, by the code of what is left. Assumes nothing.
-use mathlib.Core.Path.{_≡_, refl, sym, ap, _∙_}
-use Prim.Native.Nat.{ℕ, _+_, _-_, _≤_, _<_}
+use mathlib.Core.Path.{_≡_, refl, _∙_}
+use Prim.Native.Nat.{_-_, _≤_}
 use native.Mathlib.Nat.{sub-zero}
 use native.Mathlib.Omega.{arith}
-use lib.ListN.{length, getD, drop}
+use lib.ListN.{length, drop}
 use denote.Ref.{now}
 use Rattle.spec.specs.Keywords.{readCode}
 use Rattle.keywords.proofs.Fronts.{code-absent, code-none, code-long, code-cut, code-on}
 use Rattle.keywords.proofs.read_keywords.Statement.{statement}
 use Rattle.keywords.proofs.read_keywords.Tie as tie
-use Rattle.keywords.proofs.read_keywords.Reads as reads
-use Rattle.keywords.proofs.read_keywords.Lts as lts
 
 abbrev Inv-loop : tie.InvT-loop
 Inv-loop list count at₀ k₀ at k = (k ≤ count) × (at ≤ length list) × (readCode (count - k) (drop at list) ≡ readCode count (drop 2 list))

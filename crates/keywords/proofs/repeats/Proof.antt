@@ -1,20 +1,16 @@
 -- `keywords::repeats` meets its contract, by the keywords that are left. Assumes nothing.
-use mathlib.Core.Path.{_≡_, refl, sym, ap, _∙_}
-use mathlib.Core.List.{[]}
-use Prim.Native.Nat.{ℕ, _+_, _-_, _≤_, _<_}
+use mathlib.Core.Path.{_≡_, refl, _∙_}
+use Prim.Native.Nat.{_-_, _≤_}
 use native.Mathlib.Omega.{arith}
 use borrow.Author.Needs.{needs}
-use lib.ListN.{length, getD, drop}
+use lib.ListN.{drop}
 use denote.Ref.{now}
-use Rattle.spec.specs.Bytes.{same, contains, twice}
+use Rattle.spec.specs.Bytes.{twice}
 use Rattle.spec.specs.Keywords.{foldedKeywords}
 use Rattle.spec.proofs.KeywordLaws.{folded-count}
 use Rattle.keywords.proofs.Comparing.{twice-hit, twice-on, twice-end}
 use Rattle.keywords.proofs.repeats.Statement.{statement}
 use Rattle.keywords.proofs.repeats.Tie as tie
-use Rattle.keywords.proofs.repeats.Reads as reads
-use Rattle.keywords.proofs.repeats.Lts as lts
-use Rattle.keywords.proofs.again.Reads as again-reads
 
 abbrev Inv-loop : tie.InvT-loop
 Inv-loop list flag count start len one₀ one = (one ≤ count) × (twice (drop one (foldedKeywords list)) ≡ twice (foldedKeywords list))

@@ -1,17 +1,14 @@
 use borrow.Author.Needs.{needs}
 -- `keywords::split` meets its contract: the walk of Reading.antt. Assumes nothing.
-use mathlib.Core.Path.{_≡_, refl, sym, ap, _∙_}
-use Prim.Native.Nat.{ℕ, _+_, _-_, _≤_, _<_, max}
+use mathlib.Core.Path.{_≡_, refl}
+use Prim.Native.Nat.{_+_, _-_}
 use native.Mathlib.Omega.{arith}
-use lib.ListN.{length, getD}
+use lib.ListN.{getD}
 use denote.Ref.{now}
 use Rattle.spec.specs.Keywords.{countOf}
 use Rattle.keywords.proofs.Reading.{Next, Reading, reading-start, reading-next, reading-on, reading-end}
 use Rattle.keywords.proofs.split.Statement.{statement}
 use Rattle.keywords.proofs.split.Tie as tie
-use Rattle.keywords.proofs.split.Reads as reads
-use Rattle.keywords.proofs.split.Lts as lts
-use Rattle.keywords.proofs.larger.Reads as larger-reads
 
 abbrev Inv-loop : tie.InvT-loop
 Inv-loop list count start₀ len₀ most₀ at₀ k₀ start len most at k = (count ≡ countOf list) × Reading list k at most start len

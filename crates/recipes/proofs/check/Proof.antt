@@ -1,17 +1,11 @@
 -- `recipes::check` meets its contract: the tests in their order. Assumes nothing.
-use mathlib.Core.Path.{_≡_, refl, sym, ap, _∙_}
 use mathlib.Core.Bool.{true, false}
-use Prim.Native.Nat.{ℕ, _+_, _≤_, _<_}
 use native.Mathlib.Omega.{arith}
 use denote.Ref.{now}
 use Rattle.recipes.proofs.Files.{check-short, check-many, check-files}
 use borrow.Author.Needs.{needs}
 use Rattle.recipes.proofs.check.Statement.{statement}
 use Rattle.recipes.proofs.check.Tie as tie
-use Rattle.recipes.proofs.check.Reads as reads
-use Rattle.recipes.proofs.check.Lts as lts
-use Rattle.recipes.proofs.count_at.Reads as count-at-reads
-use Rattle.recipes.proofs.files_whole.Reads as files-whole-reads
 
 returns : tie.Need-returns
 returns c = let s = c .before .before in check-short (s .args .recipes .now) (c .if1 .taken)

@@ -1,19 +1,15 @@
 -- `recipes::files_whole` meets its contract, by the files that are left. Assumes nothing.
-use mathlib.Core.Path.{_≡_, refl, sym, ap, _∙_}
-use Prim.Native.Nat.{ℕ, _+_, _-_, _*_, _/_, _≤_, _<_}
+use mathlib.Core.Path.{_≡_, _∙_}
+use Prim.Native.Nat.{_-_, _≤_}
 use native.Mathlib.Nat.{sub-zero}
 use native.Mathlib.Omega.{arith}
 use borrow.Author.Needs.{needs}
-use lib.ListN.{length, getD, drop}
+use lib.ListN.{length, drop}
 use denote.Ref.{now}
-use Rattle.spec.specs.Bytes.{fieldAt}
 use Rattle.spec.specs.Recipes.{filesWhole}
 use Rattle.recipes.proofs.Files.{whole-cut, whole-lies, whole-on, whole-over, whole-end}
 use Rattle.recipes.proofs.files_whole.Statement.{statement}
 use Rattle.recipes.proofs.files_whole.Tie as tie
-use Rattle.recipes.proofs.files_whole.Reads as reads
-use Rattle.recipes.proofs.files_whole.Lts as lts
-use Rattle.recipes.proofs.count_at.Reads as count-at-reads
 
 abbrev Inv-loop : tie.InvT-loop
 Inv-loop recipes count at₀ k₀ at k = (k ≤ count) × (at ≤ length recipes) × (filesWhole (count - k) (drop at recipes) ≡ filesWhole count (drop 4 recipes))
