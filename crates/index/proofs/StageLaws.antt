@@ -1,0 +1,132 @@
+-- The stages of the index check, one after the other, are the check; and what each stage that passes says. Assumes nothing.
+use mathlib.Core.Path.{_≡_, refl, sym, ap, ap₂, _∙_, subst}
+use mathlib.Core.Logic.{_≢_, _⊎_, inl, inr}
+use mathlib.Core.Bool.{Bool, true, false, _&&_, _||_, not, cond, or-true, or-false, false≢true, true≢false}
+use mathlib.Core.List.{List, [], _∷_, _++_, map}
+use Prim.Native.Nat.{ℕ, zero, suc, _+_, _-_, _*_, _≤_, _<_, min}
+use native.Mathlib.Nat.{zero-add, add-sub-cancel-left}
+use native.Mathlib.Omega.{arith}
+use borrow.Author.Tests.{lt-ltb, le-ltb, ltb-false}
+use lib.Dec.{eqb, leb, ltb}
+use lib.ListN.{length, take, drop, getD, length-map, length-take, length-drop, List·getD-map}
+use lib.Seq.{ext-getD, getD-take, length-take-le, take-all}
+use Rattle.spec.specs.Bytes.{part, fieldAt, same, twice, every, each}
+use Rattle.spec.specs.Outcome.{firstOf, whole}
+use Rattle.spec.specs.Keywords.{countOf, keywordsOf, listSize, keywordFrontCode}
+use Rattle.spec.specs.Directory.{Layout, keysOf, directoryEnd, entryField, sizeAt, offsetAt, lengthAt, pointedAt, keysIn, entriesCode}
+use Rattle.spec.specs.Store.{chunkCount, mostChunks}
+use Rattle.spec.specs.Records.{form1, goodBody}
+use Rattle.spec.specs.Index.{listIn, indexLayout, indexKeys, bodyAt, lengthsIn, goodAt, allGood, indexCode}
+use Rattle.spec.proofs.Tests.{bool-cases, false-of, le-or-lt}
+use Rattle.spec.proofs.Codes.{passed, passed-whole, or-left, or-right, last-whole}
+use Rattle.spec.proofs.EntryLaws.{Entries, entries-good}
+use Rattle.spec.proofs.Tabulated.{every-range, every-range-at}
+use Rattle.directory.specs.Chains.{layoutOf, keysFrom}
+use Rattle.keywords.specs.Parsed.{Parsed}
+use Rattle.bodies.specs.Check.{Ready}
+use Rattle.index.specs.Stages.{headerCode, directoryCode, Opened, Laid, Lens}
+
+-- ---- the header
+
+module _ (index : List ℕ) where
+  pub header-short : length index < 8 → 10 ≡ headerCode index
+  unfolding headerCode
+  header-short h = rw (lt-ltb (length index) 8 h)
+
+  pub header-mark : same (take 4 index) (form1 .mark) ≡ false → 10 ≡ headerCode index
+  unfolding headerCode
+  header-mark e = rw (e, or-true)
+
+  pub header-many : 65000 < chunkCount index → 10 ≡ headerCode index
+  unfolding headerCode
+  header-many h = rw (lt-ltb 65000 (chunkCount index) h, or-true)
+
+  pub header-good : 8 ≤ length index → same (take 4 index) (form1 .mark) ≡ true → chunkCount index ≤ 65000 → 0 ≡ headerCode index
+  unfolding headerCode
+  header-good h m c = rw (le-ltb (length index) 8 h, m, le-ltb 65000 (chunkCount index) c)
+
+  pub header-passed : headerCode index ≡ 0 → (8 ≤ length index) × (chunkCount index ≤ 65000)
+  unfolding headerCode
+  header-passed e =
+      let a = passed (ltb (length index) 8 || not (same (take 4 index) (form1 .mark)) || ltb 65000 (chunkCount index)) 10 0 (omega arith) e .0 in (
+        ltb-false (length index) 8 (or-left (ltb (length index) 8) _ (or-left (ltb (length index) 8 || not (same (take 4 index) (form1 .mark))) _ a)),
+        ltb-false 65000 (chunkCount index) (or-right (ltb (length index) 8 || not (same (take 4 index) (form1 .mark))) _ a),
+      )
+
+-- ---- the directory
+
+module _ (index : List ℕ) (start count : ℕ) (o : Opened index start count) where
+  pub layout-is : layoutOf start 32 20 24 28 ≡ indexLayout index
+  unfolding indexLayout
+  layout-is = ap (λ (s : ℕ). layoutOf s 32 20 24 28) (o .starts)
+
+  pub end-is : start + 32 * count ≡ directoryEnd (indexLayout index) (chunkCount index)
+  end-is = ap₂ {C = ℕ} (λ l c. directoryEnd l c) layout-is (o .counts)
+
+  pub directory-cut : length index < start + 32 * count → 11 ≡ directoryCode index
+  unfolding directoryCode
+  directory-cut h = rw (lt-ltb (length index) (directoryEnd (indexLayout index) (chunkCount index)) (rw (← end-is) h))
+
+  pub directory-walk : (r : ℕ) → start + 32 * count ≤ length index
+      → r ≡ entriesCode (layoutOf start 32 20 24 28) index 65535 11 count 0 (start + 32 * count) → r ≡ directoryCode index
+  unfolding directoryCode
+  directory-walk r h e =
+      rw (le-ltb (length index) (directoryEnd (indexLayout index) (chunkCount index)) (rw (← end-is) h))
+      (e ∙ rw (end-is, layout-is, o .counts) (sym (last-whole _)))
+
+  pub keys-are : keysFrom index start 32 count ≡ indexKeys index
+  unfolding indexKeys indexLayout
+  keys-are = rw (o .starts, o .counts)
+
+  pub field-is : (field e : ℕ) → fieldAt index (start + 32 * e + field) 4 ≡ entryField (indexLayout index) index field e
+  field-is field e = ap (λ (l : Layout). entryField l index field e) layout-is
+
+  pub laid : directoryCode index ≡ 0 → Laid index start count
+  unfolding directoryCode
+  laid e =
+      let a = passed (ltb (length index) (directoryEnd (indexLayout index) (chunkCount index))) 11 _ (omega arith) e in
+      let b = passed-whole (entriesCode (indexLayout index) index 65535 11 (chunkCount index) 0 (directoryEnd (indexLayout index) (chunkCount index))) 0 (a .1) .0 in
+      let g = entries-good (indexLayout index) index 65535 11 (omega arith) (chunkCount index) 0 (directoryEnd (indexLayout index) (chunkCount index)) b in
+      record {
+        opened = o;
+        room = rw end-is (ltb-false (length index) (directoryEnd (indexLayout index) (chunkCount index)) (a .0));
+        sizes = λ e h. g .sized e (omega arith) (omega (arith, o .counts)) .1;
+        ends = λ e h. g .within e (omega arith) (omega (arith, o .counts)) .1;
+      }
+
+-- ---- the bodies
+
+-- what the body check of an entry's fields says
+module _ (index : List ℕ) (start count : ℕ) (l : Laid index start count) (words : ℕ) (lens : List ℕ) (k : Lens index words lens) (e size at n : ℕ) (h : e < count)
+    (sizes : size ≡ fieldAt index (start + 32 * e + 20) 4) (offsets : at ≡ fieldAt index (start + 32 * e + 24) 4) (lengths : n ≡ fieldAt index (start + 32 * e + 28) 4) where
+  size-in : size ≡ sizeAt (indexLayout index) index e
+  unfolding indexLayout
+  size-in = sizes ∙ field-is index start count (l .opened) 20 e
+
+  at-in : at ≡ offsetAt (indexLayout index) index e
+  unfolding indexLayout
+  at-in = offsets ∙ field-is index start count (l .opened) 24 e
+
+  n-in : n ≡ lengthAt (indexLayout index) index e
+  unfolding indexLayout
+  n-in = lengths ∙ field-is index start count (l .opened) 28 e
+
+  pub body-within : at + n ≤ length index
+  body-within = rw (at-in, n-in) (l .ends e h)
+
+  pub body-ready : Ready words size lens
+  body-ready = record { room = k .room; fit = rw size-in (l .sizes e h); each = k .each }
+
+  pub good-is : (r : Bool) → r ≡ goodBody form1 (take words lens) size (take (at + n - at) (drop at index)) → r ≡ goodAt form1 index e
+  unfolding bodyAt
+  good-is r q = q ∙ rw (add-sub-cancel-left, k .are, size-in, at-in, n-in)
+
+module _ (index : List ℕ) where
+  pub all-yes : (count : ℕ) → count ≡ chunkCount index → ((k : ℕ) → k < count → goodAt form1 index k ≡ true) → true ≡ allGood form1 index
+  unfolding allGood
+  all-yes count e g = sym (every-range (goodAt form1 index) 0 (chunkCount index) (λ k _ h. g k (omega arith)))
+
+  pub all-no : (k : ℕ) → k < chunkCount index → goodAt form1 index k ≡ false → false ≡ allGood form1 index
+  unfolding allGood
+  all-no k h e =
+      sym (false-of _ (λ t. true≢false (sym (rw zero-add at (every-range-at (goodAt form1 index) 0 (chunkCount index) t k h)) ∙ e)))

@@ -1,0 +1,67 @@
+use mathlib.Core.Path.{_≡_, refl, sym, ap, _∙_}
+use mathlib.Core.Logic.{_≢_, _⊎_, inl, inr}
+use mathlib.Core.Bool.{Bool, true, false}
+use Prim.Native.Nat.{ℕ, _+_, _-_, _*_, _/_, _%_, _≤_, _<_}
+use native.Mathlib.Omega.{arith}
+use lib.ListN.{length, getD, drop}
+use denote.Ref.{now}
+use borrow.Author.Needs.{needs}
+use borrow.Author.Tests.{not-true, not-false}
+use Rattle.index.specs.Stages.{headerCode, directoryCode, Opened, Laid, Lens}
+use Rattle.index.proofs.StageLaws.{all-yes, all-no}
+use borrow.Author.Count.{below-none, below-more}
+use Rattle.spec.specs.Records.{form1}
+use Rattle.spec.specs.Index.{goodAt, allGood}
+use Rattle.index.proofs.all_good.Statement.{statement}
+use Rattle.index.proofs.all_good.Tie as tie
+use Rattle.index.proofs.all_good.Reads as reads
+use Rattle.index.proofs.all_good.Lts as lts
+use Rattle.index.proofs.entry_good.Reads as entry-good-reads
+
+abbrev Inv-loop : tie.InvT-loop
+Inv-loop index start count lens words e₀ e = (e ≤ count) × ((k : ℕ) → k < e → goodAt form1 index k ≡ true)
+
+abbrev μ-loop : tie.MeasureT-loop
+μ-loop index start count lens words e₀ e = count - e
+
+loop-holds : tie.Need-loop-holds Inv-loop μ-loop
+loop-holds c =
+    (omega arith, below-none (λ (k : ℕ). goodAt form1 (now (c .before .before .args .index)) k ≡ true))
+
+entry-good-requires : tie.Need-entry-good-requires Inv-loop μ-loop
+entry-good-requires c κs = (c .before .before .before .before .pre .0, c .loop-test .taken, c .before .before .before .before .pre .1)
+
+returns : tie.Need-returns Inv-loop μ-loop
+returns c =
+    let s = c .before .before .before .before .before .before in
+    all-no (now (s .args .index)) (c .before .before .before .loop .e) (omega (arith, s .pre .0 .opened .counts)) (sym (c .before .entry-good .ensures) ∙ not-true _ (c .if1 .taken))
+
+add-e : tie.Need-add-e Inv-loop μ-loop
+add-e c = search needs
+
+loop-less : tie.Need-loop-less Inv-loop μ-loop
+loop-less c = search needs
+
+loop-again : tie.Need-loop-again Inv-loop μ-loop
+loop-again c =
+    let s = c .before .before .before .before .before .before in
+    (omega arith, below-more (λ (k : ℕ). goodAt form1 (now (s .args .index)) k ≡ true) (c .before .before .before .loop .e) (c .before .before .before .loop .inv .1) (sym (c .before .entry-good .ensures) ∙ not-false _ (c .if1 .left)))
+
+returns-2 : tie.Need-returns-2 Inv-loop μ-loop
+returns-2 c =
+    let s = c .before .before .before .before in
+    all-yes (now (s .args .index)) (s .args .count) (s .pre .0 .opened .counts) (λ k h. c .before .loop .inv .1 k (omega arith))
+
+pub all-good-spec : {M : Type 1} → statement M
+all-good-spec =
+    tie.close
+    (tie.spec
+    Inv-loop
+    μ-loop
+    loop-holds
+    entry-good-requires
+    returns
+    add-e
+    loop-less
+    loop-again
+    returns-2)

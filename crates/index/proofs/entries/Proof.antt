@@ -1,0 +1,38 @@
+use mathlib.Core.Path.{_≡_, refl, sym, ap, _∙_}
+use mathlib.Core.Logic.{_≢_, _⊎_, inl, inr}
+use mathlib.Core.Bool.{Bool, true, false}
+use Prim.Native.Nat.{ℕ, _+_, _-_, _*_, _/_, _%_, _≤_, _<_}
+use native.Mathlib.Omega.{arith}
+use lib.ListN.{length, getD, drop}
+use denote.Ref.{now}
+use borrow.Author.Needs.{needs}
+use borrow.Author.Tests.{not-true, not-false}
+use Rattle.index.specs.Stages.{headerCode, directoryCode, Opened, Laid, Lens}
+use Rattle.index.proofs.StageLaws.{directory-cut, directory-walk}
+use Rattle.index.proofs.entries.Statement.{statement}
+use Rattle.index.proofs.entries.Tie as tie
+use Rattle.index.proofs.entries.Reads as reads
+use Rattle.index.proofs.entries.Lts as lts
+use Rattle.directory.proofs.entries.Reads as entries-reads
+
+mul-if1 : tie.Need-mul-if1
+mul-if1 c = search needs
+
+add-if1 : tie.Need-add-if1
+add-if1 c = search needs
+
+returns : tie.Need-returns
+returns c =
+    let a = c .before .before .args in
+    directory-cut (now (a .index)) (a .start) (a .count) (c .before .before .pre) (c .if1 .taken)
+
+entries-requires : tie.Need-entries-requires
+entries-requires c κs = search needs
+
+returns-2 : tie.Need-returns-2
+returns-2 c =
+    let a = c .before .before .before .args in
+    directory-walk (now (a .index)) (a .start) (a .count) (c .before .before .before .pre) (c .entries .result) (omega arith) (c .entries .ensures)
+
+pub entries-spec : {M : Type 1} → statement M
+entries-spec = tie.close (tie.spec mul-if1 add-if1 returns entries-requires returns-2)

@@ -1,0 +1,55 @@
+-- The stages of the index check for document 01's form, and what is known between them.
+use mathlib.Core.Path.{_≡_}
+use mathlib.Core.Bool.{_||_, not}
+use mathlib.Core.List.{List, [], _∷_}
+use Prim.Native.Nat.{ℕ, _+_, _*_, _≤_, _<_}
+use lib.ListN.{length, take, getD}
+use lib.Dec.{ltb}
+use Rattle.spec.specs.Bytes.{same, positionOf}
+use Rattle.spec.specs.Outcome.{firstOf, whole, indexMarkWrong, indexEntryWrong}
+use Rattle.spec.specs.Keywords.{listSize}
+use Rattle.spec.specs.Directory.{directoryEnd, sizeAt, offsetAt, lengthAt, entriesCode}
+use Rattle.spec.specs.Store.{chunkCount, mostChunks}
+use Rattle.spec.specs.Records.{form1}
+use Rattle.spec.specs.Index.{listIn, indexLayout, indexKeys, lengthsIn}
+use Rattle.spec.specs.Lookup.{findBody}
+
+-- Fewer than 8 bytes, another mark, or c above 65,000.
+unfoldable pub headerCode : List ℕ → ℕ
+headerCode index =
+    firstOf ((ltb (length index) 8 || not (same (take 4 index) (form1 .mark)) || ltb mostChunks (chunkCount index), indexMarkWrong) ∷ [])
+
+-- The directory cut short, then entry by entry.
+unfoldable pub directoryCode : List ℕ → ℕ
+directoryCode index =
+    firstOf
+    ((ltb (length index) (directoryEnd (indexLayout index) (chunkCount index)), indexEntryWrong)
+    ∷ whole (entriesCode (indexLayout index) index (form1 .longestChunk) indexEntryWrong (chunkCount index) 0 (directoryEnd (indexLayout index) (chunkCount index)))
+    ∷ [])
+
+-- `count` entries of the index start at `start`.
+pub record Opened (index : List ℕ) (start count : ℕ) : Type 0 where
+  pub header : 8 ≤ length index
+  pub counts : count ≡ chunkCount index
+  pub few : count ≤ 65000
+  pub starts : start ≡ 8 + listSize (listIn index)
+  pub short : start ≤ 538
+
+-- They all lie in the index, and so does what each points to; lengths L are in range.
+pub record Laid (index : List ℕ) (start count : ℕ) : Type 0 where
+  pub opened : Opened index start count
+  pub room : start + 32 * count ≤ length index
+  pub sizes : (e : ℕ) → e < count → sizeAt (indexLayout index) index e ≤ 65535
+  pub ends : (e : ℕ) → e < count → offsetAt (indexLayout index) index e + lengthAt (indexLayout index) index e ≤ length index
+
+-- The lengths of the index's keywords, in an array.
+pub record Lens (index : List ℕ) (words : ℕ) (lens : List ℕ) : Type 0 where
+  pub are : take words lens ≡ lengthsIn index
+  pub room : words ≤ length lens
+  pub each : (k : ℕ) → k < words → (1 ≤ getD lens k 0) × (getD lens k 0 ≤ 32)
+
+-- What a search for a fingerprint found.
+pub record Sought (index key : List ℕ) (code entry start : ℕ) : Type 0 where
+  pub codes : code ≡ findBody form1 index key
+  pub place : code ≡ 0 → entry ≡ positionOf key (indexKeys index)
+  pub starts : code ≡ 0 → start ≡ 8 + listSize (listIn index)
