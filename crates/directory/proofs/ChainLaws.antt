@@ -9,7 +9,7 @@ use native.Mathlib.Nat.{sub-self, add-zero, zero-add, suc-add, add-assoc, mul-le
 use native.Mathlib.Omega.{arith}
 use borrow.Author.Tests.{eqb-true, eqb-false, lt-ltb, le-ltb}
 use lib.Dec.{eqb, ltb}
-use lib.ListN.{length, getD, set, drop, length-set, length-take, length-drop, drop-of-length-le}
+use lib.ListN.{length, getD, set, drop, length-set, length-take, length-drop, drop-of-length-le, replicate, length-replicate, getD-replicate}
 use lib.Seq.{getD-set-same, getD-set-other, drop-cons, getD-drop, drop-drop}
 use Rattle.spec.specs.Bytes.{part, fieldsOf, fieldAt, same, contains, twice, positionOf}
 use Rattle.spec.proofs.Tests.{bool-cases, le-or-lt}
@@ -222,3 +222,11 @@ twice-none keys c q = rw (drop-of-length-le keys {i = c} (omega arith))
 pub twice-step : (keys : List (List ℕ)) (e : ℕ) (found twin : Bool) → e < length keys → found ≡ contains (getD keys e []) (drop (suc e) keys)
     → twin ≡ twice (drop (suc e) keys) → (found || twin) ≡ twice (drop e keys)
 twice-step keys e found twin h p q = rw (p, q, drop-cons keys e [] h)
+
+-- the arrays of zeros
+pub zeros : Empty (replicate 65536 0) (replicate 65000 0)
+zeros = record {
+  wide = length-replicate {A = ℕ} 65536 0;
+  none = λ h m. getD-replicate {A = ℕ} 65536 h 0 0 m;
+  long = omega (arith, length-replicate {A = ℕ} 65000 0);
+}

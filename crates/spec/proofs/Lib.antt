@@ -30,3 +30,4 @@ pub mod OneForm
 pub mod Borders
 pub mod Writing
 pub mod FileLaws
+pub mod LookupLaws

@@ -1,36 +1,26 @@
 -- The answers of the store check and of a lookup, each by the tests that led there. Assumes nothing.
 use mathlib.Core.Path.{_≡_, sym, ap, ap₂, _∙_, subst}
-use mathlib.Core.Logic.{_≢_, ⊎-elim}
-use mathlib.Core.Bool.{Bool, true, false, not}
+use mathlib.Core.Logic.{_≢_}
+use mathlib.Core.Bool.{Bool, true, false}
 use mathlib.Core.List.{List, [], _∷_}
 use Prim.Native.Nat.{ℕ, _+_, _*_, _-_, _≤_, _<_}
 use native.Mathlib.Nat.{add-sub-cancel-left}
 use native.Mathlib.Omega.{arith}
-use borrow.Author.Tests.{eq-eqb, ne-eqb, eqb-true, eqb-false, lt-ltb, le-ltb, ltb-true, not-false}
-use lib.Dec.{eqb, ltb}
-use lib.ListN.{length, getD, take, drop, replicate, length-replicate, getD-replicate}
-use Rattle.spec.specs.Bytes.{part, same, contains, twice, positionOf}
-use Rattle.spec.specs.declared.Outcome.the-variants.{Done, Refused}
-use Rattle.spec.specs.Outcome.{firstOf, whole, answer}
+use borrow.Author.Tests.{lt-ltb, le-ltb}
+use lib.ListN.{length, getD, take, drop}
+use Rattle.spec.specs.Bytes.{part, same, twice, positionOf}
+use Rattle.spec.specs.Outcome.{firstOf, whole}
 use Rattle.spec.specs.Directory.{entriesCode, offsetAt, lengthAt}
 use Rattle.spec.specs.Store.{storeMark, storeLayout, storeKeys, storeCode, chunkCount, chunkAt}
 use Rattle.spec.specs.Lookup.{findChunk, chunkStart, chunkLength, chunkOf}
-use Rattle.spec.proofs.Codes.{passed, passed-whole, refused-whole, answer-done, answer-refused}
-use Rattle.spec.proofs.Tests.{bool-cases}
-use Rattle.spec.proofs.EntryLaws.{keyIn-at, contains-position, position-le}
+use Rattle.spec.proofs.Codes.{refused-whole}
+use Rattle.spec.proofs.EntryLaws.{keyIn-at}
+use Rattle.spec.proofs.LookupLaws.{lookup-passed, start-found, length-found, start-refused, length-refused}
 use Rattle.spec.proofs.StoreLaws.{store-good, length-storeKeys}
 use denote.Ref.{RefT}
 use Rattle.directory.specs.Slices.{SliceOf}
-use Rattle.directory.specs.Chains.{keysFrom, Chained, Built, Lies, Empty}
+use Rattle.directory.specs.Chains.{keysFrom, Chained, Built, Lies}
 use Rattle.store.specs.Examined.{Examined, EntryOf}
-
--- the arrays of zeros
-pub zeros : Empty (replicate 65536 0) (replicate 65000 0)
-zeros = record {
-  wide = length-replicate {A = ℕ} 65536 0;
-  none = λ h m. getD-replicate {A = ℕ} 65536 h 0 0 m;
-  long = omega (arith, length-replicate {A = ℕ} 65000 0);
-}
 
 -- ---- the store check
 
@@ -90,54 +80,6 @@ keys-from store c e = ap (keysFrom store 8 28) e
 pub lies : (store : List ℕ) (c : ℕ) → storeCode store ≡ 0 → c ≡ chunkCount store → Lies store 8 28 c
 lies store c z e = let g = store-good store z in record { inside = omega (arith, g .room); keyed = omega arith; few = omega (arith, g .few) }
 
--- ---- a lookup
-
-pub refuses : (n code value : ℕ) → n ≡ code → n ≢ 0 → Refused n ≡ answer code value
-refuses n code value e d = ap Refused e ∙ answer-refused code value (λ z. d (e ∙ z))
-
-pub finds : (k code value : ℕ) → 0 ≡ code → k ≡ value → Done k ≡ answer code value
-finds k code value e q = ap Done q ∙ answer-done code value (sym e)
-
--- the other way: what an answer says of its number and its value
-pub done-code : (k code value : ℕ) → Done k ≡ answer code value → (code ≡ 0) × (k ≡ value)
-done-code k code value e =
-    ⊎-elim
-    (λ t. let z = eqb-true code 0 t in (z, let q : Done k ≡ Done value = e ∙ sym (answer-done code value z) in cc))
-    (λ f. absurd (let q : Done k ≡ Refused code = e ∙ sym (answer-refused code value (eqb-false code 0 f)) in let z : _≡_ {A = ℕ} 0 1 = cc in omega arith))
-    (bool-cases (eqb code 0))
-
-pub refused-code : (n code value : ℕ) → Refused n ≡ answer code value → (n ≡ code) × (code ≢ 0)
-refused-code n code value e =
-    ⊎-elim
-    (λ t. absurd (let q : Refused n ≡ Done value = e ∙ sym (answer-done code value (eqb-true code 0 t)) in let z : _≡_ {A = ℕ} 0 1 = cc in omega arith))
-    (λ f. (let q : Refused n ≡ Refused code = e ∙ sym (answer-refused code value (eqb-false code 0 f)) in cc, eqb-false code 0 f))
-    (bool-cases (eqb code 0))
-
-module _ (store fp : List ℕ) where
-  pub lookup-refused : (code : ℕ) → code ≡ storeCode store → code ≢ 0 → code ≡ findChunk store fp
-  unfolding findChunk
-  lookup-refused code e d = e ∙ refused-whole (storeCode store) _ (λ z. d (e ∙ z))
-
-  pub lookup-length : storeCode store ≡ 0 → length fp ≢ 20 → 19 ≡ findChunk store fp
-  unfolding findChunk
-  lookup-length z d = rw (z, ne-eqb (length fp) 20 d)
-
-  -- the fingerprint's place among c
-  module _ (z : storeCode store ≡ 0) (l : length fp ≡ 20) (c : ℕ) (e : c ≡ chunkCount store) (k : ℕ) (q : k ≡ positionOf fp (storeKeys store)) where
-    pub lookup-none : k ≡ c → 15 ≡ findChunk store fp
-    unfolding findChunk
-    lookup-none n =
-        let f : contains fp (storeKeys store) ≡ false =
-        contains-position fp (storeKeys store) ∙ le-ltb (positionOf fp (storeKeys store)) (length (storeKeys store)) (omega (arith, length-storeKeys store)) in
-        rw (z, eq-eqb (length fp) 20 l, f)
-
-    pub lookup-found : k ≢ c → 0 ≡ findChunk store fp
-    unfolding findChunk
-    lookup-found n =
-        let t : contains fp (storeKeys store) ≡ true =
-        contains-position fp (storeKeys store) ∙ lt-ltb (positionOf fp (storeKeys store)) (length (storeKeys store)) (omega (arith, length-storeKeys store, position-le fp (storeKeys store))) in
-        rw (z, eq-eqb (length fp) 20 l, t)
-
 -- ---- the entries of a store that passed its check
 
 module _ (store : List ℕ) (k : ℕ) (entry : EntryOf store k) where
@@ -162,38 +104,35 @@ module _ (store : List ℕ) (k : ℕ) (entry : EntryOf store k) where
 pub found-entry : (store fp : List ℕ) (k : ℕ) → findChunk store fp ≡ 0 → k ≡ positionOf fp (storeKeys store) → EntryOf store k
 unfolding findChunk
 found-entry store fp k z q =
-    let a = passed-whole (storeCode store) _ z in
-    let b = passed (not (eqb (length fp) 20)) 19 _ (omega arith) (a .1) in
-    let c = passed (not (contains fp (storeKeys store))) 15 _ (omega arith) (b .1) in
-    let t : ltb (positionOf fp (storeKeys store)) (length (storeKeys store)) ≡ true = sym (contains-position fp (storeKeys store)) ∙ not-false (contains fp (storeKeys store)) (c .0) in
-    record { checked = a .0; within = omega (arith, ltb-true (positionOf fp (storeKeys store)) (length (storeKeys store)) t, length-storeKeys store) }
+    let p = lookup-passed (storeCode store) (storeKeys store) fp z in
+    record { checked = p .0; within = omega (arith, p .2, length-storeKeys store) }
 
 module _ (store fp : List ℕ) (k : ℕ) (z : findChunk store fp ≡ 0) (q : k ≡ positionOf fp (storeKeys store)) where
-  pub start-found : offsetAt storeLayout store k ≡ chunkStart store fp
+  pub chunk-start-found : offsetAt storeLayout store k ≡ chunkStart store fp
   unfolding chunkStart findChunk
-  start-found = rw (eq-eqb (findChunk store fp) 0 z) (ap (offsetAt storeLayout store) q)
+  chunk-start-found = start-found (storeCode store) (storeKeys store) fp storeLayout store k z q
 
-  pub length-found : lengthAt storeLayout store k ≡ chunkLength store fp
+  pub chunk-length-found : lengthAt storeLayout store k ≡ chunkLength store fp
   unfolding chunkLength findChunk
-  length-found = rw (eq-eqb (findChunk store fp) 0 z) (ap (lengthAt storeLayout store) q)
+  chunk-length-found = length-found (storeCode store) (storeKeys store) fp storeLayout store k z q
 
   pub slice-found : {whole r : RefT (List ℕ)} → SliceOf whole r (chunkAt store k) (offsetAt storeLayout store k) → SliceOf whole r (chunkOf store fp) (chunkStart store fp)
   unfolding chunkAt chunkOf
   slice-found s = record {
-    holds = s .holds ∙ ap₂ (part store) start-found length-found;
+    holds = s .holds ∙ ap₂ (part store) chunk-start-found chunk-length-found;
     block = s .block;
-    place = s .place ∙ rw start-found;
+    place = s .place ∙ rw chunk-start-found;
   }
 
 module _ (store fp : List ℕ) (d : findChunk store fp ≢ 0) where
-  pub start-refused : 0 ≡ chunkStart store fp
+  pub chunk-start-refused : 0 ≡ chunkStart store fp
   unfolding chunkStart findChunk
-  start-refused = rw (ne-eqb (findChunk store fp) 0 d)
+  chunk-start-refused = start-refused (storeCode store) (storeKeys store) fp storeLayout store d
 
-  pub length-refused : 0 ≡ chunkLength store fp
+  pub chunk-length-refused : 0 ≡ chunkLength store fp
   unfolding chunkLength findChunk
-  length-refused = rw (ne-eqb (findChunk store fp) 0 d)
+  chunk-length-refused = length-refused (storeCode store) (storeKeys store) fp storeLayout store d
 
   pub slice-refused : [] ≡ chunkOf store fp
   unfolding chunkOf
-  slice-refused = rw (← length-refused)
+  slice-refused = rw (← chunk-length-refused)

@@ -1,5 +1,5 @@
 -- `check` meets its contract: the examination with arrays of its own.
-use Rattle.store.proofs.Answers.{zeros}
+use Rattle.directory.proofs.ChainLaws.{zeros}
 use borrow.Author.Needs.{needs}
 use Rattle.store.proofs.check.Statement.{statement}
 use Rattle.store.proofs.check.Tie as tie

@@ -6,7 +6,8 @@ use denote.Ref.{now}
 use Rattle.spec.specs.Bytes.{positionOf}
 use Rattle.spec.specs.Store.{storeKeys}
 use Rattle.spec.specs.Lookup.{findChunk}
-use Rattle.store.proofs.Answers.{done-code, refused-code, found-entry, slice-found, slice-refused, start-refused}
+use Rattle.spec.proofs.LookupLaws.{done-code, refused-number}
+use Rattle.store.proofs.Answers.{found-entry, slice-found, slice-refused, chunk-start-refused}
 use borrow.Author.Needs.{needs}
 use Rattle.store.proofs.chunk.Statement.{statement}
 use Rattle.store.proofs.chunk.Tie as tie
@@ -48,11 +49,11 @@ returns-2 : tie.Need-returns-2
 returns-2 c =
     let called = c .before .before .before in
     let a = called .before .before .before .args in
-    let d = refused-code (c .before .enum-told .given .0 .0) (findChunk (now (a .store)) (now (a .fp))) (positionOf (now (a .fp)) (storeKeys (now (a .store)))) (sym (c .before .enum-told .given .1) ∙ called .locate .ensures) .1 in
+    let d = refused-number (c .before .enum-told .given .0 .0) (findChunk (now (a .store)) (now (a .fp))) (positionOf (now (a .fp)) (storeKeys (now (a .store)))) (sym (c .before .enum-told .given .1) ∙ called .locate .ensures) .1 in
     record {
       holds = slice-refused (now (a .store)) (now (a .fp)) d;
       block = refl;
-      place = sym (zero-add (a .store .ptr .1)) ∙ ap (λ (n : ℕ). n + a .store .ptr .1) (start-refused (now (a .store)) (now (a .fp)) d);
+      place = sym (zero-add (a .store .ptr .1)) ∙ ap (λ (n : ℕ). n + a .store .ptr .1) (chunk-start-refused (now (a .store)) (now (a .fp)) d);
     }
 
 pub chunk-spec : {M : Type 1} → statement M

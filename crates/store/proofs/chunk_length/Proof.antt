@@ -5,7 +5,8 @@ use denote.Ref.{now}
 use Rattle.spec.specs.Bytes.{positionOf}
 use Rattle.spec.specs.Store.{storeKeys}
 use Rattle.spec.specs.Lookup.{findChunk}
-use Rattle.store.proofs.Answers.{done-code, refused-code, found-entry, length-found, length-refused}
+use Rattle.spec.proofs.LookupLaws.{done-code, refused-number}
+use Rattle.store.proofs.Answers.{found-entry, chunk-length-found, chunk-length-refused}
 use borrow.Author.Needs.{needs}
 use Rattle.store.proofs.chunk_length.Statement.{statement}
 use Rattle.store.proofs.chunk_length.Tie as tie
@@ -38,14 +39,14 @@ returns : tie.Need-returns
 returns c =
     let a = c .before .before .before .before .before .before .before .args in
     let t = told (c .before) in
-    c .entry-field .ensures ∙ length-found (now (a .store)) (now (a .fp)) (c .before .before .k .given .0 .0) (t .0) (t .1)
+    c .entry-field .ensures ∙ chunk-length-found (now (a .store)) (now (a .fp)) (c .before .before .k .given .0 .0) (t .0) (t .1)
 
 returns-2 : tie.Need-returns-2
 returns-2 c =
     let called = c .before .before in
     let a = called .before .before .before .args in
-    length-refused (now (a .store)) (now (a .fp))
-    (refused-code (c .enum-told .given .0 .0) (findChunk (now (a .store)) (now (a .fp))) (positionOf (now (a .fp)) (storeKeys (now (a .store)))) (sym (c .enum-told .given .1) ∙ called .locate .ensures) .1)
+    chunk-length-refused (now (a .store)) (now (a .fp))
+    (refused-number (c .enum-told .given .0 .0) (findChunk (now (a .store)) (now (a .fp))) (positionOf (now (a .fp)) (storeKeys (now (a .store)))) (sym (c .enum-told .given .1) ∙ called .locate .ensures) .1)
 
 pub chunk-length-spec : {M : Type 1} → statement M
 chunk-length-spec =

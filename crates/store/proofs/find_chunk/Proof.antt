@@ -4,7 +4,7 @@ use denote.Ref.{now}
 use Rattle.spec.specs.Bytes.{positionOf}
 use Rattle.spec.specs.Store.{storeKeys}
 use Rattle.spec.specs.Lookup.{findChunk}
-use Rattle.store.proofs.Answers.{done-code, refused-code}
+use Rattle.spec.proofs.LookupLaws.{done-code, refused-number}
 use borrow.Author.Needs.{needs}
 use Rattle.store.proofs.find_chunk.Statement.{statement}
 use Rattle.store.proofs.find_chunk.Tie as tie
@@ -28,7 +28,7 @@ returns-2 : tie.Need-returns-2
 returns-2 c =
     let called = c .before .before .before in
     let a = called .before .before .before .args in
-    refused-code (c .before .code .given .0 .0) (findChunk (now (a .store)) (now (a .fp))) (positionOf (now (a .fp)) (storeKeys (now (a .store)))) (sym (c .before .code .given .1) ∙ called .locate .ensures) .0
+    refused-number (c .before .code .given .0 .0) (findChunk (now (a .store)) (now (a .fp))) (positionOf (now (a .fp)) (storeKeys (now (a .store)))) (sym (c .before .code .given .1) ∙ called .locate .ensures) .0
 
 pub find-chunk-spec : {M : Type 1} → statement M
 find-chunk-spec = tie.close (tie.spec locate-requires enum-told enum-known-code returns returns-2)

@@ -8,8 +8,10 @@ use Rattle.spec.specs.Bytes.{positionOf}
 use Rattle.spec.specs.Store.{storeKeys, storeCode}
 use Rattle.spec.specs.Lookup.{findChunk}
 use Rattle.directory.specs.Chains.{Chained}
-use Rattle.store.proofs.Answers.{zeros, keys-from, lies, refuses, finds, lookup-refused, lookup-length, lookup-none, lookup-found}
-use Rattle.spec.proofs.StoreLaws.{store-good}
+use Rattle.directory.proofs.ChainLaws.{zeros}
+use Rattle.spec.proofs.LookupLaws.{refuses, finds, lookup-refused, lookup-length, lookup-none, lookup-found}
+use Rattle.store.proofs.Answers.{keys-from, lies}
+use Rattle.spec.proofs.StoreLaws.{store-good, length-storeKeys}
 use borrow.Author.Needs.{needs}
 use Rattle.store.proofs.locate.Statement.{statement}
 use Rattle.store.proofs.locate.Tie as tie
@@ -37,17 +39,19 @@ placed c =
     c .find .ensures ∙ ap (positionOf (now (a .fp))) (keys-from (now (a .store)) (counted .count .result) (counted .count .ensures))
 
 returns : tie.Need-returns
+unfolding findChunk
 returns c =
     let called = c .before .before .before in
     let a = called .before .before .before .before .before .args in
     refuses (called .examine .result) (findChunk (now (a .store)) (now (a .fp))) (positionOf (now (a .fp)) (storeKeys (now (a .store))))
-    (lookup-refused (now (a .store)) (now (a .fp)) (called .examine .result) (called .examine .ensures .number) (c .if1 .taken)) (c .if1 .taken)
+    (lookup-refused (storeCode (now (a .store))) (storeKeys (now (a .store))) (now (a .fp)) (called .examine .result) (called .examine .ensures .number) (c .if1 .taken)) (c .if1 .taken)
 
 returns-2 : tie.Need-returns-2
+unfolding findChunk
 returns-2 c =
     let a = c .before .before .before .before .before .before .before .before .before .args in
     refuses 19 (findChunk (now (a .store)) (now (a .fp))) (positionOf (now (a .fp)) (storeKeys (now (a .store))))
-    (lookup-length (now (a .store)) (now (a .fp)) (passed (c .before)) (c .if2 .taken)) (λ z. omega arith)
+    (lookup-length (storeCode (now (a .store))) (storeKeys (now (a .store))) (now (a .fp)) (passed (c .before)) (c .if2 .taken)) (λ z. omega arith)
 
 count-requires : tie.Need-count-requires
 count-requires c κs = store-good (now (c .before .before .before .before .before .before .before .before .before .args .store)) (passed (c .before)) .header
@@ -73,20 +77,22 @@ find-requires c κs =
     )
 
 returns-3 : tie.Need-returns-3
+unfolding findChunk
 returns-3 c =
     let counted = c .before .before .before .before in
     let a = counted .before .before .before .before .before .before .before .before .before .before .args in
     refuses 15 (findChunk (now (a .store)) (now (a .fp))) (positionOf (now (a .fp)) (storeKeys (now (a .store))))
-    (lookup-none (now (a .store)) (now (a .fp)) (passed (counted .before .before)) (counted .before .if2 .left) (counted .count .result) (counted .count .ensures)
+    (lookup-none (storeCode (now (a .store))) (storeKeys (now (a .store))) (now (a .fp)) (passed (counted .before .before)) (counted .before .if2 .left) (counted .count .result) (counted .count .ensures ∙ sym (length-storeKeys (now (a .store))))
     (c .before .find .result) (placed (c .before)) (c .if3 .taken))
     (λ z. omega arith)
 
 returns-4 : tie.Need-returns-4
+unfolding findChunk
 returns-4 c =
     let counted = c .before .before .before .before in
     let a = counted .before .before .before .before .before .before .before .before .before .before .args in
     finds (c .before .find .result) (findChunk (now (a .store)) (now (a .fp))) (positionOf (now (a .fp)) (storeKeys (now (a .store))))
-    (lookup-found (now (a .store)) (now (a .fp)) (passed (counted .before .before)) (counted .before .if2 .left) (counted .count .result) (counted .count .ensures)
+    (lookup-found (storeCode (now (a .store))) (storeKeys (now (a .store))) (now (a .fp)) (passed (counted .before .before)) (counted .before .if2 .left) (counted .count .result) (counted .count .ensures ∙ sym (length-storeKeys (now (a .store))))
     (c .before .find .result) (placed (c .before)) (c .if3 .left))
     (placed (c .before))
 
