@@ -1,2 +1,3 @@
 pub mod StageLaws
 pub mod CheckLaws
+pub mod LookupLaws

@@ -5,14 +5,13 @@ use mathlib.Core.List.{List, [], _∷_}
 use Prim.Native.Nat.{ℕ, _+_, _*_, _≤_, _<_}
 use lib.ListN.{length, take, getD}
 use lib.Dec.{ltb}
-use Rattle.spec.specs.Bytes.{same, positionOf}
+use Rattle.spec.specs.Bytes.{same}
 use Rattle.spec.specs.Outcome.{firstOf, whole, indexMarkWrong, indexEntryWrong}
 use Rattle.spec.specs.Keywords.{listSize}
 use Rattle.spec.specs.Directory.{directoryEnd, sizeAt, offsetAt, lengthAt, entriesCode}
 use Rattle.spec.specs.Store.{chunkCount, mostChunks}
 use Rattle.spec.specs.Records.{form1}
-use Rattle.spec.specs.Index.{listIn, indexLayout, indexKeys, lengthsIn}
-use Rattle.spec.specs.Lookup.{findBody}
+use Rattle.spec.specs.Index.{listIn, indexLayout, lengthsIn, indexCode}
 
 -- Fewer than 8 bytes, another mark, or c above 65,000.
 unfoldable pub headerCode : List ℕ → ℕ
@@ -48,8 +47,7 @@ pub record Lens (index : List ℕ) (words : ℕ) (lens : List ℕ) : Type 0 wher
   pub room : words ≤ length lens
   pub each : (k : ℕ) → k < words → (1 ≤ getD lens k 0) × (getD lens k 0 ≤ 32)
 
--- What a search for a fingerprint found.
-pub record Sought (index key : List ℕ) (code entry start : ℕ) : Type 0 where
-  pub codes : code ≡ findBody form1 index key
-  pub place : code ≡ 0 → entry ≡ positionOf key (indexKeys index)
-  pub starts : code ≡ 0 → start ≡ 8 + listSize (listIn index)
+-- An entry of an index that passed its check.
+pub record EntryOf (index : List ℕ) (k : ℕ) : Type 0 where
+  pub checked : indexCode form1 index ≡ 0
+  pub within : k < chunkCount index

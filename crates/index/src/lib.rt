@@ -5,8 +5,12 @@ ghost use lib.ListN.{length};
 ghost use Rattle.spec.specs.Bytes.{twice, positionOf};
 ghost use Rattle.spec.specs.Store.{chunkCount};
 ghost use Rattle.spec.specs.Records.{form1};
-ghost use Rattle.spec.specs.Index.{indexKeys, goodAt, allGood, indexCode};
-ghost use Rattle.index.specs.Stages.{headerCode, directoryCode, Opened, Laid, Lens, Sought};
+ghost use Rattle.spec.specs.Keywords.{listSize};
+ghost use Rattle.spec.specs.Directory.{entryField, offsetAt};
+ghost use Rattle.spec.specs.Index.{listIn, indexLayout, indexKeys, bodyAt, goodAt, allGood, indexCode};
+ghost use Rattle.spec.specs.Lookup.{findBody, bodyStart, bodyLength, bodyOf};
+ghost use Rattle.directory.specs.Slices.{SliceOf};
+ghost use Rattle.index.specs.Stages.{headerCode, directoryCode, Opened, Laid, Lens, EntryOf};
 
 // Fewer than 8 bytes, another mark, or a chunk count above 65,000.
 fn header(index: &[u8]) -> u8
@@ -107,4 +111,100 @@ pub fn check(index: &[u8]) -> u8
         return 13;
     }
     0
+}
+
+// Where the directory starts.
+pub fn start_of(index: &[u8]) -> usize
+    requires { ⌜ indexCode form1 (now index) ≡ 0 ⌝ }
+    ensures { λ r. ⌜ r ≡ 8 + listSize (listIn (now (index .entry))) ⌝ }
+{
+    let list = keywords::parse(&index[8..]);
+    8 + list.size
+}
+
+// The chunk count.
+pub fn count(index: &[u8]) -> usize
+    requires { ⌜ 8 ≤ length (now index) ⌝ }
+    ensures { λ r. ⌜ r ≡ chunkCount (now (index .entry)) ⌝ }
+{
+    field::read(index, 4, 4) as usize
+}
+
+// The entry of a fingerprint; the chunk count where there is none.
+fn seek(index: &[u8], fp: &[u8]) -> usize
+    requires { ⌜ (indexCode form1 (now index) ≡ 0) × (length (now fp) ≡ 20) ⌝ }
+    ensures { λ r. ⌜ r ≡ positionOf (now (fp .entry)) (indexKeys (now (index .entry))) ⌝ }
+{
+    let start = start_of(index);
+    let c = count(index);
+    let mut heads = [0u32; 65536];
+    let mut next = [0u32; 65000];
+    directory::build(index, start, 32, c, &mut heads, &mut next);
+    directory::find(index, start, 32, c, &heads, &next, fp)
+}
+
+// The number of a lookup: 0 when the fingerprint is found.
+pub fn find_body(index: &[u8], fp: &[u8]) -> u8
+    ensures { λ r. ⌜ r ≡ findBody form1 (now (index .entry)) (now (fp .entry)) ⌝ }
+{
+    let code = check(index);
+    if code != 0 {
+        return code;
+    }
+    if fp.len() != 20 {
+        return 19;
+    }
+    if seek(index, fp) == count(index) {
+        return 15;
+    }
+    0
+}
+
+// The field of entry k that starts at byte `at` of it.
+pub fn entry_field(index: &[u8], k: usize, at: usize) -> usize
+    requires { ⌜ EntryOf (now index) k × (at + 4 ≤ 32) ⌝ }
+    ensures { λ r. ⌜ r ≡ entryField (indexLayout (now (index .entry))) (now (index .entry)) at k ⌝ }
+{
+    let start = start_of(index);
+    field::read(index, start + 32 * k + at, 4) as usize
+}
+
+// The body of entry k: the index's own slice.
+pub fn body_at(index: &[u8], k: usize) -> &[u8]
+    requires { ⌜ EntryOf (now index) k ⌝ }
+    ensures { λ r. ⌜ SliceOf (index .entry) r (bodyAt (now (index .entry)) k) (offsetAt (indexLayout (now (index .entry))) (now (index .entry)) k) ⌝ }
+{
+    let at = entry_field(index, k, 24);
+    let n = entry_field(index, k, 28);
+    &index[at..at + n]
+}
+
+// Where the body of a fingerprint starts; 0 on a refusal.
+pub fn body_start(index: &[u8], fp: &[u8]) -> usize
+    ensures { λ r. ⌜ r ≡ bodyStart form1 (now (index .entry)) (now (fp .entry)) ⌝ }
+{
+    if find_body(index, fp) != 0 {
+        return 0;
+    }
+    entry_field(index, seek(index, fp), 24)
+}
+
+// How long the body of a fingerprint is; 0 on a refusal.
+pub fn body_length(index: &[u8], fp: &[u8]) -> usize
+    ensures { λ r. ⌜ r ≡ bodyLength form1 (now (index .entry)) (now (fp .entry)) ⌝ }
+{
+    if find_body(index, fp) != 0 {
+        return 0;
+    }
+    entry_field(index, seek(index, fp), 28)
+}
+
+// The body of a fingerprint: a slice of the index itself, never of the fingerprint; the empty slice at the index's start on a refusal.
+pub fn body<'a, 'b>(index: &'a [u8], fp: &'b [u8]) -> &'a [u8]
+    ensures { λ r. ⌜ SliceOf (index .entry) r (bodyOf form1 (now (index .entry)) (now (fp .entry))) (bodyStart form1 (now (index .entry)) (now (fp .entry))) ⌝ }
+{
+    if find_body(index, fp) != 0 {
+        return &index[..0];
+    }
+    body_at(index, seek(index, fp))
 }

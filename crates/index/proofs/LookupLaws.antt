@@ -1,0 +1,176 @@
+-- The answers of a lookup in an index, each by the tests that led there, and where the body is. Assumes nothing.
+use mathlib.Core.Path.{_≡_, refl, sym, ap, ap₂, _∙_, subst}
+use mathlib.Core.Logic.{_≢_}
+use mathlib.Core.Bool.{Bool, true, false, not}
+use mathlib.Core.List.{List, [], _∷_}
+use Prim.Native.Nat.{ℕ, _+_, _*_, _-_, _≤_, _<_}
+use native.Mathlib.Nat.{add-sub-cancel-left}
+use native.Mathlib.Omega.{arith}
+use borrow.Author.Tests.{eq-eqb, ne-eqb, eqb-true, lt-ltb, le-ltb, ltb-true, not-false}
+use lib.Dec.{eqb, ltb}
+use lib.ListN.{length, getD, take, drop}
+use denote.Ref.{RefT}
+use Rattle.spec.specs.Bytes.{part, fieldAt, contains, positionOf}
+use Rattle.spec.specs.Keywords.{listSize, keywordFrontCode}
+use Rattle.spec.specs.Directory.{entryField, offsetAt, lengthAt}
+use Rattle.spec.specs.Store.{chunkCount}
+use Rattle.spec.specs.Records.{form1}
+use Rattle.spec.specs.Index.{listIn, indexLayout, indexKeys, bodyAt, indexCode}
+use Rattle.spec.specs.Lookup.{findBody, bodyStart, bodyLength, bodyOf}
+use Rattle.spec.proofs.Codes.{passed, passed-whole, refused-whole}
+use Rattle.spec.proofs.EntryLaws.{contains-position, position-le}
+use Rattle.spec.proofs.KeywordLaws.{accepted}
+use Rattle.spec.proofs.IndexChecks.{index-good, length-indexKeys}
+use Rattle.directory.specs.Chains.{keysFrom, Chained, Lies, Empty, Built}
+use Rattle.directory.specs.Slices.{SliceOf}
+use Rattle.keywords.specs.Parsed.{Parsed}
+use Rattle.index.specs.Stages.{Opened, EntryOf}
+use Rattle.index.proofs.StageLaws.{keys-are, field-is, end-is}
+use Rattle.index.proofs.CheckLaws.{list-is}
+
+-- ---- an index that passed its check
+
+module _ (index : List ℕ) (z : indexCode form1 index ≡ 0) where
+  pub header-there : 8 ≤ length index
+  header-there = index-good form1 index z .header
+
+  pub list-good : keywordFrontCode (take (length index - 8) (drop 8 index)) ≡ 0
+  list-good = ap keywordFrontCode (list-is index) ∙ index-good form1 index z .list
+
+  pub start-is : (words flag size most : ℕ) (start len : List ℕ) → Parsed (take (length index - 8) (drop 8 index)) words flag size most start len
+      → 8 + size ≡ 8 + listSize (listIn index)
+  start-is words flag size most start len p = ap (λ (s : ℕ). 8 + s) (p .ends ∙ ap listSize (list-is index))
+
+  module _ (start count : ℕ) (s : start ≡ 8 + listSize (listIn index)) (c : count ≡ chunkCount index) where
+    pub opened-again : Opened index start count
+    opened-again = record {
+      header = header-there;
+      counts = c;
+      few = rw c (index-good form1 index z .few);
+      starts = s;
+      short = omega (arith, accepted (listIn index) (index-good form1 index z .list) .short);
+    }
+
+    pub lies-in : Lies index start 32 count
+    lies-in = record {
+      inside = rw (end-is index start count opened-again) (index-good form1 index z .room);
+      keyed = omega arith;
+      few = rw c (index-good form1 index z .few);
+    }
+
+    pub keys-in : keysFrom index start 32 count ≡ indexKeys index
+    keys-in = keys-are index start count opened-again
+
+-- ---- the number
+
+module _ (index fp : List ℕ) where
+  pub lookup-refused : (code : ℕ) → code ≡ indexCode form1 index → code ≢ 0 → code ≡ findBody form1 index fp
+  unfolding findBody
+  lookup-refused code e d = e ∙ refused-whole (indexCode form1 index) _ (λ z. d (e ∙ z))
+
+  pub lookup-length : indexCode form1 index ≡ 0 → length fp ≢ 20 → 19 ≡ findBody form1 index fp
+  unfolding findBody
+  lookup-length z d = rw (z, ne-eqb (length fp) 20 d)
+
+  -- the fingerprint's place among c
+  module _ (z : indexCode form1 index ≡ 0) (l : length fp ≡ 20) (k : ℕ) (q : k ≡ positionOf fp (indexKeys index)) (c : ℕ) (e : c ≡ chunkCount index) where
+    pub lookup-none : k ≡ c → 15 ≡ findBody form1 index fp
+    unfolding findBody
+    lookup-none n =
+        let f : contains fp (indexKeys index) ≡ false =
+        contains-position fp (indexKeys index) ∙ le-ltb (positionOf fp (indexKeys index)) (length (indexKeys index)) (omega (arith, length-indexKeys index)) in
+        rw (z, eq-eqb (length fp) 20 l, f)
+
+    pub lookup-found : k ≢ c → 0 ≡ findBody form1 index fp
+    unfolding findBody
+    lookup-found n =
+        let t : contains fp (indexKeys index) ≡ true =
+        contains-position fp (indexKeys index) ∙ lt-ltb (positionOf fp (indexKeys index)) (length (indexKeys index)) (omega (arith, length-indexKeys index, position-le fp (indexKeys index))) in
+        rw (z, eq-eqb (length fp) 20 l, t)
+
+-- ---- the entries of an index that passed its check
+
+module _ (index : List ℕ) (k : ℕ) (entry : EntryOf index k) (start : ℕ) (s : start ≡ 8 + listSize (listIn index)) where
+  pub entry-room : start + 32 * k + 32 ≤ length index
+  entry-room =
+      let l = lies-in index (entry .checked) start (chunkCount index) s refl in
+      omega (arith, l .inside, entry .within)
+
+  pub entry-is : (field : ℕ) → fieldAt index (start + 32 * k + field) 4 ≡ entryField (indexLayout index) index field k
+  entry-is field = field-is index start (chunkCount index) (opened-again index (entry .checked) start (chunkCount index) s refl) field k
+
+module _ (index : List ℕ) (k : ℕ) (entry : EntryOf index k) (at n : ℕ)
+    (p : at ≡ entryField (indexLayout index) index 24 k) (q : n ≡ entryField (indexLayout index) index 28 k) where
+  offset-is : at ≡ offsetAt (indexLayout index) index k
+  unfolding indexLayout
+  offset-is = p
+
+  length-is : n ≡ lengthAt (indexLayout index) index k
+  unfolding indexLayout
+  length-is = q
+
+  pub body-room : at + n ≤ length index
+  body-room = rw (offset-is, length-is) (index-good form1 index (entry .checked) .entries .within k (omega arith) (omega (arith, entry .within)) .1)
+
+  -- the slice that body_at takes
+  pub body-slice : take (at + n - at) (drop at index) ≡ bodyAt index k
+  unfolding bodyAt
+  body-slice = rw (add-sub-cancel-left, offset-is, length-is)
+
+  pub offset-found : at ≡ offsetAt (indexLayout index) index k
+  offset-found = offset-is
+
+-- ---- where a lookup's body is
+
+-- a fingerprint that is found has an entry
+module _ (index fp : List ℕ) (z : findBody form1 index fp ≡ 0) where
+  pub found-checked : indexCode form1 index ≡ 0
+  unfolding findBody
+  found-checked = passed-whole (indexCode form1 index) _ z .0
+
+  -- what the two tests behind the check say
+  found-tests : (not (eqb (length fp) 20) ≡ false) × (not (contains fp (indexKeys index)) ≡ false)
+  unfolding findBody
+  found-tests =
+      let b = passed (not (eqb (length fp) 20)) 19 _ (omega arith) (passed-whole (indexCode form1 index) _ z .1) in
+      (b .0, passed (not (contains fp (indexKeys index))) 15 _ (omega arith) (b .1) .0)
+
+  pub found-length : length fp ≡ 20
+  found-length = eqb-true (length fp) 20 (not-false (eqb (length fp) 20) (found-tests .0))
+
+  module _ (k : ℕ) (q : k ≡ positionOf fp (indexKeys index)) where
+    pub found-entry : EntryOf index k
+    found-entry =
+        let t : ltb (positionOf fp (indexKeys index)) (length (indexKeys index)) ≡ true =
+        sym (contains-position fp (indexKeys index)) ∙ not-false (contains fp (indexKeys index)) (found-tests .1) in
+        record { checked = found-checked; within = omega (arith, ltb-true (positionOf fp (indexKeys index)) (length (indexKeys index)) t, length-indexKeys index) }
+
+    pub start-found : entryField (indexLayout index) index 24 k ≡ bodyStart form1 index fp
+    unfolding bodyStart findBody indexLayout
+    start-found = rw (eq-eqb (findBody form1 index fp) 0 z) (ap (offsetAt (indexLayout index) index) q)
+
+    pub length-found : entryField (indexLayout index) index 28 k ≡ bodyLength form1 index fp
+    unfolding bodyLength findBody indexLayout
+    length-found = rw (eq-eqb (findBody form1 index fp) 0 z) (ap (lengthAt (indexLayout index) index) q)
+
+    pub slice-found : {whole r : RefT (List ℕ)} → SliceOf whole r (bodyAt index k) (offsetAt (indexLayout index) index k)
+        → SliceOf whole r (bodyOf form1 index fp) (bodyStart form1 index fp)
+    unfolding bodyAt bodyOf indexLayout
+    slice-found s = record {
+      holds = s .holds ∙ ap₂ (part index) start-found length-found;
+      block = s .block;
+      place = s .place ∙ rw start-found;
+    }
+
+module _ (index fp : List ℕ) (d : findBody form1 index fp ≢ 0) where
+  pub start-refused : 0 ≡ bodyStart form1 index fp
+  unfolding bodyStart findBody
+  start-refused = rw (ne-eqb (findBody form1 index fp) 0 d)
+
+  pub length-refused : 0 ≡ bodyLength form1 index fp
+  unfolding bodyLength findBody
+  length-refused = rw (ne-eqb (findBody form1 index fp) 0 d)
+
+  pub slice-refused : [] ≡ bodyOf form1 index fp
+  unfolding bodyOf
+  slice-refused = rw (← length-refused)

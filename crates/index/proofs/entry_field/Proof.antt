@@ -1,0 +1,39 @@
+use mathlib.Core.Path.{_≡_, refl, sym, ap, _∙_}
+use mathlib.Core.Logic.{_≢_, _⊎_, inl, inr}
+use mathlib.Core.Bool.{Bool, true, false}
+use Prim.Native.Nat.{ℕ, _+_, _-_, _*_, _/_, _%_, _≤_, _<_}
+use native.Mathlib.Omega.{arith}
+use lib.ListN.{length, getD, drop}
+use denote.Ref.{now}
+use borrow.Author.Needs.{needs}
+use native.Mathlib.Nat.{zero-add}
+use mathlib.Core.List.{List}
+use Rattle.index.proofs.LookupLaws.{entry-room, entry-is}
+use Rattle.index.proofs.entry_field.Statement.{statement}
+use Rattle.index.proofs.entry_field.Tie as tie
+use Rattle.index.proofs.entry_field.Reads as reads
+use Rattle.index.proofs.entry_field.Lts as lts
+use Rattle.field.proofs.read.Reads as read-reads
+use Rattle.index.proofs.start_of.Reads as start-of-reads
+
+start-of-requires : tie.Need-start-of-requires
+start-of-requires c κs = search needs
+
+mul-read : tie.Need-mul-read
+mul-read c = let r = entry-room (now (c .before .before .args .index)) (c .before .before .args .k) (c .before .before .pre .0) (c .start-of .result) (c .start-of .ensures) in record { fits = omega arith }
+
+add-read : tie.Need-add-read
+add-read c = let r = entry-room (now (c .before .before .args .index)) (c .before .before .args .k) (c .before .before .pre .0) (c .start-of .result) (c .start-of .ensures) in record { fits = omega arith }
+
+add-read-2 : tie.Need-add-read-2
+add-read-2 c = let r = entry-room (now (c .before .before .args .index)) (c .before .before .args .k) (c .before .before .pre .0) (c .start-of .result) (c .start-of .ensures) in record { fits = omega (arith, c .before .before .pre .1) }
+
+read-requires : tie.Need-read-requires
+read-requires c κs = let r = entry-room (now (c .before .before .args .index)) (c .before .before .args .k) (c .before .before .pre .0) (c .start-of .result) (c .start-of .ensures) in (omega arith, omega (arith, c .before .before .pre .1))
+
+returns : tie.Need-returns
+returns c = c .read .ensures ∙ entry-is (now (c .before .before .before .args .index)) (c .before .before .before .args .k) (c .before .before .before .pre .0) (c .before .start-of .result) (c .before .start-of .ensures) (c .before .before .before .args .at)
+
+pub entry-field-spec : {M : Type 1} → statement M
+entry-field-spec =
+    tie.close (tie.spec start-of-requires mul-read add-read add-read-2 read-requires returns)
