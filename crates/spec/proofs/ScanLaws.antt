@@ -42,7 +42,7 @@ form1-scans = record { good = form1-good; marked = refl; room = omega arith; sma
 
 -- ---- the records of a chunk, for an accepted list
 
-positive-lengths : (keywords : List (List ℕ)) → ((k : ℕ) → k < length keywords → Proper (getD keywords k [])) → allPositive (map length keywords) ≡ true
+pub positive-lengths : (keywords : List (List ℕ)) → ((k : ℕ) → k < length keywords → Proper (getD keywords k [])) → allPositive (map length keywords) ≡ true
 positive-lengths [] h = refl
 positive-lengths (x ∷ xs) h = rw (lt-ltb 0 (length x) (h 0 (zero-lt-suc _) .0), positive-lengths xs (λ k l. h (suc k) (omega arith)))
 

@@ -1,0 +1,205 @@
+-- The streams of a place give what the definition lists there. Assumes nothing.
+use mathlib.Core.Path.{_≡_, refl, sym, ap, ap₂, _∙_, subst}
+use mathlib.Core.Logic.{_≢_, _⊎_, inl, inr}
+use mathlib.Core.Bool.{Bool, true, false, _&&_, _||_, and-false, or-false}
+use mathlib.Core.List.{List, [], _∷_, _++_, map}
+use Prim.Native.Nat.{ℕ, zero, suc, _+_, _-_, _*_, _^_, _≤_, _<_}
+use native.Mathlib.Nat.{zero-add, add-zero, lt-of-lt-of-le}
+use native.Mathlib.Numerals.{add-one}
+use native.Mathlib.Omega.{arith}
+use borrow.Author.Count.{below-more}
+use lib.ListN.{length, getD, take, drop, set, length-set, length-drop, drop-of-length-le}
+use lib.Seq.{drop-cons, getD-drop, getD-set-same, getD-set-other}
+use lib.Dec.{leb, ltb}
+use lib.Pow.{pow-mono}
+use Rattle.spec.specs.Bytes.{fieldsOf, each, keep, member, rising, every}
+use Rattle.spec.specs.Keywords.{foldedKeywords}
+use Rattle.spec.specs.Table.{inCell, setOf}
+use Rattle.spec.specs.Records.{MatchRecord, ChunkRecords, recordAt, inRange, reach}
+use Rattle.spec.specs.Index.{listIn}
+use Rattle.spec.specs.Join.{Occurrence, keywordAt, hits, crosses, crossesInto, listed, joinFrom}
+use Rattle.spec.proofs.Tests.{leb-true, and-left, and-right, le-of-and}
+use Rattle.spec.proofs.Each.{each-match, passing, member-passing}
+use Rattle.spec.proofs.Hits.{hits-same}
+use Rattle.spec.proofs.Rising.{allBelow}
+use Rattle.spec.proofs.Sets.{set-lt}
+use Rattle.spec.proofs.Stream.{atPlace, stream, cell-no-suffix}
+use Rattle.spec.proofs.RecordRanges.{passing-rises, passing-every}
+use Rattle.spec.proofs.RecordLaws.{prefix-in, suffix-in, offsets-rise, offsets-in}
+use Rattle.tables.specs.Tabled.{cellSet, cellAt, Tabled}
+use Rattle.listing.specs.Streams.{below, bits, unread, streamOf, unreadAt, streamAt, occurrences, Ready, Opened}
+use Rattle.listing.proofs.Digits.{bits-set}
+use Rattle.loader.specs.Loaded.{Row, rowOf}
+use Rattle.walk.specs.Walking.{noChunk, chunkIn, firstSuffix, Keyed, LoadedAt, Crossable, Crossed}
+
+-- ---- filling the streams, one after the other
+
+pub record Crossing (size count : ℕ) (tables : List (List (List ℕ))) (here next streams : List (List ℕ)) (k : ℕ) : Type 0 where
+  pub long : count ≤ length streams
+  pub done : (m : ℕ) → m < k → streamOf streams m
+      ≡ size ∷ getD (rowOf here m) 2 0 ∷ getD (rowOf here m) 3 0 ∷ (size - getD (rowOf here m) 0 0) ∷ cellAt tables m (getD (rowOf here m) 0 0) (getD (rowOf next m) 1 0) ∷ []
+
+module _ (size count : ℕ) (tables : List (List (List ℕ))) (here next : List (List ℕ)) where
+  pub crossing-start : (streams : List (List ℕ)) → count ≤ length streams → Crossing size count tables here next streams 0
+  crossing-start streams l = record { long = l; done = λ m h. let z : ⊥ = omega arith in absurd z }
+
+  pub crossing-on : (streams : List (List ℕ)) (k x : ℕ) → Crossing size count tables here next streams k → k < count → x ≡ cellAt tables k (getD (rowOf here k) 0 0) (getD (rowOf next k) 1 0)
+      → Crossing size count tables here next (set streams k (size ∷ getD (rowOf here k) 2 0 ∷ getD (rowOf here k) 3 0 ∷ (size - getD (rowOf here k) 0 0) ∷ x ∷ [])) (k + 1)
+  crossing-on streams k x g h e =
+      let new : List ℕ = size ∷ getD (rowOf here k) 2 0 ∷ getD (rowOf here k) 3 0 ∷ (size - getD (rowOf here k) 0 0) ∷ x ∷ [] in
+      record {
+        long = rw length-set (g .long);
+        done = below-more (λ (m : ℕ). streamOf (set streams k new) m
+            ≡ size ∷ getD (rowOf here m) 2 0 ∷ getD (rowOf here m) 3 0 ∷ (size - getD (rowOf here m) 0 0) ∷ cellAt tables m (getD (rowOf here m) 0 0) (getD (rowOf next m) 1 0) ∷ []) k
+            (λ m l. getD-set-other streams k m new [] (λ q. omega arith) ∙ g .done m l)
+            (getD-set-same streams k new [] (omega (arith, g .long))
+            ∙ ap {B = List ℕ} (λ (y : ℕ). size ∷ getD (rowOf here k) 2 0 ∷ getD (rowOf here k) 3 0 ∷ (size - getD (rowOf here k) 0 0) ∷ y ∷ []) e);
+      }
+
+  pub crossing-end : (streams : List (List ℕ)) (k : ℕ) → Crossing size count tables here next streams k → count ≤ k → Crossed size count tables here next streams
+  crossing-end streams k g h = record { long = g .long; each = λ m l. g .done m (omega arith) }
+
+-- ---- lists in range
+
+-- offsets that leave room for the keyword stay below the recorded prefix
+pub below-prefix : (n size i : ℕ) (xs : List ℕ) → i < n → every (λ at. leb (at + n) size) xs ≡ true → allBelow (size - i) xs ≡ true
+below-prefix n size i [] h e = refl
+below-prefix n size i (x ∷ xs) h e =
+    let l : x + n ≤ size = le-of-and (x + n) size (every (λ at. leb (at + n) size) xs) e in
+    rw (leb-true (suc x) (size - i) (omega arith)) (below-prefix n size i xs h (and-right (leb (x + n) size) (every (λ at. leb (at + n) size) xs) e))
+
+-- a keyword's stream is the numbers that pass its test
+pub stream-is : (w offsets : List ℕ) (i j size : ℕ) → rising offsets ≡ true → allBelow (size - i) offsets ≡ true → i ≤ size → i ≤ 32
+    → offsets ++ bits 32 (size - i) (setOf (inCell w i j) i) ≡ passing (atPlace w offsets i j size) 0 size
+stream-is w offsets i j size up under short small =
+    ap {B = List ℕ} (λ l. offsets ++ l) (bits-set (inCell w i j) i 32 (size - i) small) ∙ sym (stream w offsets i j size up under short)
+
+-- the test of the definition
+listed-is : (keywords : List (List ℕ)) (here : ChunkRecords) (rest : List ChunkRecords) (p k : ℕ) → recordAt here k .prefix < length (keywordAt keywords k)
+    → listed keywords here rest p k ≡ atPlace (keywordAt keywords k) (recordAt here k .offsets) (recordAt here k .prefix) (firstSuffix rest k) (here .size) p
+unfolding listed crosses
+listed-is keywords here [] p k h = rw (cell-no-suffix (keywordAt keywords k) (recordAt here k .prefix) (recordAt here k .prefix - (here .size - p)) h, and-false)
+listed-is keywords here (next ∷ rest) p k h = refl
+
+pub occurrences-same : (file count base size : ℕ) (s t : ℕ → List ℕ) → ((k : ℕ) → k < count → s k ≡ t k) → occurrences file count base size s ≡ occurrences file count base size t
+unfolding occurrences
+occurrences-same file count base size s t h = each-match _ _ 0 0 size (λ p l. hits-same file count (base + (0 + p)) _ _ (λ k hk. rw (h k hk)))
+
+-- streams that are the numbers which pass tests give what passes them
+occurrences-are : (file count base size : ℕ) (s : ℕ → List ℕ) (t : ℕ → ℕ → Bool) → ((k : ℕ) → k < count → s k ≡ passing (t k) 0 size)
+    → occurrences file count base size s ≡ each (λ p. hits file count (λ k. t k p) (base + p)) 0 size
+unfolding occurrences
+occurrences-are file count base size s t h =
+    each-match _ _ 0 0 size (λ p l. hits-same file count (base + (0 + p)) _ _ (λ k hk. rw (h k hk) (member-passing (t k) (0 + p) 0 size (omega arith) (omega arith))))
+
+-- ---- a place
+
+-- every chunk's records are in range, for keywords of 1 to 32 bytes
+pub record AllGood (keywords : List (List ℕ)) (chunks : List ChunkRecords) : Type 0 where
+  pub proper : (k : ℕ) → k < length keywords → (1 ≤ length (keywordAt keywords k)) × (length (keywordAt keywords k) ≤ 32)
+  pub ranges : (n : ℕ) → n < length chunks → (k : ℕ) → k < length keywords → inRange (length (keywordAt keywords k)) (chunkIn chunks n .size) (recordAt (chunkIn chunks n) k) ≡ true
+
+module _ (keywords : List (List ℕ)) (chunks : List ChunkRecords) (good : AllGood keywords chunks) where
+  prefix-le : (n : ℕ) → n < length chunks → (k : ℕ) → k < length keywords → recordAt (chunkIn chunks n) k .prefix ≤ reach (length (keywordAt keywords k)) (chunkIn chunks n .size)
+  prefix-le n h k u = prefix-in (length (keywordAt keywords k)) (chunkIn chunks n .size) (recordAt (chunkIn chunks n) k) (good .ranges n h k u)
+
+  prefix-small : (n : ℕ) → n < length chunks → (k : ℕ) → k < length keywords → recordAt (chunkIn chunks n) k .prefix < length (keywordAt keywords k)
+  unfolding reach
+  prefix-small n h k u = omega (arith, prefix-le n h k u, good .proper k u .0)
+
+  prefix-short : (n : ℕ) → n < length chunks → (k : ℕ) → k < length keywords → recordAt (chunkIn chunks n) k .prefix ≤ chunkIn chunks n .size
+  unfolding reach
+  prefix-short n h k u = omega (arith, prefix-le n h k u)
+
+  suffix-one : (n : ℕ) → n < length chunks → (k : ℕ) → k < length keywords → recordAt (chunkIn chunks n) k .suffix < length (keywordAt keywords k)
+  unfolding reach
+  suffix-one n h k u =
+      omega (arith, suffix-in (length (keywordAt keywords k)) (chunkIn chunks n .size) (recordAt (chunkIn chunks n) k) (good .ranges n h k u), good .proper k u .0)
+
+  suffix-small : (n k : ℕ) → k < length keywords → firstSuffix (drop n chunks) k < length (keywordAt keywords k)
+  suffix-small n k u = go (drop n chunks) refl
+    where
+      go : (l : List ChunkRecords) → drop n chunks ≡ l → firstSuffix l k < length (keywordAt keywords k)
+      go [] e = omega (arith, good .proper k u .0)
+      go (c ∷ l) e =
+          let m : n < length chunks = omega (arith, ap length e, length-drop n chunks) in
+          let q : c ≡ chunkIn chunks n = ap (λ (x : List ChunkRecords). getD x 0 noChunk) (sym e) ∙ getD-drop n chunks 0 noChunk ∙ ap (λ (i : ℕ). getD chunks i noChunk) (add-zero n) in
+          rw q (suffix-one n m k u)
+
+module _ (index : List ℕ) (count : ℕ) (tables : List (List (List ℕ))) (chunks : List ChunkRecords) (keyed : Keyed index count tables) (good : AllGood (foldedKeywords (listIn index)) chunks)
+    (n : ℕ) (rows rows′ : List (List ℕ)) (size size′ : ℕ) (h : n < length chunks) (l : LoadedAt index count chunks n rows size) (l′ : LoadedAt index count chunks (n + 1) rows′ size′) where
+  abbrev keywords : List (List ℕ)
+  keywords = foldedKeywords (listIn index)
+
+  abbrev here : ChunkRecords
+  here = chunkIn chunks n
+
+  abbrev rest : List ChunkRecords
+  rest = drop (n + 1) chunks
+
+  in-keywords : (k : ℕ) → k < count → k < length keywords
+  in-keywords k u = omega (arith, keyed .counts)
+
+  pub crossable : Crossable size count rows rows′
+  crossable =
+      record {
+        short = λ k u. omega (arith, l .each k u h .prefix, l .sized h, prefix-short keywords chunks good n h k (in-keywords k u));
+        row = λ k u. omega (arith, l .each k u h .prefix, prefix-small keywords chunks good n h k (in-keywords k u), good .proper k (in-keywords k u) .1);
+        column = λ k u. omega (arith, l′ .suffix k u, suffix-small keywords chunks good (n + 1) k (in-keywords k u), good .proper k (in-keywords k u) .1);
+      }
+
+  abbrev test : ℕ → ℕ → Bool
+  test k = atPlace (keywordAt keywords k) (recordAt here k .offsets) (recordAt here k .prefix) (firstSuffix rest k) size
+
+  cell-is : (k : ℕ) → k < count → cellAt tables k (getD (rowOf rows k) 0 0) (getD (rowOf rows′ k) 1 0)
+      ≡ setOf (inCell (keywordAt keywords k) (recordAt here k .prefix) (firstSuffix rest k)) (recordAt here k .prefix)
+  unfolding cellSet
+  cell-is k u =
+      let v = in-keywords k u in
+      rw (l .each k u h .prefix, l′ .suffix k u)
+      (keyed .tabled .table k v .row (recordAt here k .prefix) (prefix-small keywords chunks good n h k v) .cell (firstSuffix rest k) (suffix-small keywords chunks good (n + 1) k v))
+
+  module _ (streams : List (List ℕ)) (c : Crossed size count tables rows rows′ streams) where
+    unread-is : (k : ℕ) → k < count → unreadAt index 2 streams k ≡ passing (test k) 0 size
+    unfolding unread
+    unread-is k u =
+        let v = in-keywords k u in
+        let r = l .each k u h in
+        let g = good .ranges n h k v in
+        let w : length (keywordAt keywords k) ≤ 32 = good .proper k v .1 in
+        let p = prefix-small keywords chunks good n h k v in
+        rw (c .each k u, r .offsets, cell-is k u, r .prefix)
+        (stream-is (keywordAt keywords k) (recordAt here k .offsets) (recordAt here k .prefix) (firstSuffix rest k) size
+        (offsets-rise (length (keywordAt keywords k)) (here .size) (recordAt here k) g)
+        (rw (l .sized h) (below-prefix (length (keywordAt keywords k)) (here .size) (recordAt here k .prefix) (recordAt here k .offsets) p (offsets-in (length (keywordAt keywords k)) (here .size) (recordAt here k) g)))
+        (rw (l .sized h) (prefix-short keywords chunks good n h k v)) (omega arith))
+
+    pub place-ready : Ready index 2 size count streams
+    place-ready =
+        record {
+          long = c .long;
+          each = λ k u. record {
+            up = ap rising (unread-is k u) ∙ passing-rises (test k) 0 size;
+            under = ap (below size) (unread-is k u) ∙ passing-every (test k) (λ x. ltb x size) 0 size (λ x a b t. leb-true (suc x) size (omega arith));
+            inside = rw (c .each k u) (l .each k u h .inside);
+            set = rw (c .each k u, cell-is k u) (lt-of-lt-of-le (set-lt (inCell (keywordAt keywords k) (recordAt here k .prefix) (firstSuffix rest k)) (recordAt here k .prefix)) (pow-mono {i = recordAt here k .prefix} {j = 32} (omega (arith, prefix-small keywords chunks good n h k (in-keywords k u), good .proper k (in-keywords k u) .1))));
+          };
+        }
+
+    place-is : (file base : ℕ) → occurrences file count base size (unreadAt index 2 streams) ≡ each (λ p. hits file (length keywords) (listed keywords here rest p) (base + p)) 0 size
+    place-is file base =
+        occurrences-are file count base size _ test unread-is
+        ∙ ap (λ (m : ℕ). each (λ p. hits file m (λ k. test k p) (base + p)) 0 size) (keyed .counts)
+        ∙ each-match _ _ 0 0 size (λ x u. hits-same file (length keywords) (base + (0 + x)) _ _ (λ k v.
+        sym (listed-is keywords here rest (0 + x) k (prefix-small keywords chunks good n h k v)
+        ∙ ap (λ (z : ℕ). atPlace (keywordAt keywords k) (recordAt here k .offsets) (recordAt here k .prefix) (firstSuffix rest k) z (0 + x)) (sym (l .sized h)))))
+
+    -- what the definition lists from this place on: what the streams give, and then the places behind
+    pub place-join : (file base : ℕ) → joinFrom file keywords base (drop n chunks) ≡ occurrences file count base size (unreadAt index 2 streams) ++ joinFrom file keywords (base + size) (drop (n + 1) chunks)
+    unfolding joinFrom
+    place-join file base =
+        let e : drop (suc n) chunks ≡ drop (n + 1) chunks = ap (λ (m : ℕ). drop m chunks) (sym (add-one n)) in
+        ap (joinFrom file keywords base) (drop-cons chunks n noChunk h)
+        ∙ ap {B = List Occurrence} (λ (r : List ChunkRecords). each (λ p. hits file (length keywords) (listed keywords here r p) (base + p)) 0 (here .size) ++ joinFrom file keywords (base + here .size) r) e
+        ∙ ap {B = List Occurrence} (λ (z : ℕ). each (λ p. hits file (length keywords) (listed keywords here rest p) (base + p)) 0 z ++ joinFrom file keywords (base + z) rest) (sym (l .sized h))
+        ∙ ap {B = List Occurrence} (λ (x : List Occurrence). x ++ joinFrom file keywords (base + size) rest) (sym (place-is file base))

@@ -1,0 +1,138 @@
+-- `walk::cross` meets its contract.
+use mathlib.Core.List.{List}
+use Prim.Native.Nat.{ℕ, _+_, _-_, _*_, _≤_, _<_}
+use native.Mathlib.Omega.{arith}
+use lib.ListN.{length, getD}
+use Rattle.walk.proofs.Places.{Crossing, crossing-start, crossing-on, crossing-end}
+use borrow.Author.Needs.{needs}
+use Rattle.walk.proofs.cross.Statement.{statement}
+use Rattle.walk.proofs.cross.Tie as tie
+use Rattle.walk.proofs.cross.Reads as reads
+use Rattle.walk.proofs.cross.Lts as lts
+use Rattle.walk.proofs.wide.Reads as wide-reads
+
+abbrev Inv-loop : tie.InvT-loop
+Inv-loop size count tables here next streams₀ k₀ streams k = (k ≤ count) × Crossing size count tables here next streams k
+
+abbrev μ-loop : tie.MeasureT-loop
+μ-loop size count tables here next streams₀ k₀ streams k = count - k
+
+loop-holds : tie.Need-loop-holds Inv-loop μ-loop
+loop-holds c =     let a = c .args in
+    (omega arith, crossing-start (a .size) (a .count) (a .tables .now) (a .here .now) (a .next .now) (a .streams .now) (c .pre .1))
+
+mul-i : tie.Need-mul-i Inv-loop μ-loop
+mul-i c = omega arith
+
+index-1-i : tie.Need-index-1-i Inv-loop μ-loop
+index-1-i c = omega arith
+
+index-2-i : tie.Need-index-2-i Inv-loop μ-loop
+index-2-i c = omega arith
+
+mul-j : tie.Need-mul-j Inv-loop μ-loop
+mul-j c = omega arith
+
+index-1-j : tie.Need-index-1-j Inv-loop μ-loop
+index-1-j c = omega arith
+
+index-2-j : tie.Need-index-2-j Inv-loop μ-loop
+index-2-j c = omega arith
+
+mul-wide : tie.Need-mul-wide Inv-loop μ-loop
+mul-wide c = omega arith
+
+mul-wide-2 : tie.Need-mul-wide-2 Inv-loop μ-loop
+mul-wide-2 c = omega (arith, c .before .before .before .before .pre .2 .row (c .before .before .before .loop .k) (omega arith))
+
+mul-wide-3 : tie.Need-mul-wide-3 Inv-loop μ-loop
+mul-wide-3 c = omega (arith, c .before .before .before .before .pre .2 .column (c .before .before .before .loop .k) (omega arith))
+
+index-1-wide : tie.Need-index-1-wide Inv-loop μ-loop
+index-1-wide c = omega arith
+
+index-2-wide : tie.Need-index-2-wide Inv-loop μ-loop
+index-2-wide c = omega (arith, c .before .before .before .before .pre .2 .row (c .before .before .before .loop .k) (omega arith))
+
+index-3-wide : tie.Need-index-3-wide Inv-loop μ-loop
+index-3-wide c = omega (arith, c .before .before .before .before .pre .2 .column (c .before .before .before .loop .k) (omega arith))
+
+wide-requires : tie.Need-wide-requires Inv-loop μ-loop
+wide-requires c κs = search needs
+
+mul-at : tie.Need-mul-at Inv-loop μ-loop
+mul-at c = omega arith
+
+index-1-at : tie.Need-index-1-at Inv-loop μ-loop
+index-1-at c = omega arith
+
+index-2-at : tie.Need-index-2-at Inv-loop μ-loop
+index-2-at c = omega arith
+
+mul-left : tie.Need-mul-left Inv-loop μ-loop
+mul-left c = omega arith
+
+index-1-left : tie.Need-index-1-left Inv-loop μ-loop
+index-1-left c = omega arith
+
+index-2-left : tie.Need-index-2-left Inv-loop μ-loop
+index-2-left c = omega arith
+
+sub-t15 : tie.Need-sub-t15 Inv-loop μ-loop
+sub-t15 c = c .before .before .before .before .before .before .before .before .pre .2 .short (c .before .before .before .before .before .before .before .loop .k) (c .before .before .before .before .before .before .loop-test .taken)
+
+mul-s : tie.Need-mul-s Inv-loop μ-loop
+mul-s c = omega arith
+
+element-set-from-s : tie.Need-element-set-from-s Inv-loop μ-loop
+element-set-from-s c = omega arith
+
+add-k : tie.Need-add-k Inv-loop μ-loop
+add-k c = omega arith
+
+loop-less : tie.Need-loop-less Inv-loop μ-loop
+loop-less c = omega arith
+
+loop-again : tie.Need-loop-again Inv-loop μ-loop
+loop-again c =     let p = c .before .before .before .before .before .before .before in
+    let a = p .before .args in
+    (omega (arith, c .before .before .before .before .before .before .loop-test .taken), crossing-on (a .size) (a .count) (a .tables .now) (a .here .now) (a .next .now) (p .loop .streams) (p .loop .k) (c .before .before .wide .result) (p .loop .inv .1) (c .before .before .before .before .before .before .loop-test .taken) (c .before .before .wide .ensures))
+
+returns : tie.Need-returns Inv-loop μ-loop
+returns c =     let p = c .before in
+    let a = p .before .args in
+    crossing-end (a .size) (a .count) (a .tables .now) (a .here .now) (a .next .now) (p .loop .streams) (p .loop .k) (p .loop .inv .1) (omega arith)
+
+pub cross-spec : {M : Type 1} → statement M
+cross-spec =
+    tie.close
+    (tie.spec
+    Inv-loop
+    μ-loop
+    loop-holds
+    mul-i
+    index-1-i
+    index-2-i
+    mul-j
+    index-1-j
+    index-2-j
+    mul-wide
+    mul-wide-2
+    mul-wide-3
+    index-1-wide
+    index-2-wide
+    index-3-wide
+    wide-requires
+    mul-at
+    index-1-at
+    index-2-at
+    mul-left
+    index-1-left
+    index-2-left
+    sub-t15
+    mul-s
+    element-set-from-s
+    add-k
+    loop-less
+    loop-again
+    returns)

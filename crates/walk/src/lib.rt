@@ -1,0 +1,169 @@
+// The occurrences of a file, one after the other, across its places. A file is a run of fingerprints in the recipes; each is looked up in
+// the index when the place before it is opened.
+ghost use mathlib.Core.Path.{_≡_};
+ghost use Prim.Native.Nat.{_+_, _*_, _/_, _^_, _≤_, _<_};
+ghost use lib.ListN.{length, getD};
+ghost use Rattle.spec.specs.Records.{form1};
+ghost use Rattle.spec.specs.Keywords.{foldedKeywords};
+ghost use Rattle.spec.specs.Index.{listIn};
+ghost use Rattle.spec.specs.Join.{joinFile};
+ghost use Rattle.walk.specs.Walking.{chunksIn, Directory, File, Walkable, LoadedAt, Crossable, Crossed, AtPlace, Moved, NextOf, Counted, Listed};
+
+// Bytes of an offset.
+const WIDTH: usize = 2;
+
+// A row is prefix, suffix, the place of the list of offsets, and how many there are.
+const PREFIX: usize = 0;
+const SUFFIX: usize = 1;
+const PLACE: usize = 2;
+const LEFT: usize = 3;
+
+// Loads place n of a file, and returns its size. Behind the last place nothing is to be crossed into.
+fn load(
+    index: &[u8],
+    directory: usize,
+    entries: usize,
+    heads: &[u32],
+    chain: &[u32],
+    file: &[u8],
+    n: usize,
+    count: usize,
+    rows: &mut [[usize; 4]; 16],
+) -> usize
+    requires { ⌜ Directory (now index) directory entries (now heads) (now chain) ⌝ }
+    requires { ⌜ File (now index) (now file) ⌝ }
+    requires { ⌜ (count ≡ length (foldedKeywords (listIn (now index)))) × (count ≤ 16) × (count ≤ length (now rows)) ⌝ }
+    ensures { λ r. ⌜ LoadedAt (now (index .entry)) count (chunksIn (now (index .entry)) (now (file .entry))) n (now (rows .exit)) r ⌝ }
+{
+    if file.len() / 20 <= n {
+        let none = [[0usize; 4]; 16];
+        *rows = none;
+        return 0;
+    }
+    let e = directory::find(
+        index,
+        directory,
+        32,
+        entries,
+        heads,
+        chain,
+        &file[20 * n..20 * n + 20],
+    );
+    let entry = directory + 32 * e;
+    let from = field::read(index, entry + 24, 4) as usize;
+    let long = field::read(index, entry + 28, 4) as usize;
+    loader::load(index, from, long, count, rows);
+    field::read(index, entry + 20, 4) as usize
+}
+
+// A set as a number.
+fn wide(set: u32) -> usize
+    ensures { λ r. ⌜ r ≡ set ⌝ }
+{
+    set as usize
+}
+
+// Fills the streams of a place, before they are opened: its own offsets, and its starts that cross into the next place.
+fn cross(
+    size: usize,
+    count: usize,
+    tables: &[[[u32; 32]; 32]; 16],
+    here: &[[usize; 4]; 16],
+    next: &[[usize; 4]; 16],
+    streams: &mut [[usize; 5]; 16],
+)
+    requires { ⌜ (count ≤ 16) × (count ≤ length (now streams)) × Crossable size count (now here) (now next) ⌝ }
+    ensures { λ _. ⌜ Crossed size count (now (tables .entry)) (now (here .entry)) (now (next .entry)) (now (streams .exit)) ⌝ }
+{
+    let mut k: usize = 0;
+    while k < count {
+        let i = here[k][PREFIX];
+        let j = next[k][SUFFIX];
+        let set = wide(tables[k][i][j]);
+        let at = here[k][PLACE];
+        let left = here[k][LEFT];
+        let s = [size, at, left, size - i, set];
+        streams[k] = s;
+        k += 1;
+    }
+}
+
+// Opens the next place. `here` has the number of the next place to open, where the open place starts, its size, and the next place's size.
+fn move_on(
+    index: &[u8],
+    directory: usize,
+    entries: usize,
+    heads: &[u32],
+    chain: &[u32],
+    tables: &[[[u32; 32]; 32]; 16],
+    file: &[u8],
+    count: usize,
+    here: &mut [usize; 4],
+    streams: &mut [[usize; 5]; 16],
+    rows: &mut [[usize; 4]; 16],
+)
+    requires { ⌜ Walkable (now index) directory entries (now heads) (now chain) (now tables) (now file) count ⌝ }
+    requires { ⌜ AtPlace (now index) count (chunksIn (now index) (now file)) (now here) (now streams) (now rows) ⌝ }
+    requires { ⌜ getD (now here) 0 0 < length (now file) / 20 ⌝ }
+    ensures { λ _. ⌜ Moved (now (index .entry)) count (chunksIn (now (index .entry)) (now (file .entry))) (now (here .entry)) (now (here .exit)) (now (streams .exit)) (now (rows .exit)) ⌝ }
+{
+    let n = here[0];
+    let size = here[3];
+    let first = *rows;
+    here[1] = here[1] + here[2];
+    here[2] = size;
+    here[0] = n + 1;
+    here[3] = load(index, directory, entries, heads, chain, file, n + 1, count, rows);
+    cross(size, count, tables, &first, rows, streams);
+    listing::open(index, WIDTH, size, count, streams);
+}
+
+// The next occurrence of a file: its keyword, and its offset in the file. The keyword is `count` where there is none.
+pub fn next(
+    index: &[u8],
+    directory: usize,
+    entries: usize,
+    heads: &[u32],
+    chain: &[u32],
+    tables: &[[[u32; 32]; 32]; 16],
+    file: &[u8],
+    count: usize,
+    here: &mut [usize; 4],
+    streams: &mut [[usize; 5]; 16],
+    rows: &mut [[usize; 4]; 16],
+) -> listing::Taken
+    requires { ⌜ Walkable (now index) directory entries (now heads) (now chain) (now tables) (now file) count ⌝ }
+    requires { ⌜ AtPlace (now index) count (chunksIn (now index) (now file)) (now here) (now streams) (now rows) ⌝ }
+    ensures { λ r. ⌜ NextOf (now (index .entry)) count (chunksIn (now (index .entry)) (now (file .entry))) (now (here .entry)) (now (streams .entry))
+        (now (here .exit)) (now (streams .exit)) (now (rows .exit)) (r .keyword) (r .offset) ⌝ }
+{
+    loop {
+        let size = here[2];
+        let t = listing::next(index, WIDTH, size, count, streams);
+        if t.offset < size {
+            return listing::Taken {
+                keyword: t.keyword,
+                offset: here[1] + t.offset,
+            };
+        }
+        if file.len() / 20 <= here[0] {
+            return listing::Taken {
+                keyword: count,
+                offset: 0,
+            };
+        }
+        move_on(
+            index,
+            directory,
+            entries,
+            heads,
+            chain,
+            tables,
+            file,
+            count,
+            here,
+            streams,
+            rows,
+        );
+    }
+}
