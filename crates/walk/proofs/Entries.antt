@@ -34,6 +34,12 @@ module _ (index file : List ℕ) where
   unfolding chunksIn fileRecords
   chunks-length = length-map (keysOf 20 (length file / 20) file) _ ∙ length-keys 20 (length file / 20) file
 
+  pub in-chunks : (n : ℕ) → n < length file / 20 → n < length (chunksIn index file)
+  in-chunks n h = omega (arith, chunks-length)
+
+  pub out-chunks : (n : ℕ) → length file / 20 ≤ n → length (chunksIn index file) ≤ n
+  out-chunks n h = omega (arith, chunks-length)
+
   pub chunk-at : (n : ℕ) → n < length file / 20 → chunkIn (chunksIn index file) n ≡ indexRecords form1 index (positionOf (part file (20 * n) 20) (indexKeys index))
   unfolding chunksIn fileRecords
   chunk-at n h =

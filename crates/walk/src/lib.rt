@@ -14,8 +14,11 @@ const WIDTH: usize = 2;
 
 // A row is prefix, suffix, the place of the list of offsets, and how many there are.
 const PREFIX: usize = 0;
+
 const SUFFIX: usize = 1;
+
 const PLACE: usize = 2;
+
 const LEFT: usize = 3;
 
 // Loads place n of a file, and returns its size. Behind the last place nothing is to be crossed into.
@@ -113,7 +116,17 @@ fn move_on(
     here[1] = here[1] + here[2];
     here[2] = size;
     here[0] = n + 1;
-    here[3] = load(index, directory, entries, heads, chain, file, n + 1, count, rows);
+    here[3] = load(
+        index,
+        directory,
+        entries,
+        heads,
+        chain,
+        file,
+        n + 1,
+        count,
+        rows,
+    );
     cross(size, count, tables, &first, rows, streams);
     listing::open(index, WIDTH, size, count, streams);
 }

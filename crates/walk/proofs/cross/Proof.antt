@@ -18,7 +18,7 @@ abbrev μ-loop : tie.MeasureT-loop
 μ-loop size count tables here next streams₀ k₀ streams k = count - k
 
 loop-holds : tie.Need-loop-holds Inv-loop μ-loop
-loop-holds c =     let a = c .args in
+loop-holds c = let a = c .args in
     (omega arith, crossing-start (a .size) (a .count) (a .tables .now) (a .here .now) (a .next .now) (a .streams .now) (c .pre .1))
 
 mul-i : tie.Need-mul-i Inv-loop μ-loop
@@ -94,12 +94,12 @@ loop-less : tie.Need-loop-less Inv-loop μ-loop
 loop-less c = omega arith
 
 loop-again : tie.Need-loop-again Inv-loop μ-loop
-loop-again c =     let p = c .before .before .before .before .before .before .before in
+loop-again c = let p = c .before .before .before .before .before .before .before in
     let a = p .before .args in
     (omega (arith, c .before .before .before .before .before .before .loop-test .taken), crossing-on (a .size) (a .count) (a .tables .now) (a .here .now) (a .next .now) (p .loop .streams) (p .loop .k) (c .before .before .wide .result) (p .loop .inv .1) (c .before .before .before .before .before .before .loop-test .taken) (c .before .before .wide .ensures))
 
 returns : tie.Need-returns Inv-loop μ-loop
-returns c =     let p = c .before in
+returns c = let p = c .before in
     let a = p .before .args in
     crossing-end (a .size) (a .count) (a .tables .now) (a .here .now) (a .next .now) (p .loop .streams) (p .loop .k) (p .loop .inv .1) (omega arith)
 

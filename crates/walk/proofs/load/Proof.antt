@@ -27,7 +27,7 @@ room c =
     entry-room (a .index .now) (a .directory) (a .entries) (a .heads .now) (a .chain .now) (s .pre .0) (c .find .result) (inside c)
 
 returns : tie.Need-returns
-returns c =     let s = c .before .before .before .before .before in
+returns c = let s = c .before .before .before .before .before in
     none-loaded (s .args .index .now) (s .args .file .now) (s .args .n) (s .args .count) 0 (c .if1 .taken) (s .pre .1 .1 .1)
 
 mul-find : tie.Need-mul-find
@@ -49,10 +49,11 @@ part-find-end : tie.Need-part-find-end
 part-find-end c = search needs
 
 find-requires : tie.Need-find-requires
-find-requires c κs =     let s = c .before .before .before .before .before .before in
-    let a = s .args in
-    (lies (a .index .now) (a .directory) (a .entries) (a .heads .now) (a .chain .now) (s .pre .0),
-    (s .pre .0 .chained, probe-length (a .index .now) (a .directory) (a .entries) (a .heads .now) (a .chain .now) (a .file .now) (s .pre .0) (s .pre .1 .0) (a .n) (c .before .if1 .left)))
+find-requires c κs = let s = c .before .before .before .before .before .before in
+    let a = s .args in (
+      lies (a .index .now) (a .directory) (a .entries) (a .heads .now) (a .chain .now) (s .pre .0),
+      (s .pre .0 .chained, probe-length (a .index .now) (a .directory) (a .entries) (a .heads .now) (a .chain .now) (a .file .now) (s .pre .0) (s .pre .1 .0) (a .n) (c .before .if1 .left)),
+    )
 
 mul-entry : tie.Need-mul-entry
 mul-entry c = omega (arith, room c, c .before .before .before .before .before .before .before)
@@ -73,7 +74,7 @@ read-requires-2 : tie.Need-read-requires-2
 read-requires-2 c κs = omega (arith, room (c .before))
 
 load-requires : tie.Need-load-requires
-load-requires c κs =     let r = c .before in
+load-requires c κs = let r = c .before in
     let f = r .before .before in
     let s = f .before .before .before .before .before .before .before in
     let a = s .args in
@@ -90,7 +91,7 @@ read-requires-3 : tie.Need-read-requires-3
 read-requires-3 c κs = omega (arith, room (c .before .before .before .before))
 
 returns-2 : tie.Need-returns-2
-returns-2 c =     let o = c .before in
+returns-2 c = let o = c .before in
     let r = o .before .before in
     let f = r .before .before in
     let s = f .before .before .before .before .before .before .before in
