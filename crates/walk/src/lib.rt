@@ -7,7 +7,7 @@ ghost use Rattle.spec.specs.Records.{form1};
 ghost use Rattle.spec.specs.Keywords.{foldedKeywords};
 ghost use Rattle.spec.specs.Index.{listIn};
 ghost use Rattle.spec.specs.Join.{joinFile};
-ghost use Rattle.walk.specs.Walking.{chunksIn, Directory, File, Walkable, LoadedAt, Crossable, Crossed, AtPlace, Moved, NextOf, Counted, Listed};
+ghost use Rattle.walk.specs.Walking.{chunksIn, Directory, File, Keyed, Walkable, LoadedAt, Crossable, Crossed, AtPlace, Moved, NextOf, Counted, Listed};
 
 // Bytes of an offset.
 const WIDTH: usize = 2;
@@ -178,5 +178,114 @@ pub fn next(
             streams,
             rows,
         );
+    }
+}
+
+// How many occurrences a file has.
+pub fn count_file(
+    index: &[u8],
+    directory: usize,
+    entries: usize,
+    heads: &[u32],
+    chain: &[u32],
+    file: &[u8],
+    count: usize,
+    tables: &[[[u32; 32]; 32]; 16],
+) -> usize
+    requires { ⌜ Directory (now index) directory entries (now heads) (now chain) ⌝ }
+    requires { ⌜ File (now index) (now file) ⌝ }
+    requires { ⌜ Keyed (now index) count (now tables) ⌝ }
+    ensures { λ r. ⌜ Counted (now (index .entry)) (now (file .entry)) r ⌝ }
+{
+    let mut rows = [[0usize; 4]; 16];
+    let mut streams = [[0usize; 5]; 16];
+    let mut size = load(
+        index,
+        directory,
+        entries,
+        heads,
+        chain,
+        file,
+        0,
+        count,
+        &mut rows,
+    );
+    let mut sum: usize = 0;
+    let mut n: usize = 0;
+    while n < file.len() / 20 {
+        let first = rows;
+        let after = load(
+            index,
+            directory,
+            entries,
+            heads,
+            chain,
+            file,
+            n + 1,
+            count,
+            &mut rows,
+        );
+        cross(size, count, tables, &first, &rows, &mut streams);
+        sum += listing::count_all(&streams, count);
+        size = after;
+        n += 1;
+    }
+    sum
+}
+
+// Lists the occurrences of a file, from a place of the buffer on, and returns the place behind.
+pub fn list_file(
+    index: &[u8],
+    directory: usize,
+    entries: usize,
+    heads: &[u32],
+    chain: &[u32],
+    file: &[u8],
+    count: usize,
+    tables: &[[[u32; 32]; 32]; 16],
+    number: usize,
+    out: &mut [u8],
+    place: usize,
+) -> usize
+    requires { ⌜ Directory (now index) directory entries (now heads) (now chain) ⌝ }
+    requires { ⌜ File (now index) (now file) ⌝ }
+    requires { ⌜ Keyed (now index) count (now tables) ⌝ }
+    requires { ⌜ place + 9 * length (joinFile number (foldedKeywords (listIn (now index))) (chunksIn (now index) (now file))) ≤ length (now out) ⌝ }
+    ensures { λ r. ⌜ Listed (now (index .entry)) (now (file .entry)) number (now (out .entry)) (now (out .exit)) place r ⌝ }
+{
+    let mut here = [0usize; 4];
+    let mut streams = [[0usize; 5]; 16];
+    let mut rows = [[0usize; 4]; 16];
+    here[3] = load(
+        index,
+        directory,
+        entries,
+        heads,
+        chain,
+        file,
+        0,
+        count,
+        &mut rows,
+    );
+    let mut p = place;
+    loop {
+        let t = next(
+            index,
+            directory,
+            entries,
+            heads,
+            chain,
+            tables,
+            file,
+            count,
+            &mut here,
+            &mut streams,
+            &mut rows,
+        );
+        if count <= t.keyword {
+            return p;
+        }
+        listing::put(out, p, number as u64, t.offset as u64, t.keyword);
+        p += 9;
     }
 }
