@@ -1,20 +1,20 @@
 -- The record check of document 01's form, kind by kind: what each test of the code says of `goodSize`.
-use mathlib.Core.Path.{_≡_, refl, sym, ap, ap₂, _∙_, subst}
+use mathlib.Core.Path.{_≡_, refl, sym, ap, _∙_}
 use mathlib.Core.Logic.{_≢_, _⊎_, inl, inr}
-use mathlib.Core.Bool.{Bool, true, false, _&&_, not, cond, and-false, and-true, false≢true}
-use mathlib.Core.List.{List, [], _∷_, _++_}
-use Prim.Native.Nat.{ℕ, zero, suc, _+_, _-_, _*_, _/_, _%_, _≤_, _<_, min}
+use mathlib.Core.Bool.{Bool, true, false, _&&_, not, cond, and-false, false≢true}
+use mathlib.Core.List.{List, [], _∷_}
+use Prim.Native.Nat.{ℕ, zero, suc, _+_, _*_, _/_, _%_, _≤_, _<_, min}
 use native.Mathlib.Omega.{arith}
-use lib.Dec.{eqb, leb, ltb}
+use lib.Dec.{eqb, leb}
 use lib.ListN.{length, take, drop, getD}
-use Rattle.spec.specs.Bytes.{leValue, fieldAt, fieldsOf, rising, every}
-use Rattle.spec.specs.Records.{MatchRecord, Form, form1, isEmpty, isTiny, reach, kindOf, readOffsets, readRecord, recordSize}
+use Rattle.spec.specs.Bytes.{leValue, fieldAt, fieldsOf, rising}
+use Rattle.spec.specs.Records.{MatchRecord, form1, isEmpty, isTiny, reach, kindOf, readOffsets, readRecord, recordSize}
 use Rattle.spec.specs.Steps.{recordGood}
-use Rattle.spec.proofs.Tests.{le-or-lt, and-left, and-right, leb-true, leb-false, eqb-same, eqb-ne, bool-cases, false-of}
+use Rattle.spec.proofs.Tests.{and-left, and-right, leb-true, leb-false, eqb-same, eqb-ne, false-of}
 use Rattle.spec.proofs.FieldLists.{AllBytes, length-fieldsOf}
-use Rattle.spec.proofs.RecordLaws.{FormGood, form1-good, eq-of, le-of, and-intro, kinds}
+use Rattle.spec.proofs.RecordLaws.{form1-good, eq-of, le-of, kinds}
 use Rattle.bodies.specs.Check.{goodSize, inOrder, offsetsGood, Lengths, Head}
-use Rattle.bodies.proofs.RecordChecks.{Tiny, Full, tiny-of, tiny-is, full-of, full-is, fullOf, read-some, read-zero, size-zero, read-1, read-2, read-3, size-1, size-2, size-3}
+use Rattle.bodies.proofs.RecordChecks.{Tiny, Full, tiny-of, tiny-is, full-of, full-is, read-some, size-zero, read-1, read-2, read-3, size-1, size-2, size-3}
 
 -- ---- refused or accepted
 

@@ -2,14 +2,14 @@
 use mathlib.Core.Path.{_≡_, refl, sym, ap, _∙_}
 use mathlib.Core.Bool.{Bool, true, false, _&&_}
 use mathlib.Core.List.{List, [], _∷_}
-use Prim.Native.Nat.{ℕ, zero, suc, _+_, _-_, _*_, _≤_, _<_, min}
+use Prim.Native.Nat.{ℕ, suc, _+_, _-_, _*_, _≤_, _<_}
 use native.Mathlib.Nat.{mul-suc}
 use native.Mathlib.Numerals.{add-one}
 use native.Mathlib.Omega.{arith}
 use lib.Dec.{leb, ltb, leb·zero}
-use lib.ListN.{length, take, drop}
+use lib.ListN.{drop}
 use lib.Seq.{drop-drop}
-use Rattle.spec.specs.Bytes.{leValue, fieldAt, fieldsOf, rising, every}
+use Rattle.spec.specs.Bytes.{fieldAt, fieldsOf, rising, every}
 use Rattle.spec.specs.Records.{reach}
 use Rattle.spec.proofs.Tests.{leb-true, leb-false}
 use Rattle.bodies.specs.Check.{inOrder}

@@ -1,23 +1,23 @@
 -- What a record check has to test: bytes start with a good record exactly if the facts of `Tiny` or of `Full` hold, by the kind.
 -- There: the bytes are the writing and what follows, so reading them meets RecordLaws. Back: each field read is written again as it was.
-use mathlib.Core.Path.{_≡_, refl, sym, ap, ap₂, _∙_, subst}
-use mathlib.Core.Logic.{_≢_, _⊎_, inl, inr}
-use mathlib.Core.Bool.{Bool, true, false, _&&_, _||_, not, cond, and-true, and-false, false≢true, true≢false}
-use mathlib.Core.List.{List, [], _∷_, _++_, append-assoc}
-use Prim.Native.Nat.{ℕ, zero, suc, _+_, _-_, _*_, _/_, _%_, _^_, _≤_, _<_, min}
-use native.Mathlib.Nat.{mod-add-div, min-le-left, zero-mod, zero-div, mul-zero}
+use mathlib.Core.Path.{_≡_, refl, sym, ap, ap₂, _∙_}
+use mathlib.Core.Logic.{_⊎_, inl, inr}
+use mathlib.Core.Bool.{Bool, true, false, _&&_, cond, true≢false}
+use mathlib.Core.List.{List, [], _∷_, _++_}
+use Prim.Native.Nat.{ℕ, _+_, _-_, _*_, _/_, _%_, _^_, _≤_, _<_, min}
+use native.Mathlib.Nat.{mod-add-div, zero-mod, zero-div, mul-zero}
 use native.Mathlib.Omega.{arith}
-use lib.Dec.{eqb, leb, ltb}
+use lib.Dec.{eqb, leb}
 use lib.ListN.{length, take, drop, getD, length-append, length-drop, length-take, take-append-drop}
-use lib.Seq.{take-at, drop-at, drop-drop, take-add, getD-take, length-take-le}
-use Rattle.spec.specs.Bytes.{leValue, leBytes, fieldAt, fieldsOf, fieldsBytes, same, begins, rising, every}
-use Rattle.spec.specs.Records.{MatchRecord, emptyRecord, Form, form1, isEmpty, isTiny, reach, inRange, kindOf, offsetsBytes, fullBytes, tinyBytes, recordBytes, readOffsets, readRecord, recordSize}
+use lib.Seq.{drop-drop, take-add, getD-take}
+use Rattle.spec.specs.Bytes.{leValue, leBytes, fieldAt, fieldsOf, fieldsBytes, same, rising, every}
+use Rattle.spec.specs.Records.{MatchRecord, Form, isEmpty, isTiny, reach, inRange, kindOf, offsetsBytes, fullBytes, tinyBytes, recordBytes, readOffsets, readRecord, recordSize}
 use Rattle.spec.specs.Steps.{recordGood}
-use Rattle.spec.proofs.Tests.{le-or-lt, and-left, and-right, leb-true, leb-false, eqb-same, eqb-ne, bool-cases, false-of}
+use Rattle.spec.proofs.Tests.{le-or-lt, and-left, and-right, leb-true, leb-false, eqb-ne, bool-cases, false-of}
 use Rattle.spec.proofs.Same.{same-eq, same-of}
 use Rattle.spec.proofs.Fields.{length-leBytes}
 use Rattle.spec.proofs.FieldLists.{AllBytes, bytes-drop, leBytes-take, length-fieldsOf, fieldsBytes-fieldsOf, length-fieldsBytes}
-use Rattle.spec.proofs.RecordLaws.{FormGood, eq-of, le-of, not-false, kinds, laid, first-laid, size-laid, full-laid, offsets-count, every-imp, and-intro, prefix-in, suffix-in, offsets-rise, offsets-in, offsets-one, offsets-two, offsets-three, written-empty, written-tiny, written-full, length-full}
+use Rattle.spec.proofs.RecordLaws.{FormGood, eq-of, le-of, kinds, laid, first-laid, size-laid, full-laid, offsets-count, prefix-in, suffix-in, offsets-rise, offsets-in, offsets-one, offsets-two, offsets-three, written-empty, written-tiny, written-full, length-full}
 
 -- ---- tiny records
 

@@ -1,18 +1,18 @@
 -- The body check, a turn for each keyword: what the bytes from the place on say of the rest of the keywords is what the body says of all.
-use mathlib.Core.Path.{_≡_, refl, sym, ap, ap₂, _∙_, subst}
+use mathlib.Core.Path.{_≡_, refl, sym, ap, _∙_}
 use mathlib.Core.Logic.{_≢_, _⊎_, inl, inr}
 use mathlib.Core.Bool.{Bool, true, false, _&&_, cond, and-true, false≢true}
 use mathlib.Core.List.{List, [], _∷_}
-use Prim.Native.Nat.{ℕ, zero, suc, _+_, _-_, _*_, _≤_, _<_, min}
+use Prim.Native.Nat.{ℕ, suc, _+_, _-_, _≤_, _<_}
 use native.Mathlib.Numerals.{add-one}
 use native.Mathlib.Omega.{arith}
-use lib.Dec.{eqb, leb, ltb}
+use lib.Dec.{eqb}
 use lib.ListN.{length, take, drop, getD, length-drop, length-take, drop-of-length-le}
-use lib.Seq.{drop-cons, drop-drop, getD-take, getD-drop, take-all, length-take-le}
+use lib.Seq.{drop-cons, drop-drop, getD-take, take-all, length-take-le}
 use Rattle.spec.specs.Bytes.{begins}
 use Rattle.spec.specs.Records.{form1, recordSize, goodBody}
 use Rattle.spec.specs.Steps.{goodFrom, recordGood}
-use Rattle.spec.proofs.Tests.{le-or-lt, and-left, bool-cases, eqb-same, eqb-ne}
+use Rattle.spec.proofs.Tests.{le-or-lt, and-left, eqb-same, eqb-ne}
 use Rattle.spec.proofs.RecordLaws.{form1-good, eq-of, good-end, good-absent, good-here, good-is-from}
 use Rattle.bodies.specs.Check.{goodSize, Lengths, Ready}
 use Rattle.bodies.proofs.RecordChecks.{tiny-of, full-of, size-zero, size-least}

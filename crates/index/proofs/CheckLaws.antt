@@ -1,22 +1,22 @@
 -- The index check puts its stages together: the first that refuses gives the answer. Assumes nothing.
-use mathlib.Core.Path.{_≡_, refl, sym, ap, ap₂, _∙_, subst}
-use mathlib.Core.Logic.{_≢_, _⊎_, inl, inr}
+use mathlib.Core.Path.{_≡_, refl, sym, ap, _∙_, subst}
+use mathlib.Core.Logic.{_≢_}
 use mathlib.Core.Bool.{Bool, true, false, _||_, not, cond}
-use mathlib.Core.List.{List, [], _∷_, map}
-use Prim.Native.Nat.{ℕ, zero, suc, _+_, _-_, _*_, _≤_, _<_, min}
+use mathlib.Core.List.{List, [], map}
+use Prim.Native.Nat.{ℕ, zero, suc, _+_, _-_, _≤_, _<_}
 use native.Mathlib.Omega.{arith}
 use borrow.Author.Tests.{lt-ltb}
 use lib.Dec.{ltb}
-use lib.ListN.{length, take, drop, getD, length-map, length-take, length-drop, List·getD-map}
+use lib.ListN.{length, take, drop, getD, length-map, length-drop, List·getD-map}
 use lib.Seq.{ext-getD, getD-take, length-take-le}
-use Rattle.spec.specs.Bytes.{part, same, twice}
-use Rattle.spec.specs.Keywords.{countOf, keywordsOf, listSize, keywordFrontCode}
+use Rattle.spec.specs.Bytes.{same, twice}
+use Rattle.spec.specs.Keywords.{keywordsOf, keywordFrontCode}
 use Rattle.spec.specs.Directory.{directoryEnd, entriesCode}
 use Rattle.spec.specs.Store.{chunkCount}
 use Rattle.spec.specs.Records.{form1}
 use Rattle.spec.specs.Index.{listIn, indexLayout, indexKeys, lengthsIn, allGood, indexCode}
-use Rattle.spec.proofs.KeywordLaws.{Accepted, accepted}
-use Rattle.keywords.specs.Parsed.{Placed, Parsed}
+use Rattle.spec.proofs.KeywordLaws.{accepted}
+use Rattle.keywords.specs.Parsed.{Parsed}
 use Rattle.bodies.proofs.Turns.{behind}
 use Rattle.index.specs.Stages.{headerCode, directoryCode, Opened, Lens}
 use Rattle.index.proofs.StageLaws.{header-passed}

@@ -1,27 +1,23 @@
 -- The answers of a lookup in an index, each by the tests that led there, and where the body is. Assumes nothing.
-use mathlib.Core.Path.{_≡_, refl, sym, ap, ap₂, _∙_, subst}
+use mathlib.Core.Path.{_≡_, refl, sym, ap, ap₂, _∙_}
 use mathlib.Core.Logic.{_≢_}
-use mathlib.Core.Bool.{Bool, true, false, not}
-use mathlib.Core.List.{List, [], _∷_}
+use mathlib.Core.List.{List, []}
 use Prim.Native.Nat.{ℕ, _+_, _*_, _-_, _≤_, _<_}
 use native.Mathlib.Nat.{add-sub-cancel-left}
 use native.Mathlib.Omega.{arith}
-use borrow.Author.Tests.{eq-eqb, ne-eqb, eqb-true, lt-ltb, le-ltb, ltb-true, not-false}
-use lib.Dec.{eqb, ltb}
-use lib.ListN.{length, getD, take, drop}
+use lib.ListN.{length, take, drop}
 use denote.Ref.{RefT}
-use Rattle.spec.specs.Bytes.{part, fieldAt, contains, positionOf}
+use Rattle.spec.specs.Bytes.{part, fieldAt, positionOf}
 use Rattle.spec.specs.Keywords.{listSize, keywordFrontCode}
 use Rattle.spec.specs.Directory.{entryField, offsetAt, lengthAt}
 use Rattle.spec.specs.Store.{chunkCount}
 use Rattle.spec.specs.Records.{form1}
 use Rattle.spec.specs.Index.{listIn, indexLayout, indexKeys, bodyAt, indexCode}
 use Rattle.spec.specs.Lookup.{findBody, bodyStart, bodyLength, bodyOf}
-use Rattle.spec.proofs.Codes.{passed, passed-whole, refused-whole}
-use Rattle.spec.proofs.EntryLaws.{contains-position, position-le}
+use Rattle.spec.proofs.LookupLaws.{lookup-refused, lookup-length, lookup-none, lookup-found, lookup-passed, start-found, length-found, start-refused, length-refused}
 use Rattle.spec.proofs.KeywordLaws.{accepted}
 use Rattle.spec.proofs.IndexChecks.{index-good, length-indexKeys}
-use Rattle.directory.specs.Chains.{keysFrom, Chained, Lies, Empty, Built}
+use Rattle.directory.specs.Chains.{keysFrom, Lies}
 use Rattle.directory.specs.Slices.{SliceOf}
 use Rattle.keywords.specs.Parsed.{Parsed}
 use Rattle.index.specs.Stages.{Opened, EntryOf}
@@ -64,29 +60,23 @@ module _ (index : List ℕ) (z : indexCode form1 index ≡ 0) where
 -- ---- the number
 
 module _ (index fp : List ℕ) where
-  pub lookup-refused : (code : ℕ) → code ≡ indexCode form1 index → code ≢ 0 → code ≡ findBody form1 index fp
+  pub number-refused : (code : ℕ) → code ≡ indexCode form1 index → code ≢ 0 → code ≡ findBody form1 index fp
   unfolding findBody
-  lookup-refused code e d = e ∙ refused-whole (indexCode form1 index) _ (λ z. d (e ∙ z))
+  number-refused code e d = lookup-refused (indexCode form1 index) (indexKeys index) fp code e d
 
-  pub lookup-length : indexCode form1 index ≡ 0 → length fp ≢ 20 → 19 ≡ findBody form1 index fp
+  pub number-length : indexCode form1 index ≡ 0 → length fp ≢ 20 → 19 ≡ findBody form1 index fp
   unfolding findBody
-  lookup-length z d = rw (z, ne-eqb (length fp) 20 d)
+  number-length z d = lookup-length (indexCode form1 index) (indexKeys index) fp z d
 
   -- the fingerprint's place among c
   module _ (z : indexCode form1 index ≡ 0) (l : length fp ≡ 20) (k : ℕ) (q : k ≡ positionOf fp (indexKeys index)) (c : ℕ) (e : c ≡ chunkCount index) where
-    pub lookup-none : k ≡ c → 15 ≡ findBody form1 index fp
+    pub number-none : k ≡ c → 15 ≡ findBody form1 index fp
     unfolding findBody
-    lookup-none n =
-        let f : contains fp (indexKeys index) ≡ false =
-        contains-position fp (indexKeys index) ∙ le-ltb (positionOf fp (indexKeys index)) (length (indexKeys index)) (omega (arith, length-indexKeys index)) in
-        rw (z, eq-eqb (length fp) 20 l, f)
+    number-none n = lookup-none (indexCode form1 index) (indexKeys index) fp z l c (e ∙ sym (length-indexKeys index)) k q n
 
-    pub lookup-found : k ≢ c → 0 ≡ findBody form1 index fp
+    pub number-found : k ≢ c → 0 ≡ findBody form1 index fp
     unfolding findBody
-    lookup-found n =
-        let t : contains fp (indexKeys index) ≡ true =
-        contains-position fp (indexKeys index) ∙ lt-ltb (positionOf fp (indexKeys index)) (length (indexKeys index)) (omega (arith, length-indexKeys index, position-le fp (indexKeys index))) in
-        rw (z, eq-eqb (length fp) 20 l, t)
+    number-found n = lookup-found (indexCode form1 index) (indexKeys index) fp z l c (e ∙ sym (length-indexKeys index)) k q n
 
 -- ---- the entries of an index that passed its check
 
@@ -124,53 +114,46 @@ module _ (index : List ℕ) (k : ℕ) (entry : EntryOf index k) (at n : ℕ)
 
 -- a fingerprint that is found has an entry
 module _ (index fp : List ℕ) (z : findBody form1 index fp ≡ 0) where
-  pub found-checked : indexCode form1 index ≡ 0
+  tests : (indexCode form1 index ≡ 0) × (length fp ≡ 20) × (positionOf fp (indexKeys index) < length (indexKeys index))
   unfolding findBody
-  found-checked = passed-whole (indexCode form1 index) _ z .0
+  tests = lookup-passed (indexCode form1 index) (indexKeys index) fp z
 
-  -- what the two tests behind the check say
-  found-tests : (not (eqb (length fp) 20) ≡ false) × (not (contains fp (indexKeys index)) ≡ false)
-  unfolding findBody
-  found-tests =
-      let b = passed (not (eqb (length fp) 20)) 19 _ (omega arith) (passed-whole (indexCode form1 index) _ z .1) in
-      (b .0, passed (not (contains fp (indexKeys index))) 15 _ (omega arith) (b .1) .0)
+  pub found-checked : indexCode form1 index ≡ 0
+  found-checked = tests .0
 
   pub found-length : length fp ≡ 20
-  found-length = eqb-true (length fp) 20 (not-false (eqb (length fp) 20) (found-tests .0))
+  found-length = tests .1
 
   module _ (k : ℕ) (q : k ≡ positionOf fp (indexKeys index)) where
     pub found-entry : EntryOf index k
-    found-entry =
-        let t : ltb (positionOf fp (indexKeys index)) (length (indexKeys index)) ≡ true =
-        sym (contains-position fp (indexKeys index)) ∙ not-false (contains fp (indexKeys index)) (found-tests .1) in
-        record { checked = found-checked; within = omega (arith, ltb-true (positionOf fp (indexKeys index)) (length (indexKeys index)) t, length-indexKeys index) }
+    found-entry = record { checked = found-checked; within = omega (arith, tests .2, length-indexKeys index) }
 
-    pub start-found : entryField (indexLayout index) index 24 k ≡ bodyStart form1 index fp
+    pub start-there : entryField (indexLayout index) index 24 k ≡ bodyStart form1 index fp
     unfolding bodyStart findBody indexLayout
-    start-found = rw (eq-eqb (findBody form1 index fp) 0 z) (ap (offsetAt (indexLayout index) index) q)
+    start-there = start-found (indexCode form1 index) (indexKeys index) fp (indexLayout index) index k z q
 
-    pub length-found : entryField (indexLayout index) index 28 k ≡ bodyLength form1 index fp
+    pub length-there : entryField (indexLayout index) index 28 k ≡ bodyLength form1 index fp
     unfolding bodyLength findBody indexLayout
-    length-found = rw (eq-eqb (findBody form1 index fp) 0 z) (ap (lengthAt (indexLayout index) index) q)
+    length-there = length-found (indexCode form1 index) (indexKeys index) fp (indexLayout index) index k z q
 
-    pub slice-found : {whole r : RefT (List ℕ)} → SliceOf whole r (bodyAt index k) (offsetAt (indexLayout index) index k)
+    pub slice-there : {whole r : RefT (List ℕ)} → SliceOf whole r (bodyAt index k) (offsetAt (indexLayout index) index k)
         → SliceOf whole r (bodyOf form1 index fp) (bodyStart form1 index fp)
     unfolding bodyAt bodyOf indexLayout
-    slice-found s = record {
-      holds = s .holds ∙ ap₂ (part index) start-found length-found;
+    slice-there s = record {
+      holds = s .holds ∙ ap₂ (part index) start-there length-there;
       block = s .block;
-      place = s .place ∙ rw start-found;
+      place = s .place ∙ rw start-there;
     }
 
 module _ (index fp : List ℕ) (d : findBody form1 index fp ≢ 0) where
-  pub start-refused : 0 ≡ bodyStart form1 index fp
+  pub start-none : 0 ≡ bodyStart form1 index fp
   unfolding bodyStart findBody
-  start-refused = rw (ne-eqb (findBody form1 index fp) 0 d)
+  start-none = start-refused (indexCode form1 index) (indexKeys index) fp (indexLayout index) index d
 
-  pub length-refused : 0 ≡ bodyLength form1 index fp
+  pub length-none : 0 ≡ bodyLength form1 index fp
   unfolding bodyLength findBody
-  length-refused = rw (ne-eqb (findBody form1 index fp) 0 d)
+  length-none = length-refused (indexCode form1 index) (indexKeys index) fp (indexLayout index) index d
 
-  pub slice-refused : [] ≡ bodyOf form1 index fp
+  pub slice-none : [] ≡ bodyOf form1 index fp
   unfolding bodyOf
-  slice-refused = rw (← length-refused)
+  slice-none = rw (← length-none)

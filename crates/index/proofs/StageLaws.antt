@@ -1,28 +1,23 @@
 -- The stages of the index check, one after the other, are the check; and what each stage that passes says. Assumes nothing.
-use mathlib.Core.Path.{_≡_, refl, sym, ap, ap₂, _∙_, subst}
-use mathlib.Core.Logic.{_≢_, _⊎_, inl, inr}
-use mathlib.Core.Bool.{Bool, true, false, _&&_, _||_, not, cond, or-true, or-false, false≢true, true≢false}
-use mathlib.Core.List.{List, [], _∷_, _++_, map}
-use Prim.Native.Nat.{ℕ, zero, suc, _+_, _-_, _*_, _≤_, _<_, min}
+use mathlib.Core.Path.{_≡_, sym, ap, ap₂, _∙_}
+use mathlib.Core.Bool.{Bool, true, false, _||_, not, or-true, true≢false}
+use mathlib.Core.List.{List}
+use Prim.Native.Nat.{ℕ, _+_, _-_, _*_, _≤_, _<_}
 use native.Mathlib.Nat.{zero-add, add-sub-cancel-left}
 use native.Mathlib.Omega.{arith}
 use borrow.Author.Tests.{lt-ltb, le-ltb, ltb-false}
-use lib.Dec.{eqb, leb, ltb}
-use lib.ListN.{length, take, drop, getD, length-map, length-take, length-drop, List·getD-map}
-use lib.Seq.{ext-getD, getD-take, length-take-le, take-all}
-use Rattle.spec.specs.Bytes.{part, fieldAt, same, twice, every, each}
-use Rattle.spec.specs.Outcome.{firstOf, whole}
-use Rattle.spec.specs.Keywords.{countOf, keywordsOf, listSize, keywordFrontCode}
-use Rattle.spec.specs.Directory.{Layout, keysOf, directoryEnd, entryField, sizeAt, offsetAt, lengthAt, pointedAt, keysIn, entriesCode}
-use Rattle.spec.specs.Store.{chunkCount, mostChunks}
+use lib.Dec.{ltb}
+use lib.ListN.{length, take, drop}
+use Rattle.spec.specs.Bytes.{fieldAt, same, each}
+use Rattle.spec.specs.Directory.{Layout, directoryEnd, entryField, sizeAt, offsetAt, lengthAt, entriesCode}
+use Rattle.spec.specs.Store.{chunkCount}
 use Rattle.spec.specs.Records.{form1, goodBody}
-use Rattle.spec.specs.Index.{listIn, indexLayout, indexKeys, bodyAt, lengthsIn, goodAt, allGood, indexCode}
-use Rattle.spec.proofs.Tests.{bool-cases, false-of, le-or-lt}
+use Rattle.spec.specs.Index.{indexLayout, indexKeys, bodyAt, goodAt, allGood}
+use Rattle.spec.proofs.Tests.{false-of}
 use Rattle.spec.proofs.Codes.{passed, passed-whole, or-left, or-right, last-whole}
-use Rattle.spec.proofs.EntryLaws.{Entries, entries-good}
+use Rattle.spec.proofs.EntryLaws.{entries-good}
 use Rattle.spec.proofs.Tabulated.{every-range, every-range-at}
 use Rattle.directory.specs.Chains.{layoutOf, keysFrom}
-use Rattle.keywords.specs.Parsed.{Parsed}
 use Rattle.bodies.specs.Check.{Ready}
 use Rattle.index.specs.Stages.{headerCode, directoryCode, Opened, Laid, Lens}
 

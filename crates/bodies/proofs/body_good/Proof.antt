@@ -1,9 +1,8 @@
-use mathlib.Core.Path.{_≡_, refl, sym, ap, _∙_}
-use mathlib.Core.Logic.{_≢_, _⊎_, inl, inr}
-use mathlib.Core.Bool.{Bool, true, false}
-use Prim.Native.Nat.{ℕ, _+_, _-_, _*_, _/_, _%_, _≤_, _<_}
+-- `body_good` meets its contract: from the place on, the keywords that are left say what the body says of all (Turns).
+use mathlib.Core.Path.{_≡_, sym, _∙_}
+use Prim.Native.Nat.{_-_, _≤_}
 use native.Mathlib.Omega.{arith}
-use lib.ListN.{length, getD, drop}
+use lib.ListN.{length, drop}
 use denote.Ref.{now}
 use borrow.Author.Needs.{needs}
 use borrow.Author.Tests.{not-true, not-false}
@@ -11,13 +10,8 @@ use Rattle.bodies.proofs.Turns.{left-all, turn-absent, turn-start, turn
 use lib.ListN.{take}
 use Rattle.spec.specs.Records.{form1, goodBody}
 use Rattle.spec.specs.Steps.{goodFrom}
-use Rattle.bodies.specs.Check.{goodSize, Lengths, Ready}
 use Rattle.bodies.proofs.body_good.Statement.{statement}
 use Rattle.bodies.proofs.body_good.Tie as tie
-use Rattle.bodies.proofs.body_good.Reads as reads
-use Rattle.bodies.proofs.body_good.Lts as lts
-use Rattle.bodies.proofs.is_next.Reads as is-next-reads
-use Rattle.bodies.proofs.record_good.Reads as record-good-reads
 
 abbrev Inv-loop : tie.InvT-loop
 Inv-loop body lengths count size at₀ k₀ at k =

@@ -1,18 +1,15 @@
 -- The fields left to test, from the place on, say what the whole run says.
-use mathlib.Core.Path.{_≡_, refl, sym, ap, _∙_}
-use Prim.Native.Nat.{ℕ, _+_, _-_, _*_, _≤_, _<_}
+use mathlib.Core.Path.{_≡_, _∙_}
+use Prim.Native.Nat.{_+_, _*_, _≤_}
 use native.Mathlib.Omega.{arith}
 use lib.ListN.{length, drop}
 use denote.Ref.{now}
 use borrow.Author.Needs.{needs}
-use Rattle.spec.specs.Bytes.{fieldAt, fieldsOf}
+use Rattle.spec.specs.Bytes.{fieldsOf}
 use Rattle.bodies.specs.Check.{inOrder}
 use Rattle.bodies.proofs.Orders.{orderFrom, order-all, order-low, order-out, order-on, order-done, mul-less}
 use Rattle.bodies.proofs.in_order.Statement.{statement}
 use Rattle.bodies.proofs.in_order.Tie as tie
-use Rattle.bodies.proofs.in_order.Reads as reads
-use Rattle.bodies.proofs.in_order.Lts as lts
-use Rattle.field.proofs.read.Reads as read-reads
 
 abbrev Inv-loop : tie.InvT-loop
 Inv-loop bytes at width count n size place₀ left₀ least₀ place left least =

@@ -1,17 +1,10 @@
-use mathlib.Core.Path.{_≡_, refl, sym, ap, _∙_}
-use mathlib.Core.Logic.{_≢_, _⊎_, inl, inr}
-use mathlib.Core.Bool.{Bool, true, false}
-use Prim.Native.Nat.{ℕ, _+_, _-_, _*_, _/_, _%_, _≤_, _<_}
+-- `is_next` meets its contract: the byte at the place, if there is one.
 use native.Mathlib.Omega.{arith}
-use lib.ListN.{length, getD, drop}
 use denote.Ref.{now}
 use borrow.Author.Needs.{needs}
-use borrow.Author.Tests.{not-true, not-false}
 use Rattle.bodies.proofs.Turns.{next-none, next-some}
 use Rattle.bodies.proofs.is_next.Statement.{statement}
 use Rattle.bodies.proofs.is_next.Tie as tie
-use Rattle.bodies.proofs.is_next.Reads as reads
-use Rattle.bodies.proofs.is_next.Lts as lts
 
 returns : tie.Need-returns
 returns c = next-none (now (c .before .args .body)) (c .before .args .at) (c .before .args .k) (c .if1 .taken)

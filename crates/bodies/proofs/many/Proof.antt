@@ -1,22 +1,15 @@
+-- `many` meets its contract: each test decides it (KindChecks).
 use borrow.Author.Tests.{not-true, not-false}
-use mathlib.Core.Path.{_≡_, refl, sym, ap, _∙_}
-use mathlib.Core.Logic.{_≢_, _⊎_, inl, inr}
-use mathlib.Core.Bool.{Bool, true, false}
-use Prim.Native.Nat.{ℕ, _+_, _-_, _*_, _/_, _%_, _≤_, _<_}
+use mathlib.Core.Path.{sym, ap, _∙_}
+use Prim.Native.Nat.{ℕ, _+_, _*_}
 use native.Mathlib.Omega.{arith}
-use lib.ListN.{length, getD, drop}
 use denote.Ref.{now}
 use borrow.Author.Needs.{needs}
 use Rattle.bodies.proofs.KindChecks.{three-short, three-count, three-few, three-refused, three-good}
-use Rattle.spec.specs.Bytes.{fieldAt, fieldsOf}
 use Rattle.spec.proofs.FieldLists.{field-lt}
-use Rattle.bodies.specs.Check.{goodSize, offsetsGood, inOrder}
+use Rattle.bodies.specs.Check.{offsetsGood}
 use Rattle.bodies.proofs.many.Statement.{statement}
 use Rattle.bodies.proofs.many.Tie as tie
-use Rattle.bodies.proofs.many.Reads as reads
-use Rattle.bodies.proofs.many.Lts as lts
-use Rattle.bodies.proofs.offsets_good.Reads as offsets-good-reads
-use Rattle.field.proofs.read.Reads as read-reads
 
 returns : tie.Need-returns
 returns c =

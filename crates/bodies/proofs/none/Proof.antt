@@ -1,19 +1,11 @@
-use mathlib.Core.Path.{_≡_, refl, sym, ap, _∙_}
-use mathlib.Core.Logic.{_≢_, _⊎_, inl, inr}
-use mathlib.Core.Bool.{Bool, true, false}
-use Prim.Native.Nat.{ℕ, _+_, _-_, _*_, _/_, _%_, _≤_, _<_}
+-- `none` meets its contract: each test decides it (KindChecks).
+use mathlib.Core.Logic.{inl, inr}
 use native.Mathlib.Omega.{arith}
-use lib.ListN.{length, getD, drop}
 use denote.Ref.{now}
 use borrow.Author.Needs.{needs}
 use Rattle.bodies.proofs.KindChecks.{none-first, none-small, none-good}
-use Rattle.spec.specs.Bytes.{fieldAt}
-use Rattle.bodies.specs.Check.{goodSize}
 use Rattle.bodies.proofs.none.Statement.{statement}
 use Rattle.bodies.proofs.none.Tie as tie
-use Rattle.bodies.proofs.none.Reads as reads
-use Rattle.bodies.proofs.none.Lts as lts
-use Rattle.field.proofs.read.Reads as read-reads
 
 read-requires : tie.Need-read-requires
 read-requires c κs = search needs

@@ -1,21 +1,10 @@
-use mathlib.Core.Path.{_≡_, refl, sym, ap, _∙_}
-use mathlib.Core.Logic.{_≢_, _⊎_, inl, inr}
-use mathlib.Core.Bool.{Bool, true, false}
-use Prim.Native.Nat.{ℕ, _+_, _-_, _*_, _/_, _%_, _≤_, _<_}
+-- `offsets_good` meets its contract: each test of a run decides it (KindChecks).
 use native.Mathlib.Omega.{arith}
-use lib.ListN.{length, getD, drop}
 use denote.Ref.{now}
 use borrow.Author.Needs.{needs}
 use Rattle.bodies.proofs.KindChecks.{run-short, run-first, run-order}
-use Rattle.spec.specs.Bytes.{fieldAt, fieldsOf}
-use Rattle.spec.proofs.FieldLists.{field-lt}
-use Rattle.bodies.specs.Check.{goodSize, offsetsGood, inOrder}
 use Rattle.bodies.proofs.offsets_good.Statement.{statement}
 use Rattle.bodies.proofs.offsets_good.Tie as tie
-use Rattle.bodies.proofs.offsets_good.Reads as reads
-use Rattle.bodies.proofs.offsets_good.Lts as lts
-use Rattle.bodies.proofs.in_order.Reads as in-order-reads
-use Rattle.field.proofs.read.Reads as read-reads
 
 sub-if1 : tie.Need-sub-if1
 sub-if1 c = search needs

@@ -1,9 +1,8 @@
+-- `reach_of` meets its contract: the smaller of the two.
 use borrow.Author.Needs.{needs}
 use Rattle.bodies.proofs.Orders.{reach-low, reach-high}
 use Rattle.bodies.proofs.reach_of.Statement.{statement}
 use Rattle.bodies.proofs.reach_of.Tie as tie
-use Rattle.bodies.proofs.reach_of.Reads as reads
-use Rattle.bodies.proofs.reach_of.Lts as lts
 
 -- src/lib.rt:15:8
 sub-if1 : tie.Need-sub-if1

@@ -1,25 +1,11 @@
-use mathlib.Core.Path.{_≡_, refl, sym, ap, _∙_}
-use mathlib.Core.Logic.{_≢_, _⊎_, inl, inr}
-use mathlib.Core.Bool.{Bool, true, false}
-use Prim.Native.Nat.{ℕ, _+_, _-_, _*_, _/_, _%_, _≤_, _<_}
+-- `record_good` meets its contract: the head's tests, then the record's kind.
 use native.Mathlib.Omega.{arith}
-use lib.ListN.{length, getD, drop}
 use denote.Ref.{now}
 use borrow.Author.Needs.{needs}
 use lib.ListN.{List·getD-eq-default}
-use Rattle.spec.specs.Records.{reach}
-use Rattle.bodies.specs.Check.{goodSize, Lengths, Head}
 use Rattle.bodies.proofs.KindChecks.{tiny-short, kind-large, head-short, head-prefix, head-suffix}
 use Rattle.bodies.proofs.record_good.Statement.{statement}
 use Rattle.bodies.proofs.record_good.Tie as tie
-use Rattle.bodies.proofs.record_good.Reads as reads
-use Rattle.bodies.proofs.record_good.Lts as lts
-use Rattle.bodies.proofs.many.Reads as many-reads
-use Rattle.bodies.proofs.none.Reads as none-reads
-use Rattle.bodies.proofs.reach_of.Reads as reach-of-reads
-use Rattle.bodies.proofs.several.Reads as several-reads
-use Rattle.bodies.proofs.single.Reads as single-reads
-use Rattle.bodies.proofs.tiny.Reads as tiny-reads
 
 returns : tie.Need-returns
 returns c =

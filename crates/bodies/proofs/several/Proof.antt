@@ -1,21 +1,12 @@
+-- `several` meets its contract: each test decides it (KindChecks).
 use borrow.Author.Tests.{not-true, not-false}
-use mathlib.Core.Path.{_≡_, refl, sym, ap, _∙_}
-use mathlib.Core.Logic.{_≢_, _⊎_, inl, inr}
-use mathlib.Core.Bool.{Bool, true, false}
-use Prim.Native.Nat.{ℕ, _+_, _-_, _*_, _/_, _%_, _≤_, _<_}
+use mathlib.Core.Path.{sym, _∙_}
 use native.Mathlib.Omega.{arith}
-use lib.ListN.{length, getD, drop}
 use denote.Ref.{now}
 use borrow.Author.Needs.{needs}
 use Rattle.bodies.proofs.KindChecks.{two-range, two-refused, two-good}
-use Rattle.spec.specs.Bytes.{fieldAt, fieldsOf}
-use Rattle.spec.proofs.FieldLists.{field-lt}
-use Rattle.bodies.specs.Check.{goodSize, offsetsGood, inOrder}
 use Rattle.bodies.proofs.several.Statement.{statement}
 use Rattle.bodies.proofs.several.Tie as tie
-use Rattle.bodies.proofs.several.Reads as reads
-use Rattle.bodies.proofs.several.Lts as lts
-use Rattle.bodies.proofs.offsets_good.Reads as offsets-good-reads
 
 shared-slice-read-count : tie.Need-shared-slice-read-count
 shared-slice-read-count c = search needs

@@ -1,19 +1,10 @@
-use mathlib.Core.Path.{_≡_, refl, sym, ap, _∙_}
-use mathlib.Core.Logic.{_≢_, _⊎_, inl, inr}
-use mathlib.Core.Bool.{Bool, true, false}
-use Prim.Native.Nat.{ℕ, _+_, _-_, _*_, _/_, _%_, _≤_, _<_}
+-- `single` meets its contract: each test decides it (KindChecks).
 use native.Mathlib.Omega.{arith}
-use lib.ListN.{length, getD, drop}
 use denote.Ref.{now}
 use borrow.Author.Needs.{needs}
 use Rattle.bodies.proofs.KindChecks.{single-count, single-out, single-good}
-use Rattle.spec.specs.Bytes.{fieldAt}
-use Rattle.bodies.specs.Check.{goodSize}
 use Rattle.bodies.proofs.single.Statement.{statement}
 use Rattle.bodies.proofs.single.Tie as tie
-use Rattle.bodies.proofs.single.Reads as reads
-use Rattle.bodies.proofs.single.Lts as lts
-use Rattle.field.proofs.read.Reads as read-reads
 
 shared-slice-read-if1 : tie.Need-shared-slice-read-if1
 shared-slice-read-if1 c = search needs

@@ -1,19 +1,10 @@
-use mathlib.Core.Path.{_≡_, refl, sym, ap, _∙_}
-use mathlib.Core.Logic.{_≢_, _⊎_, inl, inr}
-use mathlib.Core.Bool.{Bool, true, false}
-use Prim.Native.Nat.{ℕ, _+_, _-_, _*_, _/_, _%_, _≤_, _<_}
+-- `tiny` meets its contract: each test of the tiny byte decides it (KindChecks).
 use native.Mathlib.Omega.{arith}
-use lib.ListN.{length, getD, drop}
 use denote.Ref.{now}
 use borrow.Author.Needs.{needs}
 use Rattle.bodies.proofs.KindChecks.{tiny-short, tiny-none, tiny-large, tiny-prefix, tiny-suffix, tiny-good}
-use Rattle.spec.specs.Bytes.{fieldAt}
-use Rattle.bodies.specs.Check.{goodSize}
 use Rattle.bodies.proofs.tiny.Statement.{statement}
 use Rattle.bodies.proofs.tiny.Tie as tie
-use Rattle.bodies.proofs.tiny.Reads as reads
-use Rattle.bodies.proofs.tiny.Lts as lts
-use Rattle.bodies.proofs.reach_of.Reads as reach-of-reads
 
 returns : tie.Need-returns
 returns c =

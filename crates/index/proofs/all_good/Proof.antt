@@ -1,22 +1,17 @@
-use mathlib.Core.Path.{_≡_, refl, sym, ap, _∙_}
-use mathlib.Core.Logic.{_≢_, _⊎_, inl, inr}
-use mathlib.Core.Bool.{Bool, true, false}
-use Prim.Native.Nat.{ℕ, _+_, _-_, _*_, _/_, _%_, _≤_, _<_}
+-- `all_good` meets its contract: all bodies before e are good.
+use mathlib.Core.Path.{_≡_, sym, _∙_}
+use mathlib.Core.Bool.{true}
+use Prim.Native.Nat.{ℕ, _-_, _≤_, _<_}
 use native.Mathlib.Omega.{arith}
-use lib.ListN.{length, getD, drop}
 use denote.Ref.{now}
 use borrow.Author.Needs.{needs}
 use borrow.Author.Tests.{not-true, not-false}
-use Rattle.index.specs.Stages.{headerCode, directoryCode, Opened, Laid, Lens}
 use Rattle.index.proofs.StageLaws.{all-yes, all-no}
 use borrow.Author.Count.{below-none, below-more}
 use Rattle.spec.specs.Records.{form1}
-use Rattle.spec.specs.Index.{goodAt, allGood}
+use Rattle.spec.specs.Index.{goodAt}
 use Rattle.index.proofs.all_good.Statement.{statement}
 use Rattle.index.proofs.all_good.Tie as tie
-use Rattle.index.proofs.all_good.Reads as reads
-use Rattle.index.proofs.all_good.Lts as lts
-use Rattle.index.proofs.entry_good.Reads as entry-good-reads
 
 abbrev Inv-loop : tie.InvT-loop
 Inv-loop index start count lens words e₀ e = (e ≤ count) × ((k : ℕ) → k < e → goodAt form1 index k ≡ true)

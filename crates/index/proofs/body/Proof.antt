@@ -1,21 +1,12 @@
-use mathlib.Core.Path.{_≡_, refl, sym, ap, _∙_}
-use mathlib.Core.Logic.{_≢_, _⊎_, inl, inr}
-use mathlib.Core.Bool.{Bool, true, false}
-use Prim.Native.Nat.{ℕ, _+_, _-_, _*_, _/_, _%_, _≤_, _<_}
-use native.Mathlib.Omega.{arith}
-use lib.ListN.{length, getD, drop}
+-- `body` meets its contract: the body of the entry that was found, and its place in the index.
+use mathlib.Core.Path.{refl, sym, ap, _∙_}
+use Prim.Native.Nat.{ℕ, _+_}
 use denote.Ref.{now}
 use borrow.Author.Needs.{needs}
 use native.Mathlib.Nat.{zero-add}
-use mathlib.Core.List.{List}
-use Rattle.index.proofs.LookupLaws.{start-refused, slice-refused, found-checked, found-length, found-entry, slice-found}
+use Rattle.index.proofs.LookupLaws.{start-none, slice-none, found-checked, found-length, found-entry, slice-there}
 use Rattle.index.proofs.body.Statement.{statement}
 use Rattle.index.proofs.body.Tie as tie
-use Rattle.index.proofs.body.Reads as reads
-use Rattle.index.proofs.body.Lts as lts
-use Rattle.index.proofs.body_at.Reads as body-at-reads
-use Rattle.index.proofs.find_body.Reads as find-body-reads
-use Rattle.index.proofs.seek.Reads as seek-reads
 
 find-body-requires : tie.Need-find-body-requires
 find-body-requires c κs = search needs
@@ -24,7 +15,7 @@ slice-aggregate-result : tie.Need-slice-aggregate-result
 slice-aggregate-result c = search needs
 
 returns : tie.Need-returns
-returns c = record { holds = slice-refused (now (c .before .before .before .before .before .args .index)) (now (c .before .before .before .before .before .args .fp)) (λ z. c .before .if1 .taken (c .before .before .find-body .ensures ∙ z)); block = refl; place = sym (zero-add (c .before .before .before .before .before .args .index .ptr .1)) ∙ ap (λ (n : ℕ). n + c .before .before .before .before .before .args .index .ptr .1) (start-refused (now (c .before .before .before .before .before .args .index)) (now (c .before .before .before .before .before .args .fp)) (λ z. c .before .if1 .taken (c .before .before .find-body .ensures ∙ z))) }
+returns c = record { holds = slice-none (now (c .before .before .before .before .before .args .index)) (now (c .before .before .before .before .before .args .fp)) (λ z. c .before .if1 .taken (c .before .before .find-body .ensures ∙ z)); block = refl; place = sym (zero-add (c .before .before .before .before .before .args .index .ptr .1)) ∙ ap (λ (n : ℕ). n + c .before .before .before .before .before .args .index .ptr .1) (start-none (now (c .before .before .before .before .before .args .index)) (now (c .before .before .before .before .before .args .fp)) (λ z. c .before .if1 .taken (c .before .before .find-body .ensures ∙ z))) }
 
 seek-requires : tie.Need-seek-requires
 seek-requires c κs = (found-checked (now (c .before .before .before .before .args .index)) (now (c .before .before .before .before .args .fp)) (sym (c .before .find-body .ensures) ∙ c .if1 .left), found-length (now (c .before .before .before .before .args .index)) (now (c .before .before .before .before .args .fp)) (sym (c .before .find-body .ensures) ∙ c .if1 .left))
@@ -33,7 +24,7 @@ body-at-requires : tie.Need-body-at-requires
 body-at-requires c κs = found-entry (now (c .before .before .before .before .before .args .index)) (now (c .before .before .before .before .before .args .fp)) (sym (c .before .before .find-body .ensures) ∙ c .before .if1 .left) (c .seek .result) (c .seek .ensures)
 
 returns-2 : tie.Need-returns-2
-returns-2 c = slice-found (now (c .before .before .before .before .before .before .args .index)) (now (c .before .before .before .before .before .before .args .fp)) (sym (c .before .before .before .find-body .ensures) ∙ c .before .before .if1 .left) (c .before .seek .result) (c .before .seek .ensures) (c .body-at .ensures)
+returns-2 c = slice-there (now (c .before .before .before .before .before .before .args .index)) (now (c .before .before .before .before .before .before .args .fp)) (sym (c .before .before .before .find-body .ensures) ∙ c .before .before .if1 .left) (c .before .seek .result) (c .before .seek .ensures) (c .body-at .ensures)
 
 pub body-spec : {M : Type 1} → statement M
 body-spec =

@@ -1,19 +1,12 @@
-use mathlib.Core.Path.{_≡_, refl, sym, ap, _∙_}
-use mathlib.Core.Logic.{_≢_, _⊎_, inl, inr}
-use mathlib.Core.Bool.{Bool, true, false}
-use Prim.Native.Nat.{ℕ, _+_, _-_, _*_, _/_, _%_, _≤_, _<_}
+-- `body_at` meets its contract: the bodies of a checked index lie in it.
+use mathlib.Core.Path.{refl, ap}
+use Prim.Native.Nat.{ℕ, _+_}
 use native.Mathlib.Omega.{arith}
-use lib.ListN.{length, getD, drop}
 use denote.Ref.{now}
 use borrow.Author.Needs.{needs}
-use native.Mathlib.Nat.{zero-add}
-use mathlib.Core.List.{List}
 use Rattle.index.proofs.LookupLaws.{body-room, body-slice, offset-found}
 use Rattle.index.proofs.body_at.Statement.{statement}
 use Rattle.index.proofs.body_at.Tie as tie
-use Rattle.index.proofs.body_at.Reads as reads
-use Rattle.index.proofs.body_at.Lts as lts
-use Rattle.index.proofs.entry_field.Reads as entry-field-reads
 
 entry-field-requires : tie.Need-entry-field-requires
 entry-field-requires c κs = search needs

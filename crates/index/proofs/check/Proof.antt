@@ -1,27 +1,15 @@
-use mathlib.Core.Path.{_≡_, refl, sym, ap, _∙_}
-use mathlib.Core.Logic.{_≢_, _⊎_, inl, inr}
-use mathlib.Core.Bool.{Bool, true, false}
-use Prim.Native.Nat.{ℕ, _+_, _-_, _*_, _/_, _%_, _≤_, _<_}
+-- `check` meets its contract: the stages one after the other; each return by those that passed (CheckLaws).
+use mathlib.Core.Path.{sym, ap, _∙_}
+use Prim.Native.Nat.{_+_}
 use native.Mathlib.Omega.{arith}
-use lib.ListN.{length, getD, drop}
 use denote.Ref.{now}
 use borrow.Author.Needs.{needs}
 use borrow.Author.Tests.{not-true, not-false}
 use Rattle.spec.specs.Keywords.{keywordFrontCode}
-use Rattle.index.specs.Stages.{headerCode, directoryCode, Opened, Laid, Lens}
 use Rattle.index.proofs.StageLaws.{header-passed, laid}
 use Rattle.index.proofs.CheckLaws.{stop-1, stop-2, stop-3, stop-4, stop-5, all-pass, list-is, opened, lens}
 use Rattle.index.proofs.check.Statement.{statement}
 use Rattle.index.proofs.check.Tie as tie
-use Rattle.index.proofs.check.Reads as reads
-use Rattle.index.proofs.check.Lts as lts
-use Rattle.field.proofs.read.Reads as read-reads
-use Rattle.index.proofs.all_good.Reads as all-good-reads
-use Rattle.index.proofs.entries.Reads as entries-reads
-use Rattle.index.proofs.header.Reads as header-reads
-use Rattle.index.proofs.twins.Reads as twins-reads
-use Rattle.keywords.proofs.check_front.Reads as check-front-reads
-use Rattle.keywords.proofs.parse.Reads as parse-reads
 
 header-requires : tie.Need-header-requires
 header-requires c κs = search needs

@@ -1,19 +1,10 @@
-use mathlib.Core.Path.{_≡_, refl, sym, ap, _∙_}
-use mathlib.Core.Logic.{_≢_, _⊎_, inl, inr}
-use mathlib.Core.Bool.{Bool, true, false}
-use Prim.Native.Nat.{ℕ, _+_, _-_, _*_, _/_, _%_, _≤_, _<_}
+-- `entries` meets its contract: the directory cut short, or what the crate below says of the entries.
 use native.Mathlib.Omega.{arith}
-use lib.ListN.{length, getD, drop}
 use denote.Ref.{now}
 use borrow.Author.Needs.{needs}
-use borrow.Author.Tests.{not-true, not-false}
-use Rattle.index.specs.Stages.{headerCode, directoryCode, Opened, Laid, Lens}
 use Rattle.index.proofs.StageLaws.{directory-cut, directory-walk}
 use Rattle.index.proofs.entries.Statement.{statement}
 use Rattle.index.proofs.entries.Tie as tie
-use Rattle.index.proofs.entries.Reads as reads
-use Rattle.index.proofs.entries.Lts as lts
-use Rattle.directory.proofs.entries.Reads as entries-reads
 
 mul-if1 : tie.Need-mul-if1
 mul-if1 c = search needs

@@ -1,20 +1,11 @@
-use mathlib.Core.Path.{_≡_, refl, sym, ap, _∙_}
-use mathlib.Core.Logic.{_≢_, _⊎_, inl, inr}
-use mathlib.Core.Bool.{Bool, true, false}
-use Prim.Native.Nat.{ℕ, _+_, _-_, _*_, _/_, _%_, _≤_, _<_}
+-- `entry_field` meets its contract: the entries of a checked index lie in it.
+use mathlib.Core.Path.{_∙_}
 use native.Mathlib.Omega.{arith}
-use lib.ListN.{length, getD, drop}
 use denote.Ref.{now}
 use borrow.Author.Needs.{needs}
-use native.Mathlib.Nat.{zero-add}
-use mathlib.Core.List.{List}
 use Rattle.index.proofs.LookupLaws.{entry-room, entry-is}
 use Rattle.index.proofs.entry_field.Statement.{statement}
 use Rattle.index.proofs.entry_field.Tie as tie
-use Rattle.index.proofs.entry_field.Reads as reads
-use Rattle.index.proofs.entry_field.Lts as lts
-use Rattle.field.proofs.read.Reads as read-reads
-use Rattle.index.proofs.start_of.Reads as start-of-reads
 
 start-of-requires : tie.Need-start-of-requires
 start-of-requires c κs = search needs

@@ -1,22 +1,10 @@
-use mathlib.Core.Path.{_≡_, refl, sym, ap, _∙_}
-use mathlib.Core.Logic.{_≢_, _⊎_, inl, inr}
-use mathlib.Core.Bool.{Bool, true, false}
-use Prim.Native.Nat.{ℕ, _+_, _-_, _*_, _/_, _%_, _≤_, _<_}
+-- `entry_good` meets its contract: the three fields are the entry's, and its body lies in the index.
 use native.Mathlib.Omega.{arith}
-use lib.ListN.{length, getD, drop}
 use denote.Ref.{now}
 use borrow.Author.Needs.{needs}
-use borrow.Author.Tests.{not-true, not-false}
-use Rattle.index.specs.Stages.{headerCode, directoryCode, Opened, Laid, Lens}
 use Rattle.index.proofs.StageLaws.{body-within, body-ready, good-is}
-use Rattle.spec.specs.Index.{goodAt}
-use Rattle.bodies.specs.Check.{Ready}
 use Rattle.index.proofs.entry_good.Statement.{statement}
 use Rattle.index.proofs.entry_good.Tie as tie
-use Rattle.index.proofs.entry_good.Reads as reads
-use Rattle.index.proofs.entry_good.Lts as lts
-use Rattle.bodies.proofs.body_good.Reads as body-good-reads
-use Rattle.field.proofs.read.Reads as read-reads
 
 mul-base : tie.Need-mul-base
 mul-base c = search needs

@@ -1,30 +1,19 @@
-use mathlib.Core.Path.{_≡_, refl, sym, ap, _∙_}
-use mathlib.Core.Logic.{_≢_, _⊎_, inl, inr}
-use mathlib.Core.Bool.{Bool, true, false}
-use Prim.Native.Nat.{ℕ, _+_, _-_, _*_, _/_, _%_, _≤_, _<_}
-use native.Mathlib.Omega.{arith}
-use lib.ListN.{length, getD, drop}
+-- `find_body` meets its contract: each return by the tests that led there (LookupLaws).
+use mathlib.Core.Path.{sym, _∙_}
 use denote.Ref.{now}
 use borrow.Author.Needs.{needs}
-use native.Mathlib.Nat.{zero-add}
-use mathlib.Core.List.{List}
-use Rattle.index.proofs.LookupLaws.{header-there, lookup-refused, lookup-length, lookup-none, lookup-found}
+use Rattle.index.proofs.LookupLaws.{header-there, number-refused, number-length, number-none, number-found}
 use Rattle.index.proofs.find_body.Statement.{statement}
 use Rattle.index.proofs.find_body.Tie as tie
-use Rattle.index.proofs.find_body.Reads as reads
-use Rattle.index.proofs.find_body.Lts as lts
-use Rattle.index.proofs.check.Reads as check-reads
-use Rattle.index.proofs.count.Reads as count-reads
-use Rattle.index.proofs.seek.Reads as seek-reads
 
 check-requires : tie.Need-check-requires
 check-requires c κs = search needs
 
 returns : tie.Need-returns
-returns c = lookup-refused (now (c .before .before .before .before .args .index)) (now (c .before .before .before .before .args .fp)) (c .before .check .result) (c .before .check .ensures) (c .if1 .taken)
+returns c = number-refused (now (c .before .before .before .before .args .index)) (now (c .before .before .before .before .args .fp)) (c .before .check .result) (c .before .check .ensures) (c .if1 .taken)
 
 returns-2 : tie.Need-returns-2
-returns-2 c = lookup-length (now (c .before .before .before .before .before .args .index)) (now (c .before .before .before .before .before .args .fp)) (sym (c .before .before .check .ensures) ∙ c .before .if1 .left) (c .if2 .taken)
+returns-2 c = number-length (now (c .before .before .before .before .before .args .index)) (now (c .before .before .before .before .before .args .fp)) (sym (c .before .before .check .ensures) ∙ c .before .if1 .left) (c .if2 .taken)
 
 seek-requires : tie.Need-seek-requires
 seek-requires c κs = search needs
@@ -33,10 +22,10 @@ count-requires : tie.Need-count-requires
 count-requires c κs = header-there (now (c .before .before .before .before .before .before .args .index)) (sym (c .before .before .before .check .ensures) ∙ c .before .before .if1 .left)
 
 returns-3 : tie.Need-returns-3
-returns-3 c = lookup-none (now (c .before .before .before .before .before .before .before .before .args .index)) (now (c .before .before .before .before .before .before .before .before .args .fp)) (sym (c .before .before .before .before .before .check .ensures) ∙ c .before .before .before .before .if1 .left) (c .before .before .before .if2 .left) (c .before .before .seek .result) (c .before .before .seek .ensures) (c .before .count .result) (c .before .count .ensures) (c .if3 .taken)
+returns-3 c = number-none (now (c .before .before .before .before .before .before .before .before .args .index)) (now (c .before .before .before .before .before .before .before .before .args .fp)) (sym (c .before .before .before .before .before .check .ensures) ∙ c .before .before .before .before .if1 .left) (c .before .before .before .if2 .left) (c .before .before .seek .result) (c .before .before .seek .ensures) (c .before .count .result) (c .before .count .ensures) (c .if3 .taken)
 
 returns-4 : tie.Need-returns-4
-returns-4 c = lookup-found (now (c .before .before .before .before .before .before .before .before .args .index)) (now (c .before .before .before .before .before .before .before .before .args .fp)) (sym (c .before .before .before .before .before .check .ensures) ∙ c .before .before .before .before .if1 .left) (c .before .before .before .if2 .left) (c .before .before .seek .result) (c .before .before .seek .ensures) (c .before .count .result) (c .before .count .ensures) (c .if3 .left)
+returns-4 c = number-found (now (c .before .before .before .before .before .before .before .before .args .index)) (now (c .before .before .before .before .before .before .before .before .args .fp)) (sym (c .before .before .before .before .before .check .ensures) ∙ c .before .before .before .before .if1 .left) (c .before .before .before .if2 .left) (c .before .before .seek .result) (c .before .before .seek .ensures) (c .before .count .result) (c .before .count .ensures) (c .if3 .left)
 
 pub find-body-spec : {M : Type 1} → statement M
 find-body-spec =

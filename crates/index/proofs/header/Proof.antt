@@ -1,22 +1,13 @@
-use mathlib.Core.Path.{_≡_, refl, sym, ap, _∙_}
-use mathlib.Core.Logic.{_≢_, _⊎_, inl, inr}
-use mathlib.Core.Bool.{Bool, true, false}
-use Prim.Native.Nat.{ℕ, _+_, _-_, _*_, _/_, _%_, _≤_, _<_}
+-- `header` meets its contract: each test of the first 8 bytes decides the stage (StageLaws).
+use mathlib.Core.Path.{sym, _∙_}
 use native.Mathlib.Omega.{arith}
-use lib.ListN.{length, getD, drop}
 use denote.Ref.{now}
 use borrow.Author.Needs.{needs}
 use borrow.Author.Tests.{not-true, not-false}
-use Rattle.index.specs.Stages.{headerCode, directoryCode, Opened, Laid, Lens}
 use Rattle.index.proofs.StageLaws.{header-short, header-mark, header-many, header-good}
-use lib.ListN.{take}
 use lib.Seq.{length-take-le}
 use Rattle.index.proofs.header.Statement.{statement}
 use Rattle.index.proofs.header.Tie as tie
-use Rattle.index.proofs.header.Reads as reads
-use Rattle.index.proofs.header.Lts as lts
-use Rattle.field.proofs.equal.Reads as equal-reads
-use Rattle.field.proofs.read.Reads as read-reads
 
 returns : tie.Need-returns
 returns c = header-short (now (c .before .before .args .index)) (c .if1 .taken)

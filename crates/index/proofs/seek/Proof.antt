@@ -1,25 +1,12 @@
-use mathlib.Core.Path.{_≡_, refl, sym, ap, _∙_}
-use mathlib.Core.Logic.{_≢_, _⊎_, inl, inr}
-use mathlib.Core.Bool.{Bool, true, false}
-use Prim.Native.Nat.{ℕ, _+_, _-_, _*_, _/_, _%_, _≤_, _<_}
-use native.Mathlib.Omega.{arith}
-use lib.ListN.{length, getD, drop}
+-- `seek` meets its contract: the chains of a checked index's fingerprints lead to the position.
+use mathlib.Core.Path.{ap, _∙_}
 use denote.Ref.{now}
+use Rattle.directory.proofs.ChainLaws.{zeros}
 use borrow.Author.Needs.{needs}
-use native.Mathlib.Nat.{zero-add}
-use mathlib.Core.List.{List}
 use Rattle.index.proofs.LookupLaws.{header-there, lies-in, keys-in}
-use lib.ListN.{length-replicate, getD-replicate}
 use Rattle.spec.specs.Bytes.{positionOf}
-use Rattle.directory.specs.Chains.{Lies, Empty, Chained, Built}
 use Rattle.index.proofs.seek.Statement.{statement}
 use Rattle.index.proofs.seek.Tie as tie
-use Rattle.index.proofs.seek.Reads as reads
-use Rattle.index.proofs.seek.Lts as lts
-use Rattle.directory.proofs.build.Reads as build-reads
-use Rattle.directory.proofs.find.Reads as find-reads
-use Rattle.index.proofs.count.Reads as count-reads
-use Rattle.index.proofs.start_of.Reads as start-of-reads
 
 start-of-requires : tie.Need-start-of-requires
 start-of-requires c κs = search needs
@@ -36,7 +23,7 @@ slice-aggregate-build-2 c = search needs
 build-requires : tie.Need-build-requires
 build-requires c κs = (
   lies-in (now (c .before .before .before .before .before .before .args .index)) (c .before .before .before .before .before .before .pre .0) (c .before .before .before .start-of .result) (c .before .before .count .result) (c .before .before .before .start-of .ensures) (c .before .before .count .ensures),
-  record { wide = length-replicate {A = ℕ} 65536 0; none = λ h m. getD-replicate {A = ℕ} 65536 h 0 0 m; long = omega (arith, length-replicate {A = ℕ} 65000 0) },
+  zeros,
 )
 
 slice-aggregate-find : tie.Need-slice-aggregate-find

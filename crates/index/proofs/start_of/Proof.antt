@@ -1,19 +1,9 @@
-use mathlib.Core.Path.{_≡_, refl, sym, ap, _∙_}
-use mathlib.Core.Logic.{_≢_, _⊎_, inl, inr}
-use mathlib.Core.Bool.{Bool, true, false}
-use Prim.Native.Nat.{ℕ, _+_, _-_, _*_, _/_, _%_, _≤_, _<_}
-use native.Mathlib.Omega.{arith}
-use lib.ListN.{length, getD, drop}
+-- `start_of` meets its contract: the keyword list of a checked index reads without fault.
 use denote.Ref.{now}
 use borrow.Author.Needs.{needs}
-use native.Mathlib.Nat.{zero-add}
-use mathlib.Core.List.{List}
 use Rattle.index.proofs.LookupLaws.{header-there, list-good, start-is}
 use Rattle.index.proofs.start_of.Statement.{statement}
 use Rattle.index.proofs.start_of.Tie as tie
-use Rattle.index.proofs.start_of.Reads as reads
-use Rattle.index.proofs.start_of.Lts as lts
-use Rattle.keywords.proofs.parse.Reads as parse-reads
 
 sub-parse : tie.Need-sub-parse
 sub-parse c = header-there (now (c .before .args .index)) (c .before .pre)

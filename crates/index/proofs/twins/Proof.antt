@@ -1,23 +1,13 @@
-use mathlib.Core.Path.{_≡_, refl, sym, ap, _∙_}
-use mathlib.Core.Logic.{_≢_, _⊎_, inl, inr}
-use mathlib.Core.Bool.{Bool, true, false}
-use Prim.Native.Nat.{ℕ, _+_, _-_, _*_, _/_, _%_, _≤_, _<_}
+-- `twins` meets its contract: the crate below builds the chains in arrays of zeros and tells of a twin.
+use mathlib.Core.Path.{ap, _∙_}
 use native.Mathlib.Omega.{arith}
-use lib.ListN.{length, getD, drop}
 use denote.Ref.{now}
+use Rattle.directory.proofs.ChainLaws.{zeros}
 use borrow.Author.Needs.{needs}
-use borrow.Author.Tests.{not-true, not-false}
-use Rattle.index.specs.Stages.{headerCode, directoryCode, Opened, Laid, Lens}
 use Rattle.index.proofs.StageLaws.{keys-are}
-use lib.ListN.{length-replicate, getD-replicate}
 use Rattle.spec.specs.Bytes.{twice}
-use Rattle.spec.specs.Index.{indexKeys}
-use Rattle.directory.specs.Chains.{Lies, Empty, Built}
 use Rattle.index.proofs.twins.Statement.{statement}
 use Rattle.index.proofs.twins.Tie as tie
-use Rattle.index.proofs.twins.Reads as reads
-use Rattle.index.proofs.twins.Lts as lts
-use Rattle.directory.proofs.build.Reads as build-reads
 
 slice-aggregate-build : tie.Need-slice-aggregate-build
 slice-aggregate-build c = search needs
@@ -29,7 +19,7 @@ build-requires : tie.Need-build-requires
 build-requires c κs =
     let s = c .before .before .before in (
       record { inside = s .pre .room; keyed = omega arith; few = s .pre .opened .few },
-      record { wide = length-replicate {A = ℕ} 65536 0; none = λ h m. getD-replicate {A = ℕ} 65536 h 0 0 m; long = omega (arith, length-replicate {A = ℕ} 65000 0) },
+      zeros,
     )
 
 returns : tie.Need-returns
