@@ -30,11 +30,11 @@ fn bodies_size(list: &[u8], words: keywords::Keywords, store: &[u8], count: usiz
     ensures { λ r. ⌜ r ≡ length (bodiesFrom form1 (now (list .entry)) (now (store .entry)) 0) ⌝ }
 {
     let mut size: usize = 0;
-    let mut k: usize = 0;
-    while k < count {
-        let chunk = store::chunk_at(store, k);
+    let mut j: usize = 0;
+    while j < count {
+        let chunk = store::chunk_at(store, j);
         size += matcher::body_size(list, words, chunk);
-        k += 1;
+        j += 1;
     }
     size
 }

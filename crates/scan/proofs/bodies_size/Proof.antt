@@ -20,13 +20,13 @@ use Rattle.matcher.proofs.body_size.Reads as body-size-reads
 use Rattle.store.proofs.chunk_at.Reads as chunk-at-reads
 
 abbrev Inv-loop : tie.InvT-loop
-Inv-loop list words store count size₀ k₀ size k = (k ≤ count) × (size + length (bodiesFrom form1 list store k) ≡ length (bodiesFrom form1 list store 0))
+Inv-loop list words store count size₀ j₀ size j = (j ≤ count) × (size + length (bodiesFrom form1 list store j) ≡ length (bodiesFrom form1 list store 0))
 
 abbrev μ-loop : tie.MeasureT-loop
-μ-loop list words store count size₀ k₀ size k = count - k
+μ-loop list words store count size₀ j₀ size j = count - j
 
 -- in a turn there is such a chunk
-within : (c : tie.In-loop Inv-loop μ-loop) → c .before .loop .k < chunkCount (c .before .before .before .before .args .store .now)
+within : (c : tie.In-loop Inv-loop μ-loop) → c .before .loop .j < chunkCount (c .before .before .before .before .args .store .now)
 within c = omega (arith, c .loop-test .taken, c .before .before .before .before .pre .counted)
 
 loop-holds : tie.Need-loop-holds Inv-loop μ-loop
@@ -41,18 +41,18 @@ body-size-requires c κs =
     let s = p .before .before .before in
     record {
       reads = s .pre .reads;
-      short = omega (arith, ap length (c .chunk-at .ensures .holds), body-short (s .args .list .now) (s .args .store .now) (s .pre .checked) (s .pre .reads .accepted) (p .loop .k) (within (c .before)));
+      short = omega (arith, ap length (c .chunk-at .ensures .holds), body-short (s .args .list .now) (s .args .store .now) (s .pre .checked) (s .pre .reads .accepted) (p .loop .j) (within (c .before)));
     }
 
 -- the body measured is the first of those left
 step : (c : tie.After-body-size Inv-loop μ-loop)
     → let p = c .before .before .before in let a = p .before .before .before .args in
-    length (bodiesFrom form1 (a .list .now) (a .store .now) (p .loop .k)) ≡ c .body-size .result + length (bodiesFrom form1 (a .list .now) (a .store .now) (p .loop .k + 1))
+    length (bodiesFrom form1 (a .list .now) (a .store .now) (p .loop .j)) ≡ c .body-size .result + length (bodiesFrom form1 (a .list .now) (a .store .now) (p .loop .j + 1))
 step c =
     let p = c .before .before .before in
     let a = p .before .before .before .args in
     let e = c .body-size .ensures ∙ ap (λ chunk. length (scanBody form1 (a .list .now) chunk)) (c .before .chunk-at .ensures .holds) in
-    omega (arith, e, bodies-length form1 (a .list .now) (a .store .now) (p .loop .k) (within (c .before .before)))
+    omega (arith, e, bodies-length form1 (a .list .now) (a .store .now) (p .loop .j) (within (c .before .before)))
 
 add-size : tie.Need-add-size Inv-loop μ-loop
 add-size c =
@@ -60,8 +60,8 @@ add-size c =
     let s = p .before .before .before in
     omega (arith, step c, p .loop .inv .1, bodies-most (s .args .list .now) (s .args .store .now) (s .pre .checked) (s .pre .reads .accepted), store-good (s .args .store .now) (s .pre .checked) .few)
 
-add-k : tie.Need-add-k Inv-loop μ-loop
-add-k c = search needs
+add-j : tie.Need-add-j Inv-loop μ-loop
+add-j c = search needs
 
 loop-less : tie.Need-loop-less Inv-loop μ-loop
 loop-less c = omega (arith, c .before .before .loop-test .taken)
@@ -73,7 +73,7 @@ returns : tie.Need-returns Inv-loop μ-loop
 returns c =
     let p = c .before in
     let s = p .before .before .before in
-    omega (arith, p .loop .inv .1, ap length (bodies-end form1 (s .args .list .now) (s .args .store .now) (p .loop .k) (omega (arith, c .loop-test .left, s .pre .counted))))
+    omega (arith, p .loop .inv .1, ap length (bodies-end form1 (s .args .list .now) (s .args .store .now) (p .loop .j) (omega (arith, c .loop-test .left, s .pre .counted))))
 
 pub bodies-size-spec : {M : Type 1} → statement M
 bodies-size-spec =
@@ -85,7 +85,7 @@ bodies-size-spec =
     chunk-at-requires
     body-size-requires
     add-size
-    add-k
+    add-j
     loop-less
     loop-again
     returns)
