@@ -27,14 +27,14 @@ returns-2 c =
     let n = c .before in
     let s = n .before .before in
     let a = s .before .before .before .before .args in
-    scan-short (a .list .now) (a .store .now) (s .scannable .result) (s .scannable .ensures) (a .out .now) (n .index-size .result) (omega arith) (n .index-size .ensures) (c .if2 .taken)
+    scan-short (a .list .now) (a .store .now) (s .scannable .result) (s .scannable .ensures) (a .out .now) (n .index-size .result) (omega arith) (n .index-size .ensures) (omega arith)
 
 returns-3 : tie.Need-returns-3
 returns-3 c =
     let n = c .before .before in
     let s = n .before .before in
     let a = s .before .before .before .before .args in
-    scan-large (a .list .now) (a .store .now) (s .scannable .result) (s .scannable .ensures) (a .out .now) (n .index-size .result) (omega arith) (n .index-size .ensures) (c .if3 .taken)
+    scan-large (a .list .now) (a .store .now) (s .scannable .result) (s .scannable .ensures) (a .out .now) (n .index-size .result) (omega arith) (n .index-size .ensures) (omega arith)
 
 put-index-requires : tie.Need-put-index-requires
 put-index-requires c κs =
