@@ -1,4 +1,4 @@
-//! The C interface of the Rattle crate `vault_c`: every declaration of the workspace is here.
+//! The C interface of the Rattle crate `vault_c`: every declaration of the workspace is here, as `include/vault.h` has them.
 //!
 //! A slice passes as its pointer and its length; a number is written through a pointer. With the feature `mock` the
 //! same names come from the oracle (`mock.rs`).

@@ -8,8 +8,8 @@
 //! Every function takes every input: what isn't a good file is refused with an [`Error`], and a refused call changes no
 //! buffer. What is proved is the library behind; this crate checks nothing again and only names things.
 //!
-//! The library works on the stack and wants about [`STACK`] bytes of it: a thread that Rust started has 2 MB, so call from
-//! the main thread or through [`on_large_stack`].
+//! The library keeps its tables on the stack, a megabyte or two of it, and a thread that Rust starts has 2 MB: call from the
+//! main thread or through [`on_large_stack`].
 //!
 //! ```no_run
 //! let keywords = vault::keyword_list(false, &[b"invoice", b"paid"]).unwrap();
@@ -327,6 +327,30 @@ mod tests {
             let refused = search_into(&list, &store[..8], &recipes, &mut index_buffer, &mut []);
             assert_eq!(refused, Err(SearchError::Scan(Error::new(6))));
         });
+    }
+
+    /// Names and numbers of parameters, as the C header and `ffi.rs` declare them.
+    fn declared(text: &str, start: &str) -> Vec<(String, usize)> {
+        let text = text.replace('\n', " ");
+        let mut found: Vec<(String, usize)> = text
+            .split(start)
+            .skip(1)
+            .filter_map(|rest| rest.split_once('('))
+            .map(|(name, rest)| {
+                (name.to_string(), rest.split(')').next().unwrap_or("").trim_end_matches([' ', ',']).matches(',').count() + 1)
+            })
+            .collect();
+        found.sort();
+        found
+    }
+
+    #[test]
+    fn the_declarations_are_the_headers() {
+        let header = std::fs::read_to_string(concat!(env!("CARGO_MANIFEST_DIR"), "/../../include/vault.h")).unwrap();
+        let header = header.replace("uint8_t vault_", "fn vault_").replace("uint64_t vault_", "fn vault_");
+        let names = declared(&header, "fn vault_");
+        assert_eq!(names.len(), 14);
+        assert_eq!(names, declared(include_str!("ffi.rs"), "fn vault_"));
     }
 
     #[test]
