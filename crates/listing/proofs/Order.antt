@@ -1,14 +1,14 @@
 -- The order of a place's occurrences: the first of the least heads is the next, and is taken off its stream. Nothing is said of how far
 -- the listing has come: numbers before the least head are in no stream. Assumes nothing.
-use mathlib.Core.Path.{_≡_, refl, sym, ap, ap₂, _∙_}
+use mathlib.Core.Path.{_≡_, refl, sym, ap, _∙_}
 use mathlib.Core.Logic.{_≢_, _⊎_, inl, inr}
-use mathlib.Core.Bool.{Bool, true, false, _&&_, _||_, false≢true}
+use mathlib.Core.Bool.{Bool, true, false, false≢true}
 use mathlib.Core.List.{List, [], _∷_, _++_}
-use Prim.Native.Nat.{ℕ, zero, suc, _+_, _-_, _≤_, _<_}
+use Prim.Native.Nat.{ℕ, suc, _+_, _-_, _≤_, _<_}
 use native.Mathlib.Nat.{zero-add, sub-zero}
 use native.Mathlib.Omega.{arith}
 use lib.ListN.{length, getD}
-use lib.Dec.{eqb, ltb, eqb→eq}
+use lib.Dec.{eqb, eqb→eq}
 use Rattle.spec.specs.Bytes.{each, keep, member, rising}
 use Rattle.spec.specs.Join.{Occurrence, hits}
 use Rattle.spec.proofs.Tests.{eqb-ne, eqb-same, T-of}

@@ -1,15 +1,14 @@
 -- The streams after the first occurrence is taken off them, and while they are opened one after the other. Assumes nothing.
-use mathlib.Core.Path.{_≡_, refl, sym, ap, ap₂, _∙_, subst}
+use mathlib.Core.Path.{_≡_, refl, sym, ap, _∙_, subst}
 use mathlib.Core.Logic.{_≢_, _⊎_, inl, inr}
-use mathlib.Core.Bool.{Bool, true, false, cond, _&&_}
-use mathlib.Core.List.{List, [], _∷_, _++_}
-use Prim.Native.Nat.{ℕ, zero, suc, _+_, _-_, _*_, _≤_, _<_}
+use mathlib.Core.Bool.{Bool, true, false, cond}
+use mathlib.Core.List.{List, [], _∷_}
+use Prim.Native.Nat.{ℕ, _+_, _≤_, _<_}
 use native.Mathlib.Omega.{arith}
 use lib.ListN.{length, getD, set, length-set}
 use lib.Seq.{getD-set-same, getD-set-other}
 use lib.Dec.{ltb}
-use Rattle.spec.specs.Bytes.{rising}
-use Rattle.listing.specs.Streams.{below, unread, headed, stream, streamOf, streamAt, unreadAt, occurrences, Readable, Open, Pulled, Ready, Held, Least, Opened, NextTaken}
+use Rattle.listing.specs.Streams.{headed, stream, streamOf, streamAt, unreadAt, Readable, Open, Pulled, Ready, Held, Least, Opened, NextTaken}
 use Rattle.listing.proofs.Order.{eq-or-ne, merge-step, merge-done}
 use Rattle.listing.proofs.Pulling.{headed-out, open-head}
 

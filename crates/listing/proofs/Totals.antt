@@ -1,18 +1,18 @@
 -- How many occurrences a place gives: as many as its streams have numbers. Assumes nothing.
 use mathlib.Core.Path.{_≡_, refl, sym, ap, ap₂, _∙_}
 use mathlib.Core.Bool.{Bool, true, false, _&&_}
-use mathlib.Core.List.{List, [], _∷_, _++_}
-use Prim.Native.Nat.{ℕ, zero, suc, _+_, _-_, _*_, _^_, _≤_, _<_}
+use mathlib.Core.List.{List, [], _∷_}
+use Prim.Native.Nat.{ℕ, zero, suc, _+_, _*_, _^_, _≤_, _<_}
 use native.Mathlib.Nat.{zero-add, add-zero, add-mul, one-mul}
 use native.Mathlib.Numerals.{add-one}
 use native.Mathlib.Omega.{arith}
 use lib.ListN.{length, getD, drop, length-append}
 use lib.Dec.{ltb}
-use lib.Count.{ones}
 use Rattle.spec.specs.Bytes.{fieldsOf, each, keep, member, rising, sum}
-use Rattle.spec.specs.Join.{Occurrence, hits}
+use Rattle.spec.specs.Join.{hits}
+use Rattle.spec.proofs.FieldLists.{length-fieldsOf}
 use Rattle.spec.proofs.Rising.{allBelow, passing-member}
-use Rattle.listing.specs.Streams.{below, bits, unread, streamOf, unreadAt, occurrences, numbers, total, Ready, Readable, small}
+use Rattle.listing.specs.Streams.{below, unread, streamOf, unreadAt, occurrences, numbers, total, Ready, small}
 use Rattle.listing.proofs.Digits.{bits-length}
 
 pub below-same : (n : ℕ) (xs : List ℕ) → allBelow n xs ≡ below n xs
@@ -67,14 +67,6 @@ keep-le false x = omega arith
 
 -- ---- occurrences and numbers
 
--- neither the file's number nor the base bears on how many there are
-pub occurrences-length : (file base file′ base′ count size : ℕ) (s : ℕ → List ℕ) → length (occurrences file count base size s) ≡ length (occurrences file′ count base′ size s)
-unfolding occurrences hits
-occurrences-length file base file′ base′ count size s =
-    length-each _ 0 size
-    ∙ sum-same _ _ 0 size (λ p u v. length-each _ 0 count ∙ sum-same _ _ 0 count (λ k x y. length-keep (member p (s k)) _ _) ∙ sym (length-each _ 0 count))
-    ∙ sym (length-each _ 0 size)
-
 module _ (size : ℕ) where
   abbrev at-offset : List ℕ → ℕ → ℕ
   at-offset xs p = length (keep (member p xs) p)
@@ -97,15 +89,10 @@ module _ (size : ℕ) where
       ∙ sum-swap (λ p k. at-offset (s k) p) 0 size 0 count
       ∙ sum-same _ _ 0 count (λ k u v. stream-length (s k) (up k (omega arith)) (under k (omega arith)))
 
-fields-length : (width n : ℕ) (bytes : List ℕ) → length (fieldsOf width n bytes) ≡ n
-unfolding fieldsOf
-fields-length width zero bytes = refl
-fields-length width (suc n) bytes = ap suc (fields-length width n (drop width bytes))
-
 unread-length : (index : List ℕ) (width : ℕ) (s : List ℕ) → getD s 4 0 < 2 ^ 32 → length (unread index width s) ≡ numbers s
 unfolding unread
 unread-length index width s h =
-    length-append (fieldsOf width (getD s 2 0) (drop (getD s 1 0) index)) _ ∙ ap₂ (λ (x y : ℕ). x + y) (fields-length width (getD s 2 0) (drop (getD s 1 0) index)) (bits-length 32 (getD s 3 0) (getD s 4 0) h)
+    length-append (fieldsOf width (getD s 2 0) (drop (getD s 1 0) index)) _ ∙ ap₂ (λ (x y : ℕ). x + y) (length-fieldsOf width (getD s 2 0) (drop (getD s 1 0) index)) (bits-length 32 (getD s 3 0) (getD s 4 0) h)
 
 module _ (index : List ℕ) (width size count : ℕ) (streams : List (List ℕ)) (ready : Ready index width size count streams) where
   numbers-le : (k : ℕ) → k < count → numbers (streamOf streams k) ≤ size

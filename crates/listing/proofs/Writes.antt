@@ -1,13 +1,13 @@
 -- The bytes of occurrences. Assumes nothing.
-use mathlib.Core.Path.{_≡_, refl, sym, ap, ap₂, _∙_}
+use mathlib.Core.Path.{_≡_, refl, sym, ap}
 use mathlib.Core.List.{List, [], _∷_, _++_, append-assoc}
-use Prim.Native.Nat.{ℕ, zero, suc, _+_, _-_, _*_, _≤_, _<_}
+use Prim.Native.Nat.{ℕ, _+_, _*_, _≤_}
 use native.Mathlib.Omega.{arith}
 use lib.ListN.{length, length-append}
 use Rattle.spec.specs.Bytes.{leBytes, splice}
 use Rattle.spec.specs.Join.{Occurrence, occurrenceBytes, listBytes}
 use Rattle.spec.proofs.Fields.{length-leBytes}
-use Rattle.spec.proofs.Splices.{splice-then, length-splice}
+use Rattle.spec.proofs.Splices.{splice-then}
 
 pub length-occurrence : (o : Occurrence) → length (occurrenceBytes o) ≡ 9
 unfolding occurrenceBytes

@@ -1,9 +1,9 @@
 -- The streams of a place: for each keyword its offsets in the chunk, then its starts that cross into the next chunk.
 use mathlib.Core.Path.{_≡_}
-use mathlib.Core.Bool.{Bool, true, false, cond, _&&_}
+use mathlib.Core.Bool.{Bool, true, cond}
 use mathlib.Core.List.{List, [], _∷_, _++_}
 use Prim.Native.Nat.{ℕ, zero, suc, _+_, _*_, _/_, _%_, _^_, _≤_, _<_}
-use lib.ListN.{length, take, drop, getD}
+use lib.ListN.{length, drop, getD}
 use lib.Dec.{eqb, ltb}
 use lib.Count.{ones}
 use Rattle.spec.specs.Bytes.{fieldsOf, each, keep, member, rising, every, sum}

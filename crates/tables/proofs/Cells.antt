@@ -1,17 +1,17 @@
 -- A cell by comparisons of parts of the keyword, and its set by going through the starts. Assumes nothing.
-use mathlib.Core.Path.{_≡_, refl, sym, ap, ap₂, _∙_, subst}
-use mathlib.Core.Bool.{Bool, true, false, _&&_, cond, and-comm}
+use mathlib.Core.Path.{_≡_, sym, ap, _∙_, subst}
+use mathlib.Core.Bool.{Bool, true, false, _&&_, and-comm}
 use mathlib.Core.List.{List, [], _∷_}
 use Prim.Native.Nat.{ℕ, zero, suc, _+_, _-_, _*_, _%_, _^_, _≤_, _<_}
 use native.Mathlib.Nat.{one-mul, zero-mul, zero-add, add-comm, pow-suc}
 use native.Mathlib.Numerals.{add-one}
 use native.Mathlib.Omega.{arith}
 use borrow.Author.Count.{below-more}
-use lib.ListN.{length, take, drop, getD, set, length-drop, length-take, length-map}
-use lib.Seq.{take-all, getD-set-same, getD-set-other, length-take-le}
+use lib.ListN.{length, take, drop, getD, set, length-drop, length-take}
+use lib.Seq.{take-all, getD-set-same, getD-set-other}
 use lib.Pow.{shl-exact, pow-mono}
 use Rattle.spec.specs.Bytes.{begins, occursAt, part}
-use Rattle.spec.specs.Keywords.{folded, countOf, flagOf, readKeywords, keywordsOf, listSize, foldedKeywords}
+use Rattle.spec.specs.Keywords.{folded, countOf, readKeywords, keywordsOf, foldedKeywords}
 use Rattle.spec.specs.Table.{inCell, setOf}
 use Rattle.spec.specs.Join.{crosses, keywordAt}
 use Rattle.spec.proofs.Tests.{leb-true}
@@ -20,7 +20,7 @@ use Rattle.spec.proofs.Point.{starts, crosses-split}
 use Rattle.spec.proofs.Stream.{cell-edge}
 use Rattle.spec.proofs.Sets.{set-lt}
 use Rattle.spec.proofs.KeywordLaws.{folded-count, folded-keyword}
-use Rattle.keywords.specs.Parsed.{Placed, Parsed}
+use Rattle.keywords.specs.Parsed.{Parsed}
 use Rattle.tables.specs.Tabled.{cellSet, TableOf, Tabled}
 
 -- ---- one start

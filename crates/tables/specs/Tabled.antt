@@ -1,7 +1,7 @@
 -- Partial-match tables as arrays of arrays of sets: document 01, "a square table whose cell for lengths i and j".
 use mathlib.Core.Path.{_≡_}
 use mathlib.Core.List.{List, []}
-use Prim.Native.Nat.{ℕ, _+_, _≤_, _<_}
+use Prim.Native.Nat.{ℕ, _≤_, _<_}
 use lib.ListN.{length, getD}
 use Rattle.spec.specs.Table.{inCell, setOf}
 use Rattle.spec.specs.Join.{keywordAt}

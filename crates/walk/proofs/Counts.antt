@@ -1,8 +1,8 @@
 -- Counting and listing a file. The number of its occurrences does not hang on the file's number, nor on where it starts. Assumes nothing.
 use mathlib.Core.Path.{_≡_, refl, sym, ap, ap₂, _∙_, subst}
 use mathlib.Core.Bool.{Bool, true, false}
-use mathlib.Core.List.{List, [], _∷_, _++_, map}
-use Prim.Native.Nat.{ℕ, zero, suc, _+_, _-_, _*_, _/_, _^_, _≤_, _<_}
+use mathlib.Core.List.{List, [], _∷_}
+use Prim.Native.Nat.{ℕ, zero, suc, _+_, _*_, _^_, _≤_, _<_}
 use native.Mathlib.Nat.{add-zero, add-suc, suc-add, zero-lt-suc, mul-le-mul-right}
 use native.Mathlib.Omega.{arith}
 use lib.ListN.{length, getD, set, drop, drop-of-length-le, length-append, replicate, length-replicate}
@@ -15,8 +15,7 @@ use Rattle.spec.proofs.Writing.{Going, going-start, going-room, going-on, going
 use Rattle.listing.specs.Streams.{small, streamOf, unreadAt, occurrences, total, Ready}
 use Rattle.listing.proofs.Totals.{total-is, total-le, all-small}
 use Rattle.listing.proofs.Writes.{length-occurrence, length-list, list-cons, list-nil}
-use Rattle.walk.specs.Walking.{chunksIn, chunkIn, sizeOf, Directory, File, Keyed, Walkable, LoadedAt, Crossed, AtPlace, coming, Counted, Listed}
-use Rattle.walk.proofs.Entries.{chunks-length}
+use Rattle.walk.specs.Walking.{chunksIn, sizeOf, Directory, File, Keyed, Walkable, LoadedAt, Crossed, AtPlace, coming, Counted}
 use Rattle.walk.proofs.Places.{AllGood, place-ready, place-join}
 use Rattle.walk.proofs.Moves.{size-next, start-place, start-coming}
 

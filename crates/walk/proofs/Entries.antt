@@ -1,16 +1,14 @@
 -- What a checked index gives to the walk: the entry of a fingerprint can be loaded, its rows are the definition's records, and those keep
 -- the ranges. Assumes nothing.
 use mathlib.Core.Path.{_≡_, refl, sym, ap, ap₂, _∙_, subst}
-use mathlib.Core.Logic.{_≢_, _⊎_, inl, inr}
-use mathlib.Core.Bool.{Bool, true, false, _&&_, false≢true}
-use mathlib.Core.List.{List, [], _∷_, _++_, map}
-use Prim.Native.Nat.{ℕ, zero, suc, _+_, _-_, _*_, _/_, _^_, _≤_, _<_}
-use native.Mathlib.Nat.{zero-lt-suc, add-sub-cancel-left}
+use mathlib.Core.Bool.{true, false≢true}
+use mathlib.Core.List.{List, [], _∷_, map}
+use Prim.Native.Nat.{ℕ, zero, suc, _+_, _-_, _*_, _/_, _≤_, _<_}
 use native.Mathlib.Omega.{arith}
-use lib.ListN.{length, getD, take, drop, length-map, length-take, length-drop, drop-of-length-le, replicate, length-replicate, List·getD-map}
+use lib.ListN.{length, getD, take, drop, length-map, length-drop, drop-of-length-le, replicate, length-replicate}
 use lib.Seq.{drop-cons, length-take-le}
 use Rattle.spec.specs.Bytes.{part, fieldAt, positionOf}
-use Rattle.spec.specs.Keywords.{keywordsOf, foldedKeywords, listSize, countOf}
+use Rattle.spec.specs.Keywords.{foldedKeywords}
 use Rattle.spec.specs.Directory.{keysOf, directoryEnd, sizeAt, offsetAt, lengthAt}
 use Rattle.spec.specs.Store.{chunkCount}
 use Rattle.spec.specs.Records.{MatchRecord, ChunkRecords, emptyRecord, recordAt, form1, inRange, allInRange, readBody}
@@ -18,14 +16,15 @@ use Rattle.spec.specs.Index.{listIn, indexLayout, indexKeys, bodyAt, lengthsIn,
 use Rattle.spec.specs.Join.{keywordAt, fileRecords}
 use Rattle.spec.proofs.Tests.{and-left, and-right}
 use Rattle.spec.proofs.KeywordLaws.{accepted, folded-count, folded-proper, folded-lengths}
+use Rattle.spec.proofs.JoinIsSearch.{getD-map}
 use Rattle.spec.proofs.EntryLaws.{length-keys, key-at}
 use Rattle.spec.proofs.IndexChecks.{IndexGood, index-good}
 use Rattle.spec.proofs.RecordLaws.{allPositive, good-is-written}
 use Rattle.spec.proofs.ScanLaws.{positive-lengths}
-use Rattle.directory.specs.Chains.{keysFrom, Lies, Chained}
-use Rattle.loader.specs.Loaded.{Row, rowOf, recordIn, Loadable, Loaded}
+use Rattle.directory.specs.Chains.{keysFrom, Lies}
+use Rattle.loader.specs.Loaded.{Row, rowOf, Loadable, Loaded}
 use Rattle.loader.proofs.Fitting.{good-body-fits}
-use Rattle.walk.specs.Walking.{noChunk, chunksIn, chunkIn, firstSuffix, Directory, File, LoadedAt}
+use Rattle.walk.specs.Walking.{noChunk, chunksIn, chunkIn, Directory, File, LoadedAt}
 
 -- ---- a file's chunks
 
@@ -43,13 +42,8 @@ module _ (index file : List ℕ) where
   pub chunk-at : (n : ℕ) → n < length file / 20 → chunkIn (chunksIn index file) n ≡ indexRecords form1 index (positionOf (part file (20 * n) 20) (indexKeys index))
   unfolding chunksIn fileRecords
   chunk-at n h =
-      map-at (λ key. indexRecords form1 index (positionOf key (indexKeys index))) (keysOf 20 (length file / 20) file) n [] noChunk (rw (length-keys 20 (length file / 20) file) h)
+      getD-map (λ key. indexRecords form1 index (positionOf key (indexKeys index))) (keysOf 20 (length file / 20) file) n [] noChunk (rw (length-keys 20 (length file / 20) file) h)
       ∙ ap (λ (key : List ℕ). indexRecords form1 index (positionOf key (indexKeys index))) (key-at 20 (length file / 20) n file h)
-    where
-      map-at : {A B : Type 0} (f : A → B) (l : List A) (k : ℕ) (d : A) (e : B) → k < length l → getD (map f l) k e ≡ f (getD l k d)
-      map-at f [] k d e u = let z : ⊥ = omega arith in absurd z
-      map-at f (x ∷ l) zero d e u = refl
-      map-at f (x ∷ l) (suc k) d e u = map-at f l k d e (omega arith)
 
 -- ---- an entry of a checked index
 

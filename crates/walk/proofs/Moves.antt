@@ -1,19 +1,19 @@
 -- From place to place: what is still to come does not change when a place is opened. Assumes nothing.
-use mathlib.Core.Path.{_≡_, refl, sym, ap, ap₂, _∙_, subst}
-use mathlib.Core.Bool.{Bool, true, false}
-use mathlib.Core.List.{List, [], _∷_, _++_, map}
-use Prim.Native.Nat.{ℕ, zero, suc, _+_, _-_, _*_, _/_, _^_, _≤_, _<_}
+use mathlib.Core.Path.{_≡_, sym, ap, _∙_, subst}
+use mathlib.Core.Bool.{true}
+use mathlib.Core.List.{List, _∷_, _++_}
+use Prim.Native.Nat.{ℕ, suc, _+_, _/_, _^_, _≤_, _<_}
 use native.Mathlib.Numerals.{add-one}
 use native.Mathlib.Omega.{arith}
-use lib.ListN.{length, getD, set, length-set, take, drop, drop-of-length-le}
+use lib.ListN.{length, getD, set, length-set, drop, drop-of-length-le}
 use lib.Seq.{getD-set-same, getD-set-other, drop-cons}
 use Rattle.spec.specs.Keywords.{foldedKeywords}
-use Rattle.spec.specs.Records.{ChunkRecords, recordAt, form1, inRange}
-use Rattle.spec.specs.Index.{listIn, indexRecords}
+use Rattle.spec.specs.Records.{ChunkRecords, recordAt, inRange}
+use Rattle.spec.specs.Index.{listIn}
 use Rattle.spec.specs.Join.{Occurrence, keywordAt, joinFrom, joinFile}
 use Rattle.spec.proofs.Tests.{leb-false}
-use Rattle.listing.specs.Streams.{stream, streamOf, streamAt, unreadAt, occurrences, Held, Ready, Opened, NextTaken}
-use Rattle.walk.specs.Walking.{noChunk, chunksIn, chunkIn, sizeOf, Directory, File, Keyed, Walkable, LoadedAt, Crossable, Crossed, AtPlace, coming, Moved, NextOf}
+use Rattle.listing.specs.Streams.{stream, streamOf, streamAt, occurrences, Held, Ready, Opened, NextTaken}
+use Rattle.walk.specs.Walking.{noChunk, chunksIn, sizeOf, Keyed, Walkable, LoadedAt, Crossable, Crossed, AtPlace, coming, Moved, NextOf}
 use Rattle.walk.proofs.Entries.{chunks-length, chunk-at, proper, records-good}
 use Rattle.walk.proofs.Places.{AllGood, crossable, place-ready, place-join, occurrences-same}
 

@@ -1,24 +1,23 @@
 -- The streams of a place give what the definition lists there. Assumes nothing.
-use mathlib.Core.Path.{_≡_, refl, sym, ap, ap₂, _∙_, subst}
-use mathlib.Core.Logic.{_≢_, _⊎_, inl, inr}
-use mathlib.Core.Bool.{Bool, true, false, _&&_, _||_, and-false, or-false}
-use mathlib.Core.List.{List, [], _∷_, _++_, map}
-use Prim.Native.Nat.{ℕ, zero, suc, _+_, _-_, _*_, _^_, _≤_, _<_}
-use native.Mathlib.Nat.{zero-add, add-zero, lt-of-lt-of-le}
+use mathlib.Core.Path.{_≡_, refl, sym, ap, _∙_}
+use mathlib.Core.Bool.{Bool, true, and-false}
+use mathlib.Core.List.{List, [], _∷_, _++_}
+use Prim.Native.Nat.{ℕ, suc, _+_, _-_, _≤_, _<_}
+use native.Mathlib.Nat.{add-zero, lt-of-lt-of-le}
 use native.Mathlib.Numerals.{add-one}
 use native.Mathlib.Omega.{arith}
 use borrow.Author.Count.{below-more}
-use lib.ListN.{length, getD, take, drop, set, length-set, length-drop, drop-of-length-le}
+use lib.ListN.{length, getD, drop, set, length-set, length-drop}
 use lib.Seq.{drop-cons, getD-drop, getD-set-same, getD-set-other}
 use lib.Dec.{leb, ltb}
 use lib.Pow.{pow-mono}
-use Rattle.spec.specs.Bytes.{fieldsOf, each, keep, member, rising, every}
+use Rattle.spec.specs.Bytes.{each, rising, every}
 use Rattle.spec.specs.Keywords.{foldedKeywords}
 use Rattle.spec.specs.Table.{inCell, setOf}
-use Rattle.spec.specs.Records.{MatchRecord, ChunkRecords, recordAt, inRange, reach}
+use Rattle.spec.specs.Records.{ChunkRecords, recordAt, inRange, reach}
 use Rattle.spec.specs.Index.{listIn}
-use Rattle.spec.specs.Join.{Occurrence, keywordAt, hits, crosses, crossesInto, listed, joinFrom}
-use Rattle.spec.proofs.Tests.{leb-true, and-left, and-right, le-of-and}
+use Rattle.spec.specs.Join.{Occurrence, keywordAt, hits, crosses, listed, joinFrom}
+use Rattle.spec.proofs.Tests.{leb-true, and-right, le-of-and}
 use Rattle.spec.proofs.Each.{each-match, passing, member-passing}
 use Rattle.spec.proofs.Hits.{hits-same}
 use Rattle.spec.proofs.Rising.{allBelow}
@@ -26,10 +25,10 @@ use Rattle.spec.proofs.Sets.{set-lt}
 use Rattle.spec.proofs.Stream.{atPlace, stream, cell-no-suffix}
 use Rattle.spec.proofs.RecordRanges.{passing-rises, passing-every}
 use Rattle.spec.proofs.RecordLaws.{prefix-in, suffix-in, offsets-rise, offsets-in}
-use Rattle.tables.specs.Tabled.{cellSet, cellAt, Tabled}
-use Rattle.listing.specs.Streams.{below, bits, unread, streamOf, unreadAt, streamAt, occurrences, Ready, Opened}
+use Rattle.tables.specs.Tabled.{cellSet, cellAt}
+use Rattle.listing.specs.Streams.{below, bits, unread, streamOf, unreadAt, occurrences, Ready}
 use Rattle.listing.proofs.Digits.{bits-set}
-use Rattle.loader.specs.Loaded.{Row, rowOf}
+use Rattle.loader.specs.Loaded.{rowOf}
 use Rattle.walk.specs.Walking.{noChunk, chunkIn, firstSuffix, Keyed, LoadedAt, Crossable, Crossed}
 
 -- ---- filling the streams, one after the other

@@ -1,18 +1,17 @@
 -- Going through the places of a file. The file's chunks are `chunks`; the state is the place that is open, its streams, and the rows of the
 -- place behind it.
 use mathlib.Core.Path.{_≡_}
-use mathlib.Core.Bool.{Bool, true, false}
 use mathlib.Core.List.{List, [], _∷_, _++_, map}
-use Prim.Native.Nat.{ℕ, zero, suc, _+_, _-_, _*_, _/_, _^_, _≤_, _<_}
-use lib.ListN.{length, getD, take, drop}
+use Prim.Native.Nat.{ℕ, _+_, _-_, _*_, _/_, _^_, _≤_, _<_}
+use lib.ListN.{length, getD, drop}
 use Rattle.spec.specs.Bytes.{part, splice, positionOf, sum}
 use Rattle.spec.specs.Keywords.{listSize, foldedKeywords}
 use Rattle.spec.specs.Directory.{keysOf}
 use Rattle.spec.specs.Store.{chunkCount}
-use Rattle.spec.specs.Records.{MatchRecord, ChunkRecords, recordAt, form1, inRange}
-use Rattle.spec.specs.Index.{listIn, indexKeys, indexRecords, indexCode, lengthsIn}
-use Rattle.spec.specs.Join.{Occurrence, keywordAt, joinFrom, joinFile, fileRecords, listBytes}
-use Rattle.directory.specs.Chains.{keysFrom, Lies, Chained}
+use Rattle.spec.specs.Records.{ChunkRecords, recordAt, form1}
+use Rattle.spec.specs.Index.{listIn, indexKeys, indexCode}
+use Rattle.spec.specs.Join.{Occurrence, joinFrom, joinFile, fileRecords, listBytes}
+use Rattle.directory.specs.Chains.{keysFrom, Chained}
 use Rattle.loader.specs.Loaded.{Row, rowOf}
 use Rattle.tables.specs.Tabled.{cellAt, Tabled}
 use Rattle.listing.specs.Streams.{Held, streamOf, streamAt, occurrences}

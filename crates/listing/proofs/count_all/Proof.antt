@@ -1,8 +1,8 @@
 -- `listing::count_all` meets its contract.
 use mathlib.Core.Path.{_≡_, refl, sym, ap, _∙_}
-use Prim.Native.Nat.{ℕ, _+_, _-_, _*_, _^_, _≤_, _<_}
+use Prim.Native.Nat.{ℕ, _+_, _-_, _*_, _^_, _≤_}
 use native.Mathlib.Omega.{arith}
-use lib.ListN.{length, getD}
+use lib.ListN.{getD}
 use lib.Count.{ones-le}
 use Rattle.listing.specs.Streams.{streamOf, numbers, total}
 use Rattle.listing.proofs.Totals.{total-more}

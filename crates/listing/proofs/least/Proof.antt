@@ -2,9 +2,9 @@
 use mathlib.Core.Path.{_≡_, refl, sym, ap, _∙_}
 use mathlib.Core.Logic.{⊎-elim}
 use mathlib.Core.List.{List}
-use Prim.Native.Nat.{ℕ, _+_, _-_, _*_, _≤_, _<_}
+use Prim.Native.Nat.{ℕ, _+_, _-_, _≤_, _<_}
 use native.Mathlib.Omega.{arith}
-use lib.ListN.{length, getD}
+use lib.ListN.{getD}
 use Rattle.listing.specs.Streams.{streamOf}
 use borrow.Author.Needs.{needs}
 use borrow.Author.Count.{below-more}
@@ -33,40 +33,31 @@ Inv-loop streams count k₀ y₀ i₀ k y i = (1 ≤ i) × (i ≤ count) × (cou
 abbrev μ-loop : tie.MeasureT-loop
 μ-loop streams count k₀ y₀ i₀ k y i = count - i
 
--- src/lib.rt:46:17
 index-1-y : tie.Need-index-1-y Inv-loop μ-loop
 index-1-y c = search needs
 
--- src/lib.rt:46:17
 index-2-y : tie.Need-index-2-y Inv-loop μ-loop
 index-2-y c = search needs
 
--- src/lib.rt:48:5
 loop-holds : tie.Need-loop-holds Inv-loop μ-loop
 loop-holds c =
     (omega arith, omega arith, omega arith, omega arith, refl, (λ j h. let e : j ≡ 0 = omega arith in rw e (omega arith)), (λ j h. let z : ⊥ = omega arith in absurd z))
 
--- src/lib.rt:49:17
 mul-x : tie.Need-mul-x Inv-loop μ-loop
 mul-x c = omega arith
 
--- src/lib.rt:49:17
 index-1-x : tie.Need-index-1-x Inv-loop μ-loop
 index-1-x c = omega arith
 
--- src/lib.rt:49:17
 index-2-x : tie.Need-index-2-x Inv-loop μ-loop
 index-2-x c = omega arith
 
--- src/lib.rt:54:9
 add-i : tie.Need-add-i Inv-loop μ-loop
 add-i c = omega arith
 
--- src/lib.rt:48:5
 loop-less : tie.Need-loop-less Inv-loop μ-loop
 loop-less c = omega arith
 
--- src/lib.rt:48:5
 loop-again : tie.Need-loop-again Inv-loop μ-loop
 loop-again c =
     let p = c .before .before .before .loop in
@@ -80,7 +71,6 @@ loop-again c =
     (omega arith, omega arith, omega arith, omega arith, t .0, t .1, t .2))
     (c .if1 .came)
 
--- src/lib.rt:41:1
 returns : tie.Need-returns Inv-loop μ-loop
 returns c =
     let p = c .before .loop in

@@ -1,7 +1,5 @@
 -- `listing::next` meets its contract.
-use Prim.Native.Nat.{ℕ, _+_, _-_, _*_, _≤_, _<_}
 use native.Mathlib.Omega.{arith}
-use lib.ListN.{length, getD}
 use Rattle.listing.specs.Streams.{streamOf}
 use Rattle.listing.proofs.Pulling.{behind}
 use Rattle.listing.proofs.Stepping.{step-ended, step-found}

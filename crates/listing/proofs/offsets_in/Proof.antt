@@ -1,5 +1,5 @@
 -- `listing::offsets_in` meets its contract.
-use Prim.Native.Nat.{_+_, _≤_, _<_}
+use Prim.Native.Nat.{_≤_}
 use native.Mathlib.Omega.{arith}
 use lib.ListN.{getD}
 use lib.Count.{ones, ones-le}
@@ -12,27 +12,21 @@ use Rattle.listing.proofs.offsets_in.Lts as lts
 few : (c : tie.Start) → ones (getD (c .args .t1) 4 0) ≤ 32
 few c = ones-le 32 (getD (c .args .t1) 4 0) (c .pre .set)
 
--- src/lib.rt:115:16
 array-read-left : tie.Need-array-read-left
 array-read-left c = search needs
 
--- src/lib.rt:116:15
 array-read-set : tie.Need-array-read-set
 array-read-set c = search needs
 
--- src/lib.rt:117:28
 cast-result : tie.Need-cast-result
 cast-result c = search needs
 
--- src/lib.rt:117:12
 cast-result-2 : tie.Need-cast-result-2
 cast-result-2 c = omega (arith, few c)
 
--- src/lib.rt:117:5
 add-result : tie.Need-add-result
 add-result c = omega (arith, few c, c .pre .left)
 
--- src/lib.rt:111:1
 returns : tie.Need-returns
 returns c = search needs
 

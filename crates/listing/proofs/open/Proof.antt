@@ -1,8 +1,6 @@
 -- `listing::open` meets its contract.
-use mathlib.Core.List.{List}
-use Prim.Native.Nat.{ℕ, _+_, _-_, _*_, _≤_, _<_}
+use Prim.Native.Nat.{_-_, _≤_}
 use native.Mathlib.Omega.{arith}
-use lib.ListN.{length, getD}
 use Rattle.listing.proofs.Stepping.{Opening, opening-start, opening-next, opening-on, opening-end}
 use Rattle.listing.proofs.open.Statement.{statement}
 use Rattle.listing.proofs.open.Tie as tie

@@ -1,7 +1,7 @@
 -- `listing::pull` meets its contract.
-use Prim.Native.Nat.{ℕ, _+_, _-_, _*_, _≤_, _<_}
+use Prim.Native.Nat.{_+_, _<_}
 use native.Mathlib.Omega.{arith}
-use lib.ListN.{length, getD}
+use lib.ListN.{getD}
 use lib.Count.{trailingZeros}
 use Rattle.listing.proofs.Pulling.{field-room, pull-field, pull-end, digit, start-in, pull-start}
 use borrow.Author.Needs.{needs}
@@ -22,73 +22,57 @@ low-in c =
     let s = c .before .before .before in
     start-in (s .args .index .now) (s .args .width) (s .args .size) (s .args .t4) (s .pre .1) (omega arith) (omega arith)
 
--- src/lib.rt:24:14
 array-read-at : tie.Need-array-read-at
 array-read-at c = search needs
 
--- src/lib.rt:25:16
 array-read-left : tie.Need-array-read-left
 array-read-left c = search needs
 
--- src/lib.rt:26:16
 array-read-from : tie.Need-array-read-from
 array-read-from c = search needs
 
--- src/lib.rt:27:15
 array-read-set : tie.Need-array-read-set
 array-read-set c = search needs
 
--- src/lib.rt:29:17
 read-requires : tie.Need-read-requires
 read-requires c κs =
     let s = c .before .before in
     (s .pre .0, field-room (s .args .index .now) (s .args .width) (s .args .size) (s .args .t4) (s .pre .1) (c .if1 .taken))
 
--- src/lib.rt:30:20
 add-t24 : tie.Need-add-t24
 add-t24 c = search needs
 
--- src/lib.rt:30:32
 sub-t25 : tie.Need-sub-t25
 sub-t25 c = search needs
 
--- src/lib.rt:30:9
 returns : tie.Need-returns
 returns c =
     let s = c .before .before .before in
     pull-field (s .args .index .now) (s .args .width) (s .args .size) (s .args .t4) (s .pre .1) (c .before .if1 .taken) (c .read .result) (c .read .ensures)
 
--- src/lib.rt:33:9
 returns-2 : tie.Need-returns-2
 returns-2 c =
     let s = c .before .before .before in
     pull-end (s .args .index .now) (s .args .width) (s .args .size) (s .args .t4) (s .pre .1) (omega arith) (c .if2 .taken)
 
--- src/lib.rt:35:33
 cast-z : tie.Need-cast-z
 cast-z c = search needs
 
--- src/lib.rt:36:20
 cast-y : tie.Need-cast-y
 cast-y c = omega (arith, low-digit c)
 
--- src/lib.rt:36:13
 add-y : tie.Need-add-y
 add-y c = omega (arith, low-in c)
 
--- src/lib.rt:37:19
 add-t15 : tie.Need-add-t15
 add-t15 c = omega (arith, low-in c)
 
--- src/lib.rt:37:34
 cast-t27 : tie.Need-cast-t27
 cast-t27 c = omega (arith, low-digit c)
 
--- src/lib.rt:37:27
 shr-t28 : tie.Need-shr-t28
 shr-t28 c = omega (arith, low-digit c)
 
--- src/lib.rt:20:1
 returns-3 : tie.Need-returns-3
 returns-3 c =
     let s = c .before .before .before in

@@ -1,11 +1,11 @@
 -- `tables::in_cell` meets its contract.
-use mathlib.Core.Path.{_≡_, refl, sym, ap, _∙_}
+use mathlib.Core.Path.{sym, ap, _∙_}
 use native.Mathlib.Omega.{arith}
 use Prim.Native.Nat.{_-_}
 use mathlib.Core.Bool.{Bool, _&&_}
 use Rattle.spec.specs.Bytes.{occursAt}
 use Rattle.spec.specs.Keywords.{folded}
-use lib.ListN.{length, take}
+use lib.ListN.{take}
 use lib.Seq.{length-take-le}
 use Rattle.tables.proofs.Cells.{in-cell-parts}
 use borrow.Author.Needs.{needs}

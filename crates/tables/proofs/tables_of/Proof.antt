@@ -1,14 +1,14 @@
 -- `tables::tables_of` meets its contract.
-use mathlib.Core.Path.{_≡_, refl, sym, ap, _∙_, subst}
+use mathlib.Core.Path.{_≡_, refl, _∙_, subst}
 use mathlib.Core.List.{List, []}
-use Prim.Native.Nat.{ℕ, _+_, _-_, _*_, _≤_, _<_}
+use Prim.Native.Nat.{ℕ, _+_, _-_, _≤_, _<_}
 use native.Mathlib.Omega.{arith}
 use lib.ListN.{length, getD, length-set, take, drop, length-take, length-drop}
 use Rattle.spec.specs.Bytes.{part}
 use Rattle.spec.specs.Keywords.{folded}
 use Rattle.keywords.specs.Parsed.{Parsed}
 use Rattle.tables.specs.Tabled.{TableOf}
-use Rattle.tables.proofs.Cells.{filled-more, placed-room, placed-length, all-tables}
+use Rattle.tables.proofs.Cells.{filled-more, placed-room, all-tables}
 use Rattle.tables.proofs.tables_of.Statement.{statement}
 use Rattle.tables.proofs.tables_of.Tie as tie
 use Rattle.tables.proofs.tables_of.Reads as reads

@@ -1,15 +1,12 @@
 -- `walk::count_file` meets its contract.
-use mathlib.Core.Path.{_≡_, refl, sym, ap, _∙_}
-use mathlib.Core.List.{List}
-use Prim.Native.Nat.{ℕ, _+_, _-_, _*_, _/_, _^_, _≤_, _<_}
+use Prim.Native.Nat.{_+_, _-_, _/_, _≤_}
 use native.Mathlib.Omega.{arith}
-use lib.ListN.{length, getD}
-use Rattle.walk.specs.Walking.{chunksIn, sizeOf, LoadedAt}
+use lib.ListN.{length}
+use Rattle.walk.specs.Walking.{chunksIn, LoadedAt}
 use Rattle.walk.proofs.Entries.{in-chunks, out-chunks}
 use Rattle.walk.proofs.Places.{crossable}
 use Rattle.walk.proofs.Moves.{all-good}
 use Rattle.walk.proofs.Counts.{walkable, Counting, counting-start, streams-small, counting-on, counting-end}
-use borrow.Author.Needs.{needs}
 use Rattle.walk.proofs.count_file.Statement.{statement}
 use Rattle.walk.proofs.count_file.Tie as tie
 use Rattle.walk.proofs.count_file.Reads as reads

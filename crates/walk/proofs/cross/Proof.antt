@@ -1,8 +1,6 @@
 -- `walk::cross` meets its contract.
-use mathlib.Core.List.{List}
-use Prim.Native.Nat.{ℕ, _+_, _-_, _*_, _≤_, _<_}
+use Prim.Native.Nat.{_-_, _≤_}
 use native.Mathlib.Omega.{arith}
-use lib.ListN.{length, getD}
 use Rattle.walk.proofs.Places.{Crossing, crossing-start, crossing-on, crossing-end}
 use borrow.Author.Needs.{needs}
 use Rattle.walk.proofs.cross.Statement.{statement}

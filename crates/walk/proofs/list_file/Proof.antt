@@ -1,9 +1,7 @@
 -- `walk::list_file` meets its contract. The invariant: what is written and what is still to come are the whole list.
-use mathlib.Core.Path.{_≡_, refl, sym, ap, _∙_}
-use mathlib.Core.List.{List}
-use Prim.Native.Nat.{ℕ, _+_, _-_, _*_, _/_, _^_, _≤_, _<_}
+use mathlib.Core.Path.{ap}
 use native.Mathlib.Omega.{arith}
-use lib.ListN.{length, getD}
+use lib.ListN.{length}
 use Rattle.spec.specs.Keywords.{foldedKeywords}
 use Rattle.spec.specs.Index.{listIn}
 use Rattle.spec.specs.Join.{joinFile, listBytes}

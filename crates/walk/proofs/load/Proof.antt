@@ -1,8 +1,8 @@
 -- `walk::load` meets its contract.
-use mathlib.Core.Path.{_≡_, refl, sym, ap, _∙_}
-use Prim.Native.Nat.{ℕ, _+_, _-_, _*_, _/_, _≤_, _<_}
+use mathlib.Core.Path.{_∙_}
+use Prim.Native.Nat.{_+_, _*_, _≤_, _<_}
 use native.Mathlib.Omega.{arith}
-use lib.ListN.{length, getD}
+use lib.ListN.{length}
 use Rattle.spec.specs.Store.{chunkCount}
 use Rattle.walk.proofs.Entries.{lies, probe-length, entry-in, entry-room, offset-is, length-is, body-loadable, place-loaded, none-loaded}
 use borrow.Author.Needs.{needs}

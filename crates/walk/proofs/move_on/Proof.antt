@@ -1,10 +1,9 @@
 -- `walk::move_on` meets its contract.
-use Prim.Native.Nat.{ℕ, _+_, _-_, _*_, _/_, _≤_, _<_}
 use native.Mathlib.Omega.{arith}
-use lib.ListN.{length, getD}
+use lib.ListN.{getD}
 use Rattle.walk.specs.Walking.{chunksIn}
 use Rattle.walk.proofs.Entries.{in-chunks}
-use Rattle.walk.proofs.Moves.{all-good, base-fits, moved-crossable, moved-ready, moved-on}
+use Rattle.walk.proofs.Moves.{all-good, moved-crossable, moved-ready, moved-on}
 use borrow.Author.Needs.{needs}
 use Rattle.walk.proofs.move_on.Statement.{statement}
 use Rattle.walk.proofs.move_on.Tie as tie

@@ -1,11 +1,10 @@
 -- `walk::next` meets its contract. The invariant: what is still to come is what was.
-use mathlib.Core.Path.{_≡_, refl, sym, ap, _∙_}
-use mathlib.Core.List.{List}
-use Prim.Native.Nat.{ℕ, _+_, _-_, _*_, _/_, _≤_, _<_}
+use mathlib.Core.Path.{_≡_, refl, sym, _∙_}
+use Prim.Native.Nat.{ℕ, _-_, _/_}
 use native.Mathlib.Omega.{arith}
 use lib.ListN.{length, getD}
 use Rattle.walk.specs.Walking.{chunksIn, AtPlace, coming}
-use Rattle.walk.proofs.Entries.{in-chunks, out-chunks}
+use Rattle.walk.proofs.Entries.{out-chunks}
 use Rattle.walk.proofs.Moves.{still, coming-none, next-taken, next-none}
 use borrow.Author.Needs.{needs}
 use Rattle.walk.proofs.next.Statement.{statement}
