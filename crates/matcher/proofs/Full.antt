@@ -1,12 +1,11 @@
 -- A full record is its head, for kind 3 the exact count, and for kinds 2 and 3 the offsets from the first on. Assumes nothing.
 use mathlib.Core.Path.{_≡_, refl, sym, ap, _∙_}
 use mathlib.Core.List.{List, [], _∷_, _++_, append-assoc, append-nil}
-use Prim.Native.Nat.{ℕ, zero, suc, _+_, _*_, _-_, _≤_, _<_}
+use Prim.Native.Nat.{ℕ, _+_, _*_, _-_, _≤_, _<_}
 use native.Mathlib.Omega.{arith}
 use lib.ListN.{length, getD}
 use Rattle.spec.specs.Bytes.{leBytes, splice, fieldsBytes}
-use Rattle.spec.specs.Keywords.{folded}
-use Rattle.spec.specs.Records.{MatchRecord, form1, recordOf, fullBytes, offsetsBytes}
+use Rattle.spec.specs.Records.{MatchRecord, form1, fullBytes, offsetsBytes}
 use Rattle.spec.proofs.Tests.{le-or-lt}
 use Rattle.spec.proofs.Fields.{length-leBytes}
 use Rattle.spec.proofs.RecordLaws.{length-full, offsets-one, offsets-two, offsets-three}

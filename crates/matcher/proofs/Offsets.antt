@@ -1,20 +1,20 @@
 -- Laws of the offsets from a place on: what a search for the next one and a walk over all of them lean on. The idea: they are a range
 -- filtered by a test, so the first of them is the first number that passes, and the others are those behind it. Assumes nothing.
-use mathlib.Core.Path.{_≡_, refl, sym, ap, ap₂, _∙_, subst}
-use mathlib.Core.Logic.{_≢_, _⊎_, inl, inr, ⊎-elim}
-use mathlib.Core.Bool.{Bool, true, false, cond}
+use mathlib.Core.Path.{_≡_, refl, sym, _∙_}
+use mathlib.Core.Logic.{_≢_, _⊎_, ⊎-elim}
+use mathlib.Core.Bool.{Bool, true, false}
 use mathlib.Core.List.{List, [], _∷_, _++_}
 use Prim.Native.Nat.{ℕ, zero, suc, _+_, _-_, _≤_, _<_}
 use native.Mathlib.Nat.{add-zero, sub-zero}
 use native.Mathlib.Numerals.{add-one}
 use native.Mathlib.Omega.{arith}
 use lib.ListN.{length, getD}
-use Rattle.spec.specs.Bytes.{occursAt, each, keep}
+use Rattle.spec.specs.Bytes.{occursAt, keep}
 use Rattle.spec.specs.Keywords.{foldByte, folded}
 use Rattle.spec.specs.Records.{offsetsOf}
 use Rattle.spec.proofs.Tests.{le-or-lt}
 use Rattle.spec.proofs.Each.{each-none, each-step, passing}
-use Rattle.spec.proofs.Folding.{folded-length, rest, rest-differs, occursAt-out}
+use Rattle.spec.proofs.Folding.{folded-length, rest-differs, occursAt-out}
 use Rattle.matcher.specs.Summaries.{offsetsFrom}
 
 module _ (t : ℕ → Bool) where

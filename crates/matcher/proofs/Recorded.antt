@@ -1,14 +1,13 @@
 -- The record of a real chunk as it is written: empty, tiny or full, by the summary's tests; its numbers are bytes. Assumes nothing.
-use mathlib.Core.Path.{_≡_, refl, sym, ap, _∙_}
-use mathlib.Core.Bool.{Bool, true, false, _&&_, not}
-use mathlib.Core.List.{List, [], _∷_, _++_}
-use Prim.Native.Nat.{ℕ, zero, suc, _+_, _*_, _-_, _≤_, _<_}
+use mathlib.Core.Path.{_≡_, refl, sym}
+use mathlib.Core.Bool.{true, false, _&&_, not}
+use mathlib.Core.List.{List}
+use Prim.Native.Nat.{ℕ, _-_, _≤_, _<_}
 use native.Mathlib.Omega.{arith}
 use lib.ListN.{length}
 use lib.Dec.{eqb, leb, leb→le}
-use Rattle.spec.specs.Bytes.{splice}
 use Rattle.spec.specs.Keywords.{folded}
-use Rattle.spec.specs.Records.{MatchRecord, form1, reach, isEmpty, isTiny, recordOf, tinyBytes, fullBytes, recordBytes}
+use Rattle.spec.specs.Records.{MatchRecord, form1, reach, isEmpty, isTiny, tinyBytes, fullBytes, recordBytes}
 use Rattle.spec.proofs.Tests.{and-left, and-right, T-of}
 use Rattle.spec.proofs.Folding.{folded-length}
 use Rattle.spec.proofs.Splices.{splice-nil}

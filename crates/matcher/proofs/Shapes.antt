@@ -1,14 +1,14 @@
 -- A record's written form, told from its summary: which tests it passes, how long it is, and how its parts lie in a buffer.
 -- The idea: a summary has all that the tests and the head read of a record. Assumes nothing.
 use mathlib.Core.Path.{_≡_, refl, sym, ap, _∙_}
-use mathlib.Core.Bool.{Bool, true, false, not}
+use mathlib.Core.Bool.{Bool, false, not}
 use mathlib.Core.List.{List, [], _∷_, _++_}
-use Prim.Native.Nat.{ℕ, zero, suc, _+_, _*_, _-_, _≤_, _<_, min}
+use Prim.Native.Nat.{ℕ, _+_, _*_, _-_, _≤_, _<_, min}
 use native.Mathlib.Omega.{arith}
-use lib.ListN.{length, getD, set, length-append, length-set}
-use lib.Dec.{eqb, leb}
+use lib.ListN.{length, getD, set, length-append}
+use lib.Dec.{eqb}
 use Rattle.spec.specs.Bytes.{leBytes, splice, fieldsBytes}
-use Rattle.spec.specs.Records.{MatchRecord, form1, isEmpty, isTiny, kindOf, tinyBytes, fullBytes, offsetsBytes}
+use Rattle.spec.specs.Records.{MatchRecord, form1, isEmpty, isTiny, kindOf, tinyBytes, fullBytes}
 use Rattle.spec.proofs.Tests.{eqb-ne, leb-true, leb-false}
 use Rattle.spec.proofs.Fields.{length-leBytes}
 use Rattle.spec.proofs.FieldLists.{length-fieldsBytes}

@@ -1,14 +1,14 @@
 -- The summary of a chunk's record, from what the code computes: prefix, suffix, the first offset and the count from there on. Assumes nothing.
-use mathlib.Core.Path.{_≡_, refl, sym, ap, _∙_}
-use mathlib.Core.List.{List, [], _∷_}
-use Prim.Native.Nat.{ℕ, suc, _+_, _-_, _≤_, _<_}
+use mathlib.Core.Path.{_≡_, ap}
+use mathlib.Core.List.{List}
+use Prim.Native.Nat.{ℕ, _-_, _≤_, _<_}
 use native.Mathlib.Omega.{arith}
-use lib.ListN.{length, getD}
+use lib.ListN.{length}
 use Rattle.spec.specs.Keywords.{folded}
-use Rattle.spec.specs.Records.{MatchRecord, prefixOf, suffixOf, offsetsOf, recordOf}
+use Rattle.spec.specs.Records.{MatchRecord, prefixOf, suffixOf, recordOf}
 use Rattle.matcher.specs.declared.Summary.{Summary}
-use Rattle.matcher.specs.Summaries.{offsetsFrom, summaryOf}
-use Rattle.matcher.proofs.Shapes.{at-count, at-first, length-head}
+use Rattle.matcher.specs.Summaries.{summaryOf}
+use Rattle.matcher.proofs.Shapes.{at-count}
 use Rattle.matcher.proofs.Offsets.{left, next, left-next, left-ended, left-length, offsets-all}
 
 module _ (flag : ℕ) (keyword chunk : List ℕ) where

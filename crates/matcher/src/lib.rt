@@ -1,10 +1,9 @@
 // Match records (the papers' "notes on one chunk and one word"): prefix, suffix and occurrences of one keyword in one chunk, and their
 // written form. Keyword and chunk are slices of the keyword list and of the store, never copied.
 ghost use mathlib.Core.Path.{_≡_};
-ghost use Prim.Native.Nat.{ℕ, _+_, _*_, _≤_, _<_};
-ghost use Prim.Native.Nat.{min};
+ghost use Prim.Native.Nat.{ℕ, _+_, _*_, _≤_, _<_, min};
 ghost use lib.ListN.{length, getD};
-ghost use Rattle.spec.specs.Bytes.{leBytes, fieldsBytes, occursAt};
+ghost use Rattle.spec.specs.Bytes.{fieldsBytes, occursAt};
 ghost use Rattle.spec.specs.Keywords.{folded};
 ghost use Rattle.spec.specs.Records.{MatchRecord, reach, prefixOf, suffixOf, recordOf, form1, isEmpty, isTiny, kindOf, tinyBytes, fullBytes, recordBytes};
 ghost use Rattle.matcher.specs.Summaries.{offsetsFrom, summaryOf, headBytes, Wrote, CanPutFull, CanPut, CanSize, CanPutBody};

@@ -1,18 +1,17 @@
 -- The scan's answers, one for each way out, and the index from its four writes. Assumes nothing.
 use mathlib.Core.Path.{_≡_, refl, sym, ap, _∙_}
-use mathlib.Core.Logic.{_≢_, _⊎_, inl, inr}
-use mathlib.Core.Bool.{Bool, true, false, _||_, or-true}
-use mathlib.Core.List.{List, [], _∷_, _++_}
-use Prim.Native.Nat.{ℕ, _+_, _*_, _≤_, _<_}
+use mathlib.Core.Logic.{_≢_}
+use mathlib.Core.Bool.{true, false, _||_, or-true}
+use mathlib.Core.List.{List, _++_}
+use Prim.Native.Nat.{ℕ, _+_, _≤_, _<_}
 use native.Mathlib.Omega.{arith}
 use lib.ListN.{length, length-append}
 use lib.Dec.{ltb}
 use borrow.Author.Tests.{lt-ltb, le-ltb}
-use Rattle.spec.specs.declared.Outcome.{Outcome}
 use Rattle.spec.specs.declared.Outcome.the-variants.{Done, Refused}
 use Rattle.spec.specs.Bytes.{leBytes, splice}
-use Rattle.spec.specs.Outcome.{answer, unlessRefused}
-use Rattle.spec.specs.Store.{chunkCount, storeCode}
+use Rattle.spec.specs.Outcome.{answer}
+use Rattle.spec.specs.Store.{chunkCount}
 use Rattle.spec.specs.Records.{form1}
 use Rattle.spec.specs.Recipes.{largest32}
 use Rattle.spec.specs.Scan.{scanIndex, scannableCode, scanCode, scanOutcome, scanBuffer, sizeOutcome}

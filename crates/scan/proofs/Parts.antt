@@ -1,12 +1,12 @@
 -- The index that a scan writes, in parts: its entries from a chunk on, their directory and their bodies, and their lengths. Assumes nothing.
-use mathlib.Core.Path.{_≡_, refl, sym, ap, _∙_}
+use mathlib.Core.Path.{_≡_, sym, ap, _∙_}
 use mathlib.Core.List.{List, [], _∷_, _++_, map, append-assoc}
-use Prim.Native.Nat.{ℕ, zero, suc, _+_, _*_, _-_, _^_, _≤_, _<_}
-use native.Mathlib.Nat.{sub-zero, zero-add}
+use Prim.Native.Nat.{ℕ, zero, suc, _+_, _*_, _-_, _≤_, _<_}
+use native.Mathlib.Nat.{sub-zero}
 use native.Mathlib.Numerals.{add-one}
 use native.Mathlib.Omega.{arith}
 use lib.ListN.{length, getD, length-append}
-use Rattle.spec.specs.Bytes.{leBytes, each, joined}
+use Rattle.spec.specs.Bytes.{leBytes, joined}
 use Rattle.spec.specs.Directory.{sizeAt}
 use Rattle.spec.specs.Store.{storeLayout, storeKeys, chunkCount, chunkAt, storeCode}
 use Rattle.spec.specs.Outcome.{firstOf, whole}
@@ -17,9 +17,9 @@ use Rattle.spec.specs.Scan.{scanBody, scanEntry, scanIndex, scannableCode}
 use Rattle.spec.proofs.Codes.{refused-whole, next-whole, last-whole, passed-whole}
 use Rattle.spec.proofs.Each.{each-step}
 use Rattle.spec.proofs.Fields.{length-leBytes}
-use Rattle.spec.proofs.Tabulated.{tabulated, length-tabulated, tabulated-at}
+use Rattle.spec.proofs.Tabulated.{length-tabulated, tabulated-at}
 use Rattle.spec.proofs.WrittenEntries.{Fits, Every, noEntry, length-directory}
-use Rattle.spec.proofs.StoreLaws.{StoreGood, store-good, store-key-length, store-size-most, chunk-length}
+use Rattle.spec.proofs.StoreLaws.{store-good, store-key-length, store-size-most, chunk-length}
 use Rattle.matcher.proofs.Bodies.{body-most}
 use Rattle.scan.specs.Layout.{entriesFrom, bodiesFrom, entryBytes, tailBytes}
 

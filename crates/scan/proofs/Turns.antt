@@ -1,14 +1,13 @@
 -- One chunk of the scan: its body, then its entry; and where the two regions begin and end. Assumes nothing.
-use mathlib.Core.Path.{_≡_, refl, sym, ap, _∙_, subst}
-use mathlib.Core.List.{List, [], _∷_, _++_}
-use Prim.Native.Nat.{ℕ, zero, suc, _+_, _*_, _-_, _≤_, _<_}
-use native.Mathlib.Nat.{zero-add, add-zero}
+use mathlib.Core.Path.{_≡_, sym, ap, _∙_}
+use mathlib.Core.List.{List, [], _++_}
+use Prim.Native.Nat.{ℕ, _+_, _*_, _-_, _≤_, _<_}
+use native.Mathlib.Nat.{zero-add}
 use native.Mathlib.Omega.{arith}
 use lib.ListN.{length, getD, length-append}
 use borrow.Rule.Slice.PartMut.{midOf, putMid}
 use Rattle.spec.specs.Bytes.{leBytes, splice}
-use Rattle.spec.specs.Directory.{sizeAt}
-use Rattle.spec.specs.Store.{storeLayout, storeKeys, chunkCount, chunkAt, storeCode}
+use Rattle.spec.specs.Store.{storeKeys, chunkCount, chunkAt, storeCode}
 use Rattle.spec.specs.Records.{form1}
 use Rattle.spec.specs.Scan.{scanBody}
 use Rattle.spec.proofs.Fields.{length-leBytes}

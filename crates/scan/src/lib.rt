@@ -1,7 +1,7 @@
 // The scan: it checks a keyword list and a store, and writes the store's match index (document 01, "Notes file" and "Refusals by
 // operation"). It measures first, so that a refusal changes no byte; then each chunk is walked once more and its body written.
 ghost use mathlib.Core.Path.{_≡_};
-ghost use Prim.Native.Nat.{_+_, _≤_};
+ghost use Prim.Native.Nat.{_+_};
 ghost use lib.ListN.{length};
 ghost use Rattle.spec.specs.Bytes.{splice};
 ghost use Rattle.spec.specs.Records.{form1};

@@ -1,10 +1,8 @@
 -- `matcher::body_size` meets its contract. The invariant: the size so far and that of what is left are the body's. Assumes nothing.
-use mathlib.Core.Path.{_≡_, refl, sym, ap, _∙_}
-use mathlib.Core.List.{List, []}
-use Prim.Native.Nat.{ℕ, _+_, _-_, _≤_, _<_}
+use mathlib.Core.Path.{_≡_, ap, _∙_}
+use Prim.Native.Nat.{_+_, _-_, _≤_, _<_}
 use native.Mathlib.Nat.{zero-add}
 use native.Mathlib.Omega.{arith}
-use borrow.Author.Needs.{needs}
 use lib.ListN.{length, getD, length-append}
 use Rattle.spec.specs.Records.{form1, recordOf, recordBytes}
 use Rattle.spec.specs.Keywords.{folded}
@@ -13,8 +11,6 @@ use Rattle.matcher.proofs.Bodies.{bodyRest, rest-start, body-most, few,
 use Rattle.matcher.proofs.body_size.Statement.{statement}
 use Rattle.matcher.proofs.body_size.Tie as tie
 use Rattle.matcher.proofs.body_size.Reads as reads
-use Rattle.matcher.proofs.body_size.Lts as lts
-use Rattle.matcher.proofs.record_size.Reads as record-size-reads
 
 abbrev Inv-loop : tie.InvT-loop
 Inv-loop list chunk start len count flag size₀ k₀ size k = (k ≤ count) × (size + length (bodyRest form1 list chunk k) ≡ length (scanBody form1 list chunk))

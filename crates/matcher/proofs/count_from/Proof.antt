@@ -1,17 +1,13 @@
 -- `matcher::count_from` meets its contract. The invariant: those counted and those left are all. Assumes nothing.
-use mathlib.Core.Path.{_≡_, refl, sym, ap, _∙_}
-use mathlib.Core.List.{List, _∷_}
-use Prim.Native.Nat.{ℕ, suc, _+_, _-_, _≤_}
-use native.Mathlib.Nat.{zero-add, add-zero}
+use mathlib.Core.Path.{_≡_, ap}
+use Prim.Native.Nat.{suc, _+_, _-_, _≤_}
+use native.Mathlib.Nat.{zero-add}
 use native.Mathlib.Omega.{arith}
 use borrow.Author.Needs.{needs}
 use lib.ListN.{length}
 use Rattle.matcher.proofs.Offsets.{left, left-next, left-ended, left-length}
 use Rattle.matcher.proofs.count_from.Statement.{statement}
 use Rattle.matcher.proofs.count_from.Tie as tie
-use Rattle.matcher.proofs.count_from.Reads as reads
-use Rattle.matcher.proofs.count_from.Lts as lts
-use Rattle.matcher.proofs.next_offset.Reads as next-offset-reads
 
 abbrev Inv-loop : tie.InvT-loop
 Inv-loop keyword chunk flag from count₀ place₀ count place = count + length (left flag keyword chunk place) ≡ length (left flag keyword chunk from)

@@ -3,18 +3,13 @@ use native.Mathlib.Omega.{arith}
 use Rattle.matcher.proofs.Shapes.{empty-prefix, empty-suffix, empty-count}
 use Rattle.matcher.proofs.is_empty.Statement.{statement}
 use Rattle.matcher.proofs.is_empty.Tie as tie
-use Rattle.matcher.proofs.is_empty.Reads as reads
-use Rattle.matcher.proofs.is_empty.Lts as lts
 
--- src/lib.rt:165:9
 returns : tie.Need-returns
 returns c = λ m e. empty-prefix _ m e (omega arith)
 
--- src/lib.rt:168:9
 returns-2 : tie.Need-returns-2
 returns-2 c = λ m e. empty-suffix _ m e (omega arith) (omega arith)
 
--- src/lib.rt:161:1
 returns-3 : tie.Need-returns-3
 returns-3 c = λ m e. empty-count _ m e (omega arith) (omega arith)
 

@@ -1,20 +1,15 @@
 -- `matcher::next_offset` meets its contract. The invariant: the next offset from the start on is the next from here on. Assumes nothing.
-use mathlib.Core.Path.{_≡_, refl, sym, ap, _∙_}
+use mathlib.Core.Path.{_≡_, refl, sym, _∙_}
 use mathlib.Core.Logic.{⊎-elim}
 use mathlib.Core.Bool.{false}
-use Prim.Native.Nat.{suc, _+_, _-_, _≤_}
+use Prim.Native.Nat.{suc, _-_}
 use native.Mathlib.Omega.{arith}
 use borrow.Author.Needs.{needs}
-use lib.ListN.{length}
 use Rattle.spec.specs.Bytes.{occursAt}
 use Rattle.spec.specs.Keywords.{folded}
 use Rattle.matcher.proofs.Offsets.{next, next-none, next-no, next-yes, first-differs}
 use Rattle.matcher.proofs.next_offset.Statement.{statement}
 use Rattle.matcher.proofs.next_offset.Tie as tie
-use Rattle.matcher.proofs.next_offset.Reads as reads
-use Rattle.matcher.proofs.next_offset.Lts as lts
-use Rattle.keywords.proofs.fold.Reads as fold-reads
-use Rattle.matcher.proofs.occurs_at.Reads as occurs-at-reads
 
 abbrev Inv-loop : tie.InvT-loop
 Inv-loop keyword chunk flag from last first at₀ at = next flag keyword chunk from ≡ next flag keyword chunk at

@@ -1,6 +1,5 @@
 -- `matcher::occurs_at` meets its contract. The invariant: what is left to compare decides. Assumes nothing.
-use mathlib.Core.Path.{_≡_, refl, sym, ap, _∙_}
-use mathlib.Core.Bool.{true}
+use mathlib.Core.Path.{_≡_, sym, _∙_}
 use Prim.Native.Nat.{_+_, _-_, _≤_}
 use native.Mathlib.Omega.{arith}
 use native.Mathlib.Nat.{add-zero}
@@ -11,9 +10,6 @@ use Rattle.spec.specs.Keywords.{folded}
 use Rattle.spec.proofs.Folding.{rest, rest-same, rest-differs, rest-done, occursAt-out}
 use Rattle.matcher.proofs.occurs_at.Statement.{statement}
 use Rattle.matcher.proofs.occurs_at.Tie as tie
-use Rattle.matcher.proofs.occurs_at.Reads as reads
-use Rattle.matcher.proofs.occurs_at.Lts as lts
-use Rattle.keywords.proofs.fold.Reads as fold-reads
 
 abbrev Inv-loop : tie.InvT-loop
 Inv-loop keyword chunk at flag k₀ k =

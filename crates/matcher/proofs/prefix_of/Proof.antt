@@ -1,6 +1,6 @@
 -- `matcher::prefix_of` meets its contract. The invariant: the prefix is the largest number up to i that passes. Assumes nothing.
-use mathlib.Core.Path.{_≡_, refl, sym, ap, _∙_}
-use Prim.Native.Nat.{_+_, _-_, _≤_, _<_}
+use mathlib.Core.Path.{_≡_, sym, ap, _∙_}
+use Prim.Native.Nat.{_-_, _≤_}
 use native.Mathlib.Omega.{arith}
 use borrow.Author.Needs.{needs}
 use lib.ListN.{length}
@@ -12,10 +12,6 @@ use Rattle.spec.proofs.Largest.{largest-yes, largest-no}
 use Rattle.spec.proofs.Folding.{prefix-down, ends-part}
 use Rattle.matcher.proofs.prefix_of.Statement.{statement}
 use Rattle.matcher.proofs.prefix_of.Tie as tie
-use Rattle.matcher.proofs.prefix_of.Reads as reads
-use Rattle.matcher.proofs.prefix_of.Lts as lts
-use Rattle.matcher.proofs.reach_of.Reads as reach-of-reads
-use Rattle.matcher.proofs.occurs_at.Reads as occurs-at-reads
 
 abbrev Inv-loop : tie.InvT-loop
 Inv-loop keyword chunk flag i₀ i =

@@ -17,8 +17,6 @@ use Rattle.matcher.proofs.Bodies.{bodyRest, rest-start, few, within, pl
 use Rattle.matcher.proofs.put_body.Statement.{statement}
 use Rattle.matcher.proofs.put_body.Tie as tie
 use Rattle.matcher.proofs.put_body.Reads as reads
-use Rattle.matcher.proofs.put_body.Lts as lts
-use Rattle.matcher.proofs.put_record.Reads as put-record-reads
 
 abbrev Inv-loop : tie.InvT-loop
 Inv-loop out₀ list chunk start len count flag size₀ k₀ out size k =

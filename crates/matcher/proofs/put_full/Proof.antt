@@ -1,7 +1,7 @@
 -- `matcher::put_full` meets its contract: the head, then what its kind has behind it. Assumes nothing.
-use mathlib.Core.Path.{_≡_, refl, sym, ap, _∙_}
+use mathlib.Core.Path.{_≡_}
 use mathlib.Core.List.{List}
-use Prim.Native.Nat.{ℕ, _+_, _*_, _≤_, _<_}
+use Prim.Native.Nat.{ℕ, _+_, _≤_}
 use native.Mathlib.Omega.{arith}
 use lib.ListN.{length}
 use Rattle.spec.specs.Keywords.{folded}
@@ -12,11 +12,6 @@ use Rattle.matcher.proofs.Full.{room-head, room-two, room-three, put-on
 use borrow.Author.Needs.{needs}
 use Rattle.matcher.proofs.put_full.Statement.{statement}
 use Rattle.matcher.proofs.put_full.Tie as tie
-use Rattle.matcher.proofs.put_full.Reads as reads
-use Rattle.matcher.proofs.put_full.Lts as lts
-use Rattle.field.proofs.write.Reads as write-reads
-use Rattle.matcher.proofs.put_head.Reads as put-head-reads
-use Rattle.matcher.proofs.put_offsets.Reads as put-offsets-reads
 
 put-head-requires : tie.Need-put-head-requires
 put-head-requires c κs =

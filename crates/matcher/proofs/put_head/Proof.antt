@@ -3,66 +3,46 @@ use native.Mathlib.Omega.{arith}
 use lib.ListN.{length-set}
 use mathlib.Core.Path.{_∙_}
 use Rattle.matcher.proofs.Shapes.{head-put}
-use mathlib.Core.Path.{_≡_}
-use lib.ListN.{length, getD, set}
 use borrow.Author.Needs.{needs}
 use Rattle.matcher.proofs.put_head.Statement.{statement}
 use Rattle.matcher.proofs.put_head.Tie as tie
-use Rattle.matcher.proofs.put_head.Reads as reads
-use Rattle.matcher.proofs.put_head.Lts as lts
-use Rattle.field.proofs.write.Reads as write-reads
-use Rattle.matcher.proofs.count_byte.Reads as count-byte-reads
-use Rattle.matcher.proofs.kind_of.Reads as kind-of-reads
 
--- src/lib.rt:269:9
 kind-of-requires : tie.Need-kind-of-requires
 kind-of-requires c κs = search needs
 
--- src/lib.rt:270:9
 count-byte-requires : tie.Need-count-byte-requires
 count-byte-requires c κs = search needs
 
--- src/lib.rt:271:14
 cast-out : tie.Need-cast-out
 cast-out c = search needs
 
--- src/lib.rt:271:5
 slice-write-out : tie.Need-slice-write-out
 slice-write-out c = search needs
 
--- src/lib.rt:272:5
 slice-write-out-2 : tie.Need-slice-write-out-2
 slice-write-out-2 c = simp length-set (omega arith)
 
--- src/lib.rt:273:14
 cast-out-2 : tie.Need-cast-out-2
 cast-out-2 c = search needs
 
--- src/lib.rt:273:5
 slice-write-out-3 : tie.Need-slice-write-out-3
 slice-write-out-3 c = simp length-set (omega arith)
 
--- src/lib.rt:274:14
 cast-out-3 : tie.Need-cast-out-3
 cast-out-3 c = search needs
 
--- src/lib.rt:274:5
 slice-write-out-4 : tie.Need-slice-write-out-4
 slice-write-out-4 c = simp length-set (omega arith)
 
--- src/lib.rt:275:5
 slice-write-out-5 : tie.Need-slice-write-out-5
 slice-write-out-5 c = simp length-set (omega arith)
 
--- src/lib.rt:276:5
 write-requires : tie.Need-write-requires
 write-requires c κs = search needs
 
--- src/lib.rt:265:1
 same-length : tie.Need-same-length
 same-length c = c .before .before .write .kept .0 ∙ simp length-set
 
--- src/lib.rt:265:1
 returns : tie.Need-returns
 returns c =
     let a = c .before .before .before .before .before .before .before .before .before .args in

@@ -1,12 +1,11 @@
 -- `matcher::put_offsets` meets its contract. The invariant: with those left written from here on, the buffer is as promised. Assumes nothing.
 use mathlib.Core.Path.{_≡_, refl, sym, ap, _∙_}
 use mathlib.Core.List.{List, [], _∷_}
-use Prim.Native.Nat.{ℕ, suc, _+_, _*_, _-_, _≤_}
+use Prim.Native.Nat.{ℕ, _+_, _*_, _-_, _≤_}
 use native.Mathlib.Omega.{arith}
 use borrow.Author.Needs.{needs}
 use lib.ListN.{length}
-use Rattle.spec.specs.Bytes.{splice, leBytes, fieldsBytes}
-use Rattle.spec.proofs.Fields.{length-leBytes}
+use Rattle.spec.specs.Bytes.{splice, fieldsBytes}
 use Rattle.spec.proofs.FieldLists.{length-fieldsBytes}
 use Rattle.spec.proofs.Splices.{splice-nil}
 use Rattle.matcher.specs.Summaries.{Wrote}
@@ -14,10 +13,6 @@ use Rattle.matcher.proofs.Offsets.{left, left-next, left-ended}
 use Rattle.matcher.proofs.Shapes.{field-turn}
 use Rattle.matcher.proofs.put_offsets.Statement.{statement}
 use Rattle.matcher.proofs.put_offsets.Tie as tie
-use Rattle.matcher.proofs.put_offsets.Reads as reads
-use Rattle.matcher.proofs.put_offsets.Lts as lts
-use Rattle.matcher.proofs.next_offset.Reads as next-offset-reads
-use Rattle.field.proofs.write.Reads as write-reads
 
 abbrev Inv-loop : tie.InvT-loop
 Inv-loop out₀ at keyword chunk flag from end₀ place₀ out end place =

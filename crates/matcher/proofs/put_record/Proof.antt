@@ -1,7 +1,7 @@
 -- `matcher::put_record` meets its contract. Assumes nothing.
 use mathlib.Core.Path.{_≡_, sym, ap, _∙_}
 use mathlib.Core.Bool.{true, false}
-use Prim.Native.Nat.{ℕ, _≤_}
+use Prim.Native.Nat.{ℕ}
 use native.Mathlib.Omega.{arith}
 use lib.ListN.{length}
 use Rattle.spec.specs.Keywords.{folded}
@@ -12,13 +12,6 @@ use Rattle.matcher.proofs.Recorded.{prefix-byte, suffix-byte, tiny-pref
 use borrow.Author.Needs.{needs}
 use Rattle.matcher.proofs.put_record.Statement.{statement}
 use Rattle.matcher.proofs.put_record.Tie as tie
-use Rattle.matcher.proofs.put_record.Reads as reads
-use Rattle.matcher.proofs.put_record.Lts as lts
-use Rattle.matcher.proofs.is_empty.Reads as is-empty-reads
-use Rattle.matcher.proofs.is_tiny.Reads as is-tiny-reads
-use Rattle.matcher.proofs.put_full.Reads as put-full-reads
-use Rattle.matcher.proofs.put_tiny.Reads as put-tiny-reads
-use Rattle.matcher.proofs.summary_of.Reads as summary-of-reads
 
 summary-of-requires : tie.Need-summary-of-requires
 summary-of-requires c κs = c .before .before .before .pre .some

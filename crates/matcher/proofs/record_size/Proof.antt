@@ -1,6 +1,5 @@
 -- `matcher::record_size` meets its contract. Assumes nothing.
-use mathlib.Core.Path.{_≡_, sym, ap, _∙_}
-use mathlib.Core.List.{List}
+use mathlib.Core.Path.{sym, ap, _∙_}
 use Prim.Native.Nat.{ℕ}
 use native.Mathlib.Omega.{arith}
 use lib.ListN.{length}
@@ -12,12 +11,6 @@ use Rattle.matcher.proofs.Summing.{count-most}
 use borrow.Author.Needs.{needs}
 use Rattle.matcher.proofs.record_size.Statement.{statement}
 use Rattle.matcher.proofs.record_size.Tie as tie
-use Rattle.matcher.proofs.record_size.Reads as reads
-use Rattle.matcher.proofs.record_size.Lts as lts
-use Rattle.matcher.proofs.full_size.Reads as full-size-reads
-use Rattle.matcher.proofs.is_empty.Reads as is-empty-reads
-use Rattle.matcher.proofs.is_tiny.Reads as is-tiny-reads
-use Rattle.matcher.proofs.summary_of.Reads as summary-of-reads
 
 summary-of-requires : tie.Need-summary-of-requires
 summary-of-requires c κs = search needs

@@ -1,10 +1,9 @@
 -- `matcher::suffix_of` meets its contract. The invariant: the suffix is the largest number up to j that passes. Assumes nothing.
-use mathlib.Core.Path.{_≡_, refl, sym, ap, _∙_}
-use Prim.Native.Nat.{_+_, _-_, _≤_, _<_}
+use mathlib.Core.Path.{_≡_, sym, ap, _∙_}
+use Prim.Native.Nat.{_-_, _≤_}
 use native.Mathlib.Omega.{arith}
 use borrow.Author.Needs.{needs}
 use lib.ListN.{length}
-use lib.Seq.{length-take-le}
 use Rattle.spec.specs.Bytes.{largest}
 use Rattle.spec.specs.Keywords.{folded}
 use Rattle.spec.specs.Records.{reach, startsWith, suffixOf}
@@ -12,10 +11,6 @@ use Rattle.spec.proofs.Largest.{largest-yes, largest-no}
 use Rattle.spec.proofs.Folding.{suffix-down, starts-part}
 use Rattle.matcher.proofs.suffix_of.Statement.{statement}
 use Rattle.matcher.proofs.suffix_of.Tie as tie
-use Rattle.matcher.proofs.suffix_of.Reads as reads
-use Rattle.matcher.proofs.suffix_of.Lts as lts
-use Rattle.matcher.proofs.reach_of.Reads as reach-of-reads
-use Rattle.matcher.proofs.occurs_at.Reads as occurs-at-reads
 
 abbrev Inv-loop : tie.InvT-loop
 Inv-loop keyword chunk flag j₀ j =

@@ -1,41 +1,27 @@
 -- `matcher::summary_of` meets its contract. Assumes nothing.
 use native.Mathlib.Omega.{arith}
 use Rattle.matcher.proofs.Summing.{summary-none, summary-some}
-use mathlib.Core.Path.{_≡_}
-use lib.ListN.{length, getD, set}
 use borrow.Author.Needs.{needs}
 use Rattle.matcher.proofs.summary_of.Statement.{statement}
 use Rattle.matcher.proofs.summary_of.Tie as tie
-use Rattle.matcher.proofs.summary_of.Reads as reads
-use Rattle.matcher.proofs.summary_of.Lts as lts
-use Rattle.matcher.proofs.count_from.Reads as count-from-reads
-use Rattle.matcher.proofs.next_offset.Reads as next-offset-reads
-use Rattle.matcher.proofs.prefix_of.Reads as prefix-of-reads
-use Rattle.matcher.proofs.suffix_of.Reads as suffix-of-reads
 
--- src/lib.rt:150:9
 prefix-of-requires : tie.Need-prefix-of-requires
 prefix-of-requires c κs = search needs
 
--- src/lib.rt:151:9
 suffix-of-requires : tie.Need-suffix-of-requires
 suffix-of-requires c κs = search needs
 
--- src/lib.rt:152:9
 next-offset-requires : tie.Need-next-offset-requires
 next-offset-requires c κs = search needs
 
--- src/lib.rt:154:9
 returns : tie.Need-returns
 returns c =
     let a = c .before .before .before .before .before .before .args in
     summary-none (a .flag) (a .keyword .now) (a .chunk .now) (c .before .before .before .prefix-of .ensures) (c .before .before .suffix-of .ensures) (c .before .next-offset .ensures) (c .if1 .taken)
 
--- src/lib.rt:156:9
 count-from-requires : tie.Need-count-from-requires
 count-from-requires c κs = search needs
 
--- src/lib.rt:146:1
 returns-2 : tie.Need-returns-2
 returns-2 c =
     let a = c .before .before .before .before .before .before .before .args in

@@ -1,12 +1,12 @@
 -- `scan::bodies_size` meets its contract. The invariant: the length so far and that of what is left are the whole. Assumes nothing.
-use mathlib.Core.Path.{_≡_, refl, sym, ap, _∙_}
-use Prim.Native.Nat.{ℕ, _+_, _-_, _≤_, _<_}
+use mathlib.Core.Path.{_≡_, ap, _∙_}
+use Prim.Native.Nat.{_+_, _-_, _≤_, _<_}
 use native.Mathlib.Nat.{zero-add}
 use native.Mathlib.Omega.{arith}
 use borrow.Author.Needs.{needs}
 use denote.Ref.{now}
 use lib.ListN.{length}
-use Rattle.spec.specs.Store.{chunkCount, chunkAt}
+use Rattle.spec.specs.Store.{chunkCount}
 use Rattle.spec.specs.Records.{form1}
 use Rattle.spec.specs.Scan.{scanBody}
 use Rattle.spec.proofs.StoreLaws.{store-good}
@@ -15,9 +15,6 @@ use Rattle.scan.proofs.Parts.{bodies-length, bodies-end, bodies-most, b
 use Rattle.scan.proofs.bodies_size.Statement.{statement}
 use Rattle.scan.proofs.bodies_size.Tie as tie
 use Rattle.scan.proofs.bodies_size.Reads as reads
-use Rattle.scan.proofs.bodies_size.Lts as lts
-use Rattle.matcher.proofs.body_size.Reads as body-size-reads
-use Rattle.store.proofs.chunk_at.Reads as chunk-at-reads
 
 abbrev Inv-loop : tie.InvT-loop
 Inv-loop list words store count size₀ j₀ size j = (j ≤ count) × (size + length (bodiesFrom form1 list store j) ≡ length (bodiesFrom form1 list store 0))

@@ -1,20 +1,13 @@
 -- `scan::index_size` meets its contract. Assumes nothing.
-use mathlib.Core.Path.{_≡_, sym, _∙_}
-use Prim.Native.Nat.{ℕ, _+_, _*_, _≤_}
+use Prim.Native.Nat.{_*_, _≤_}
 use native.Mathlib.Omega.{arith}
 use borrow.Author.Needs.{needs}
-use lib.ListN.{length}
 use Rattle.spec.proofs.KeywordLaws.{keyword-front}
 use Rattle.spec.proofs.StoreLaws.{store-good}
-use Rattle.scan.specs.Layout.{bodiesFrom}
 use Rattle.scan.proofs.Parts.{Passed, passed-both, bodies-most, index-length}
 use Rattle.scan.proofs.index_size.Statement.{statement}
 use Rattle.scan.proofs.index_size.Tie as tie
 use Rattle.scan.proofs.index_size.Reads as reads
-use Rattle.scan.proofs.index_size.Lts as lts
-use Rattle.keywords.proofs.parse.Reads as parse-reads
-use Rattle.scan.proofs.bodies_size.Reads as bodies-size-reads
-use Rattle.store.proofs.count.Reads as count-reads
 
 -- both checks passed
 checks : (c : tie.After-shared-slice-known2) → Passed (c .before .before .args .list .now) (c .before .before .args .store .now)

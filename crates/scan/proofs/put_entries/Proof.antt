@@ -1,15 +1,15 @@
 -- `scan::put_entries` meets its contract. The invariant: with the rest of the directory and the rest of the bodies written, each from where
 -- it is now, the buffer is as promised. Assumes nothing.
-use mathlib.Core.Path.{_≡_, refl, sym, ap, _∙_}
+use mathlib.Core.Path.{_≡_, refl, ap, _∙_}
 use mathlib.Core.List.{List}
 use Prim.Native.Nat.{ℕ, _+_, _*_, _-_, _≤_, _<_}
 use native.Mathlib.Omega.{arith}
 use borrow.Author.Needs.{needs}
-use borrow.Rule.Slice.PartMut.{same-len-mid, midOf, putMid}
+use borrow.Rule.Slice.PartMut.{same-len-mid, putMid}
 use denote.Ref.{now}
 use lib.ListN.{length}
 use Rattle.spec.specs.Bytes.{splice}
-use Rattle.spec.specs.Store.{chunkCount, chunkAt}
+use Rattle.spec.specs.Store.{chunkCount}
 use Rattle.spec.specs.Records.{form1}
 use Rattle.spec.specs.Scan.{scanBody}
 use Rattle.spec.proofs.StoreLaws.{store-good, store-key-length}
@@ -20,11 +20,6 @@ use Rattle.scan.proofs.Turns.{entryAt, directoryLeft, bodiesLeft, regio
 use Rattle.scan.proofs.put_entries.Statement.{statement}
 use Rattle.scan.proofs.put_entries.Tie as tie
 use Rattle.scan.proofs.put_entries.Reads as reads
-use Rattle.scan.proofs.put_entries.Lts as lts
-use Rattle.matcher.proofs.put_body.Reads as put-body-reads
-use Rattle.scan.proofs.put_entry.Reads as put-entry-reads
-use Rattle.store.proofs.chunk_at.Reads as chunk-at-reads
-use Rattle.store.proofs.key_at.Reads as key-at-reads
 
 -- the lists' state: the bodies' place, the room, and what is left in both regions
 abbrev Left : List ℕ → List ℕ → List ℕ → ℕ → List ℕ → ℕ → ℕ → Type 0

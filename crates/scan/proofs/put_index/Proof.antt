@@ -1,6 +1,5 @@
 -- `scan::put_index` meets its contract. Assumes nothing.
-use mathlib.Core.Path.{_≡_, sym, _∙_}
-use Prim.Native.Nat.{ℕ, _+_, _*_, _≤_}
+use Prim.Native.Nat.{_+_, _*_, _≤_}
 use native.Mathlib.Omega.{arith}
 use borrow.Author.Needs.{needs}
 use lib.ListN.{length}
@@ -14,12 +13,6 @@ use Rattle.scan.proofs.Answers.{index-put}
 use Rattle.scan.proofs.put_index.Statement.{statement}
 use Rattle.scan.proofs.put_index.Tie as tie
 use Rattle.scan.proofs.put_index.Reads as reads
-use Rattle.scan.proofs.put_index.Lts as lts
-use Rattle.field.proofs.copy.Reads as copy-reads
-use Rattle.field.proofs.write.Reads as write-reads
-use Rattle.keywords.proofs.parse.Reads as parse-reads
-use Rattle.scan.proofs.put_entries.Reads as put-entries-reads
-use Rattle.store.proofs.count.Reads as count-reads
 
 -- both checks passed, and the index fits
 checks : (c : tie.After-shared-slice-known2) → Passed (c .before .before .before .args .list .now) (c .before .before .before .args .store .now)

@@ -1,15 +1,10 @@
 -- `scan::scan` meets its contract: one law for each way out. Assumes nothing.
-use mathlib.Core.Path.{_≡_, sym, _∙_}
+use mathlib.Core.Path.{sym, _∙_}
 use native.Mathlib.Omega.{arith}
 use borrow.Author.Needs.{needs}
 use Rattle.scan.proofs.Answers.{scan-refused, scan-short, scan-large, scan-done}
 use Rattle.scan.proofs.scan.Statement.{statement}
 use Rattle.scan.proofs.scan.Tie as tie
-use Rattle.scan.proofs.scan.Reads as reads
-use Rattle.scan.proofs.scan.Lts as lts
-use Rattle.scan.proofs.index_size.Reads as index-size-reads
-use Rattle.scan.proofs.put_index.Reads as put-index-reads
-use Rattle.scan.proofs.scannable.Reads as scannable-reads
 
 scannable-requires : tie.Need-scannable-requires
 scannable-requires c κs = search needs

@@ -1,14 +1,9 @@
 -- `scan::size` meets its contract. Assumes nothing.
-use mathlib.Core.Path.{_≡_, sym, _∙_}
 use native.Mathlib.Omega.{arith}
 use borrow.Author.Needs.{needs}
 use Rattle.scan.proofs.Answers.{size-refused, size-done}
 use Rattle.scan.proofs.size.Statement.{statement}
 use Rattle.scan.proofs.size.Tie as tie
-use Rattle.scan.proofs.size.Reads as reads
-use Rattle.scan.proofs.size.Lts as lts
-use Rattle.scan.proofs.index_size.Reads as index-size-reads
-use Rattle.scan.proofs.scannable.Reads as scannable-reads
 
 scannable-requires : tie.Need-scannable-requires
 scannable-requires c κs = search needs
