@@ -1,0 +1,4 @@
+pub mod FileLaws
+pub mod Stages
+pub mod Turns
+pub mod Answers
