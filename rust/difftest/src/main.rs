@@ -1,7 +1,7 @@
 //! Differential test: the proved library beside the oracle, on inputs from a seed.
 //!
 //!     difftest [CASES] [SEED] [--quick] [--case K]
-//!     difftest --huge
+//!     difftest --huge [STEP]
 //!
 //! First the cases by hand, then the large ones, then CASES random ones. `--quick` leaves the large ones out, so that
 //! valgrind can run it; `--huge` runs only those that want 5 GB of memory. A difference prints the seed and the case, writes its inputs to a folder, and ends with status 1.
@@ -40,14 +40,19 @@ fn arguments() -> Result<Arguments, String> {
             _ => numbers.push(number(Some(word.clone())).ok_or(format!("not a number: {word}"))?),
         }
     }
-    arguments.cases = *numbers.first().unwrap_or(if arguments.quick { &150 } else { &20_000 });
+    arguments.cases = match numbers.first() {
+        Some(number) => *number,
+        None if arguments.huge => 0,
+        None if arguments.quick => 150,
+        None => 20_000,
+    };
     arguments.seed = *numbers.get(1).unwrap_or(&arguments.seed);
     Ok(arguments)
 }
 
 fn main() -> ExitCode {
     match arguments() {
-        Ok(arguments) if arguments.huge => match vault::on_large_stack(huge::run) {
+        Ok(arguments) if arguments.huge => match vault::on_large_stack(|| huge::run(arguments.cases)) {
             Ok(()) => ExitCode::SUCCESS,
             Err(why) => {
                 println!("DIFFERENCE: {why}");
@@ -56,7 +61,7 @@ fn main() -> ExitCode {
         },
         Ok(arguments) => vault::on_large_stack(|| run(&arguments)),
         Err(why) => {
-            eprintln!("{why}\nusage: difftest [CASES] [SEED] [--quick] [--case K]\n       difftest --huge");
+            eprintln!("{why}\nusage: difftest [CASES] [SEED] [--quick] [--case K]\n       difftest --huge [STEP]");
             ExitCode::from(2)
         }
     }
