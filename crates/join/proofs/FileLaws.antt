@@ -1,17 +1,16 @@
 -- The files one after the other: what is left to list from file k on, that it starts with file k's list, and that file k can be walked.
--- The slice of a file is the definition's file (its fingerprints are read alike); what 15 and 16 test is what the walk asks. Assumes nothing.
+-- A file's slice is the definition's file (its fingerprints are read alike); what 15 and 16 test is what the walk asks. Assumes nothing.
 use mathlib.Core.Path.{_≡_, refl, sym, ap, ap₂, _∙_}
 use mathlib.Core.List.{List, [], _∷_, _++_, map}
-use Prim.Native.Nat.{ℕ, zero, suc, _+_, _-_, _*_, _/_, _^_, _≤_, _<_}
-use native.Mathlib.Nat.{add-sub-cancel-left, mul-zero}
+use Prim.Native.Nat.{ℕ, zero, suc, _+_, _-_, _*_, _/_, _≤_, _<_}
+use native.Mathlib.Nat.{add-sub-cancel-left}
 use native.Mathlib.Numerals.{add-one}
 use native.Mathlib.Omega.{arith}
 use lib.ListN.{length, take, drop, getD, length-drop}
-use lib.Seq.{drop-drop, take-take, length-take-le}
+use lib.Seq.{take-take, length-take-le}
 use Rattle.spec.specs.Bytes.{part, fieldAt, positionOf, sum}
 use Rattle.spec.specs.Keywords.{foldedKeywords}
 use Rattle.spec.specs.Directory.{keysOf, sizeAt}
-use Rattle.spec.specs.Store.{chunkCount}
 use Rattle.spec.specs.Records.{form1}
 use Rattle.spec.specs.Index.{listIn, indexLayout, indexKeys, indexRecords, indexCode}
 use Rattle.spec.specs.Recipes.{fileCount, filesOf, recipesCode, sizesIn, filesCode}
@@ -21,7 +20,7 @@ use Rattle.spec.proofs.EntryLaws.{length-keys, key-at}
 use Rattle.spec.proofs.IndexChecks.{length-indexKeys}
 use Rattle.spec.proofs.FileLaws.{FileAccepted, file-accepted, files-cons, files-drop}
 use Rattle.loader.proofs.Rows.{drop-take}
-use Rattle.recipes.proofs.Files.{Walk, FileAt, walk-file, walk-files, walk-end}
+use Rattle.recipes.proofs.Files.{Walk, walk-file, walk-files, walk-on, walk-end}
 use Rattle.walk.specs.Walking.{chunksIn, sizeOf, File}
 
 -- ---- what the code 0 gives
@@ -48,6 +47,10 @@ keys-take (suc n) bytes =
     let e : 20 * suc n ≡ 20 + 20 * n = omega arith in
     rw (e, take-take 20 (20 + 20 * n) bytes (omega arith), drop-take 20 (20 * n) bytes, keys-take n (drop 20 bytes))
 
+-- a file's slice, as the code cuts it
+pub slice-is : (recipes : List ℕ) (at n : ℕ) → n ≡ fieldAt recipes at 4 → take (at + 4 + 20 * n - (at + 4)) (drop (at + 4) recipes) ≡ part recipes (at + 4) (20 * fieldAt recipes at 4)
+slice-is recipes at n e = ap (λ (m : ℕ). take m (drop (at + 4) recipes)) (add-sub-cancel-left (at + 4) (20 * n) ∙ ap (λ (m : ℕ). 20 * m) e)
+
 -- the sizes of a file's chunks
 sizes-are : (index : List ℕ) (file : List (List ℕ)) → sizeOf (fileRecords form1 index file) ≡ sum (sizesIn (indexKeys index) (sizeAt (indexLayout index) index) (due form1 (listIn index)) file)
 unfolding fileRecords indexRecords
@@ -71,54 +74,57 @@ module _ (index recipes : List ℕ) where
   unfolding left joinFiles
   left-end k at w h = rw (walk-end recipes k at w h)
 
-  module _ (good : joinableCode form1 index recipes ≡ 0) (k at n : ℕ) (w : Walk recipes k at) (turn : k < fileCount recipes) (e : n ≡ fieldAt recipes at 4) where
-    -- the file's slice, as the code cuts it
-    abbrev pub slice : List ℕ
-    slice = take (at + 4 + 20 * n - (at + 4)) (drop (at + 4) recipes)
+  -- file k is at `at`, and `file` is its slice
+  module _ (good : joinableCode form1 index recipes ≡ 0) (k at : ℕ) (w : Walk recipes k at) (turn : k < fileCount recipes) (file : List ℕ)
+      (f : file ≡ part recipes (at + 4) (20 * fieldAt recipes at 4)) where
+    abbrev n : ℕ
+    n = fieldAt recipes at 4
 
-    abbrev file : List (List ℕ)
-    file = keysOf 20 n (drop (at + 4) recipes)
+    -- the fingerprints that it names
+    abbrev named : List (List ℕ)
+    named = keysOf 20 n (drop (at + 4) recipes)
 
-    slice-is : slice ≡ take (20 * n) (drop (at + 4) recipes)
-    slice-is = ap (λ (m : ℕ). take m (drop (at + 4) recipes)) (add-sub-cancel-left (at + 4) (20 * n))
+    pub file-length : length file ≡ 20 * n
+    file-length = ap length f ∙ length-take-le (20 * n) (drop (at + 4) recipes) (omega (arith, length-drop (at + 4) recipes, walk-file recipes k at n w turn refl .room))
 
-    slice-length : length slice ≡ 20 * n
-    slice-length = ap length slice-is ∙ length-take-le (20 * n) (drop (at + 4) recipes) (omega (arith, length-drop (at + 4) recipes, walk-file recipes k at n w turn e .room))
+    file-count : length file / 20 ≡ n
+    file-count = omega (arith, file-length)
 
-    slice-count : length slice / 20 ≡ n
-    slice-count = omega (arith, slice-length)
+    file-keys : keysOf 20 (length file / 20) file ≡ named
+    file-keys = ap₂ (keysOf 20) file-count f ∙ keys-take n (drop (at + 4) recipes)
 
-    slice-keys : keysOf 20 (length slice / 20) slice ≡ file
-    slice-keys = ap₂ (keysOf 20) slice-count slice-is ∙ keys-take n (drop (at + 4) recipes)
-
-    chunks-are : chunksIn index slice ≡ fileRecords form1 index file
+    chunks-are : chunksIn index file ≡ fileRecords form1 index named
     unfolding chunksIn
-    chunks-are = ap (fileRecords form1 index) slice-keys
+    chunks-are = ap (fileRecords form1 index) file-keys
 
-    accepted : FileAccepted (indexKeys index) (sizeAt (indexLayout index) index) (due form1 (listIn index)) file
+    accepted : FileAccepted (indexKeys index) (sizeAt (indexLayout index) index) (due form1 (listIn index)) named
     accepted =
-        file-accepted (indexKeys index) (sizeAt (indexLayout index) index) (due form1 (listIn index)) file
-        (files-cons (indexKeys index) (sizeAt (indexLayout index) index) (due form1 (listIn index)) file (drop (k + 1) (filesOf recipes))
-        (ap (λ (files : List (List (List ℕ))). filesCode (indexKeys index) (sizeAt (indexLayout index) index) (due form1 (listIn index)) files) (sym (walk-files recipes k at n w turn e))
+        file-accepted (indexKeys index) (sizeAt (indexLayout index) index) (due form1 (listIn index)) named
+        (files-cons (indexKeys index) (sizeAt (indexLayout index) index) (due form1 (listIn index)) named (drop (k + 1) (filesOf recipes))
+        (ap (λ (files : List (List (List ℕ))). filesCode (indexKeys index) (sizeAt (indexLayout index) index) (due form1 (listIn index)) files) (sym (walk-files recipes k at n w turn refl))
         ∙ files-drop (indexKeys index) (sizeAt (indexLayout index) index) (due form1 (listIn index)) (filesOf recipes) k (passes index recipes good .files)) .0)
 
-    key-is : (j : ℕ) → j < n → part slice (20 * j) 20 ≡ getD file j []
+    key-is : (j : ℕ) → j < n → part file (20 * j) 20 ≡ getD named j []
     key-is j h =
-        sym (key-at 20 (length slice / 20) j slice (omega (arith, slice-count)))
-        ∙ ap (λ (keys : List (List ℕ)). getD keys j []) slice-keys
+        sym (key-at 20 (length file / 20) j file (omega (arith, file-count)))
+        ∙ ap (λ (keys : List (List ℕ)). getD keys j []) file-keys
 
-    pub slice-walks : File index slice
-    slice-walks =
+    pub file-walks : File index file
+    file-walks =
         record {
-          whole = omega (arith, slice-length);
-          found = λ j h. let l : j < n = omega (arith, slice-count) in
+          whole = omega (arith, file-length);
+          found = λ j h. let l : j < n = omega (arith, file-count) in
               rw (key-is j l) (omega (arith, accepted .found j (omega (arith, length-keys 20 n (drop (at + 4) recipes))), length-indexKeys index));
-          small = rw chunks-are (omega (arith, sizes-are index file, accepted .short));
+          small = rw chunks-are (omega (arith, sizes-are index named, accepted .short));
         }
 
+    -- the next file is behind it
+    pub file-next : Walk recipes (k + 1) (at + 4 + length file)
+    file-next = rw file-length (walk-on recipes k at n w turn refl)
+
     -- file k's list, and then the files behind it
-    pub left-step : left k ≡ joinFile k keywords (chunksIn index slice) ++ left (k + 1)
+    pub left-step : left k ≡ joinFile k keywords (chunksIn index file) ++ left (k + 1)
     unfolding left joinFiles
     left-step =
-        ap (λ (files : List (List (List ℕ))). joinFiles k keywords (map (fileRecords form1 index) files)) (walk-files recipes k at n w turn e)
+        ap (λ (files : List (List (List ℕ))). joinFiles k keywords (map (fileRecords form1 index) files)) (walk-files recipes k at n w turn refl)
         ∙ rw (← chunks-are, ← add-one k)

@@ -1,13 +1,13 @@
 -- The stages of a join: each refusal of `prepare`, and what the stage after it may start from. Assumes nothing.
-use mathlib.Core.Path.{_≡_, refl, sym, ap, _∙_, subst}
+use mathlib.Core.Path.{_≡_, sym, ap, _∙_, subst}
 use mathlib.Core.Logic.{_≢_}
 use mathlib.Core.Bool.{Bool}
-use mathlib.Core.List.{List, [], _∷_}
-use Prim.Native.Nat.{ℕ, _+_, _-_, _*_, _≤_, _<_}
+use mathlib.Core.List.{List, []}
+use Prim.Native.Nat.{ℕ, _+_, _-_, _≤_}
 use native.Mathlib.Omega.{arith}
 use lib.ListN.{length, take, drop, getD}
-use Rattle.spec.specs.Outcome.{firstOf, whole}
-use Rattle.spec.specs.Keywords.{countOf, keywordsOf, foldedKeywords, listSize, keywordFrontCode}
+use Rattle.spec.specs.Outcome.{whole}
+use Rattle.spec.specs.Keywords.{keywordsOf, foldedKeywords, listSize, keywordFrontCode}
 use Rattle.spec.specs.Directory.{sizeAt}
 use Rattle.spec.specs.Store.{chunkCount}
 use Rattle.spec.specs.Records.{form1}
@@ -24,7 +24,6 @@ use Rattle.index.proofs.CheckLaws.{list-is}
 use Rattle.files.specs.Measures.{keysAt, sizesAt}
 use Rattle.files.proofs.OfIndex.{index-keys, index-files}
 use Rattle.tables.specs.Tabled.{Tabled}
-use Rattle.walk.specs.Walking.{Directory, Keyed}
 use Rattle.join.specs.Joining.{Prepared, Joinable}
 use Rattle.join.proofs.FileLaws.{passes}
 

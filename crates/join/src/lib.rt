@@ -1,9 +1,9 @@
 // The join: the logical phase of the search, over a match index and recipes alone (document 01, "Recipes and the join"). It is given no
 // store. It counts first, so that a refusal changes no byte; then it lists, file by file.
 ghost use mathlib.Core.Path.{_≡_};
-ghost use Prim.Native.Nat.{_*_, _≤_};
+ghost use Prim.Native.Nat.{_+_, _*_, _≤_};
 ghost use lib.ListN.{length};
-ghost use Rattle.spec.specs.Bytes.{splice};
+ghost use Rattle.spec.specs.Bytes.{part, fieldAt, splice};
 ghost use Rattle.spec.specs.Records.{form1};
 ghost use Rattle.spec.specs.Join.{joinList, listBytes, countOutcome};
 ghost use Rattle.directory.specs.Chains.{Empty};
@@ -30,6 +30,16 @@ fn prepare(index: &[u8], recipes: &[u8], heads: &mut [u32], chain: &mut [u32]) -
     files::files_code(recipes, index, start, entries, heads, chain, words.most - 1)
 }
 
+// The fingerprints of the file at `at`, a slice of the recipes.
+fn file_at(recipes: &[u8], at: usize) -> &[u8]
+    requires { ⌜ at + 4 + 20 * fieldAt (now recipes) at 4 ≤ length (now recipes) ⌝ }
+    ensures { λ r. ⌜ now r ≡ part (now (recipes .entry)) (at + 4) (20 * fieldAt (now (recipes .entry)) at 4) ⌝ }
+{
+    let n = recipes::count_at(recipes, at);
+    let from = at + 4;
+    &recipes[from..from + 20 * n]
+}
+
 // How many occurrences all files have.
 fn count_files(
     index: &[u8],
@@ -49,10 +59,9 @@ fn count_files(
     let mut at: usize = 4;
     let mut k: usize = 0;
     while k < files {
-        let n = recipes::count_at(recipes, at);
-        let file = &recipes[at + 4..at + 4 + 20 * n];
+        let file = file_at(recipes, at);
         total += walk::count_file(index, directory, entries, heads, chain, file, count, tables);
-        at = at + 4 + 20 * n;
+        at = at + 4 + file.len();
         k += 1;
     }
     total
@@ -77,10 +86,9 @@ fn list_files(
     let files = recipes::count_at(recipes, 0);
     let mut place: usize = 0;
     let mut at: usize = 4;
-    let mut k: usize = 0;
-    while k < files {
-        let n = recipes::count_at(recipes, at);
-        let file = &recipes[at + 4..at + 4 + 20 * n];
+    let mut number: usize = 0;
+    while number < files {
+        let file = file_at(recipes, at);
         place = walk::list_file(
             index,
             directory,
@@ -90,12 +98,12 @@ fn list_files(
             file,
             count,
             tables,
-            k,
+            number,
             out,
             place,
         );
-        at = at + 4 + 20 * n;
-        k += 1;
+        at = at + 4 + file.len();
+        number += 1;
     }
 }
 

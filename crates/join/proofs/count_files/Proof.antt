@@ -1,22 +1,16 @@
 -- `count_files` meets its contract: the walk along the files (Turns).
-use mathlib.Core.Path.{_≡_, refl, sym, ap, _∙_}
-use Prim.Native.Nat.{ℕ, _+_, _-_, _*_, _≤_, _<_}
+use mathlib.Core.Path.{_≡_, refl}
+use Prim.Native.Nat.{_+_, _-_, _≤_}
 use native.Mathlib.Omega.{arith}
-use lib.ListN.{length, drop}
+use lib.ListN.{length}
 use denote.Ref.{now}
-use borrow.Author.Needs.{needs}
 use Rattle.spec.specs.Bytes.{fieldAt}
 use Rattle.spec.specs.Recipes.{fileCount}
 use Rattle.recipes.proofs.Files.{walk-file, accepted}
-use Rattle.join.specs.Joining.{Joinable}
-use Rattle.join.proofs.FileLaws.{passes, slice-walks}
+use Rattle.join.proofs.FileLaws.{passes, file-walks, file-next}
 use Rattle.join.proofs.Turns.{Counting, counting-start, counting-on, counting-end}
 use Rattle.join.proofs.count_files.Statement.{statement}
 use Rattle.join.proofs.count_files.Tie as tie
-use Rattle.join.proofs.count_files.Reads as reads
-use Rattle.join.proofs.count_files.Lts as lts
-use Rattle.walk.proofs.count_file.Reads as count-file-reads
-use Rattle.recipes.proofs.count_at.Reads as count-at-reads
 
 abbrev Inv-loop : tie.InvT-loop
 Inv-loop index recipes directory entries heads chain count tables files total₀ at₀ k₀ total at k = (files ≡ fileCount recipes) × Counting index recipes k at total
@@ -25,10 +19,11 @@ abbrev μ-loop : tie.MeasureT-loop
 μ-loop index recipes directory entries heads chain count tables files total₀ at₀ k₀ total at k = files - k
 
 -- the file that the walk is at lies in the recipes
-room : (c : tie.After-count-at2 Inv-loop μ-loop) → c .before .before .loop .at + 4 + 20 * c .count-at2 .result ≤ length (now (c .before .before .before .before .before .before .before .before .args .recipes))
+room : (c : tie.After-file-at Inv-loop μ-loop) → c .before .before .loop .at + 4 + length (now (c .file-at .result)) ≤ length (now (c .before .before .before .before .before .before .before .before .args .recipes))
 room c =
     let at = c .before .before in
-    walk-file (now (at .before .before .before .before .before .before .args .recipes)) (at .loop .k) (at .loop .at) (c .count-at2 .result) (at .loop .inv .1 .walk) (omega arith) (c .count-at2 .ensures) .room
+    let s = at .before .before .before .before .before .before in
+    file-next (now (s .args .index)) (now (s .args .recipes)) (s .pre .passed) (at .loop .k) (at .loop .at) (at .loop .inv .1 .walk) (omega arith) (now (c .file-at .result)) (c .file-at .ensures) .within
 
 count-at-requires : tie.Need-count-at-requires Inv-loop μ-loop
 count-at-requires c κs =
@@ -40,52 +35,30 @@ loop-holds c =
     let s = c .before .before .before .before .before in
     (c .count-at .ensures, counting-start (now (s .args .index)) (now (s .args .recipes)) (s .pre .passed))
 
-count-at-requires-2 : tie.Need-count-at-requires-2 Inv-loop μ-loop
-count-at-requires-2 c κs =
+file-at-requires : tie.Need-file-at-requires Inv-loop μ-loop
+file-at-requires c κs =
     let at = c .before in
     let recipes = now (at .before .before .before .before .before .before .args .recipes) in
-    omega (arith, walk-file recipes (at .loop .k) (at .loop .at) (fieldAt recipes (at .loop .at) 4) (at .loop .inv .1 .walk) (omega arith) refl .room)
-
-add-file : tie.Need-add-file Inv-loop μ-loop
-add-file c = omega (arith, room c)
-
-add-file-2 : tie.Need-add-file-2 Inv-loop μ-loop
-add-file-2 c = omega (arith, room c)
-
-mul-file : tie.Need-mul-file Inv-loop μ-loop
-mul-file c = omega (arith, room c)
-
-add-file-3 : tie.Need-add-file-3 Inv-loop μ-loop
-add-file-3 c = omega (arith, room c)
-
-sub-file : tie.Need-sub-file Inv-loop μ-loop
-sub-file c = omega arith
-
-part-file-start : tie.Need-part-file-start Inv-loop μ-loop
-part-file-start c = omega arith
-
-part-file-end : tie.Need-part-file-end Inv-loop μ-loop
-part-file-end c = omega (arith, room c)
+    walk-file recipes (at .loop .k) (at .loop .at) (fieldAt recipes (at .loop .at) 4) (at .loop .inv .1 .walk) (omega arith) refl .room
 
 count-file-requires : tie.Need-count-file-requires Inv-loop μ-loop
 count-file-requires c κs =
-    let at = c .before .before .before in
-    let s = at .before .before .before .before .before .before in
-    (s .pre .looked, (slice-walks (now (s .args .index)) (now (s .args .recipes)) (s .pre .passed) (at .loop .k) (at .loop .at) (c .before .count-at2 .result) (at .loop .inv .1 .walk) (omega arith) (c .before .count-at2 .ensures), s .pre .keyed))
+    let at = c .before .before in
+    let s = at .before .before .before .before .before .before in (
+      s .pre .looked,
+      (file-walks (now (s .args .index)) (now (s .args .recipes)) (s .pre .passed) (at .loop .k) (at .loop .at) (at .loop .inv .1 .walk) (omega arith) (now (c .file-at .result)) (c .file-at .ensures), s .pre .keyed),
+    )
 
 add-total : tie.Need-add-total Inv-loop μ-loop
 add-total c =
-    let at = c .before .before .before .before in
+    let at = c .before .before .before in
     omega (arith, at .loop .inv .1 .small, at .loop .inv .1 .few, c .count-file .ensures .few)
 
 add-at : tie.Need-add-at Inv-loop μ-loop
-add-at c = omega (arith, room (c .before .before))
-
-mul-at : tie.Need-mul-at Inv-loop μ-loop
-mul-at c = omega (arith, room (c .before .before))
+add-at c = omega (arith, room (c .before))
 
 add-at-2 : tie.Need-add-at-2 Inv-loop μ-loop
-add-at-2 c = omega (arith, room (c .before .before))
+add-at-2 c = omega (arith, room (c .before))
 
 add-k : tie.Need-add-k Inv-loop μ-loop
 add-k c = omega arith
@@ -95,9 +68,11 @@ loop-less c = omega arith
 
 loop-again : tie.Need-loop-again Inv-loop μ-loop
 loop-again c =
-    let at = c .before .before .before .before in
+    let at = c .before .before .before in
     let s = at .before .before .before .before .before .before in
-    (at .loop .inv .0, counting-on (now (s .args .index)) (now (s .args .recipes)) (s .pre .passed) (at .loop .k) (at .loop .at) (c .before .before .count-at2 .result) (omega arith) (c .before .before .count-at2 .ensures) (at .loop .total) (c .count-file .result) (at .loop .inv .1) (c .count-file .ensures))
+    let r = c .before .file-at in
+    let n = c .count-file in
+    (at .loop .inv .0, counting-on (now (s .args .index)) (now (s .args .recipes)) (s .pre .passed) (at .loop .k) (at .loop .at) (omega arith) (now (r .result)) (r .ensures) (at .loop .total) (n .result) (at .loop .inv .1) (n .ensures))
 
 returns : tie.Need-returns Inv-loop μ-loop
 returns c =
@@ -113,18 +88,10 @@ count-files-spec =
     μ-loop
     count-at-requires
     loop-holds
-    count-at-requires-2
-    add-file
-    add-file-2
-    mul-file
-    add-file-3
-    sub-file
-    part-file-start
-    part-file-end
+    file-at-requires
     count-file-requires
     add-total
     add-at
-    mul-at
     add-at-2
     add-k
     loop-less

@@ -1,8 +1,6 @@
 -- `prepare` meets its contract: each return by the tests that led there (Stages).
 use mathlib.Core.Path.{_≡_, sym, _∙_}
-use Prim.Native.Nat.{_+_, _-_, _≤_}
 use native.Mathlib.Omega.{arith}
-use lib.ListN.{length}
 use denote.Ref.{now}
 use Rattle.spec.specs.Records.{form1}
 use Rattle.spec.specs.Index.{indexCode}
@@ -11,13 +9,6 @@ use Rattle.join.proofs.Stages.{stop-index, stop-recipes, header, list-g
 use borrow.Author.Needs.{needs}
 use Rattle.join.proofs.prepare.Statement.{statement}
 use Rattle.join.proofs.prepare.Tie as tie
-use Rattle.join.proofs.prepare.Reads as reads
-use Rattle.join.proofs.prepare.Lts as lts
-use Rattle.directory.proofs.build.Reads as build-reads
-use Rattle.field.proofs.read.Reads as read-reads
-use Rattle.files.proofs.files_code.Reads as files-code-reads
-use Rattle.index.proofs.check.Reads as check-reads
-use Rattle.keywords.proofs.parse.Reads as parse-reads
 use Rattle.recipes.proofs.check.Reads as check-reads′
 
 -- what the two checks passed say

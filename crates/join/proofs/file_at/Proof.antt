@@ -1,0 +1,45 @@
+-- `file_at` meets its contract. Assumes nothing.
+use denote.Ref.{now}
+use Rattle.join.proofs.FileLaws.{slice-is}
+use borrow.Author.Needs.{needs}
+use Rattle.join.proofs.file_at.Statement.{statement}
+use Rattle.join.proofs.file_at.Tie as tie
+
+count-at-requires : tie.Need-count-at-requires
+count-at-requires c κs = search needs
+
+add-from : tie.Need-add-from
+add-from c = search needs
+
+mul-result : tie.Need-mul-result
+mul-result c = search needs
+
+add-result : tie.Need-add-result
+add-result c = search needs
+
+sub-result : tie.Need-sub-result
+sub-result c = search needs
+
+part-result-start : tie.Need-part-result-start
+part-result-start c = search needs
+
+part-result-end : tie.Need-part-result-end
+part-result-end c = search needs
+
+returns : tie.Need-returns
+returns c =
+    let a = c .before .before .before .args in
+    slice-is (now (a .recipes)) (a .at) (c .before .count-at .result) (c .before .count-at .ensures)
+
+pub file-at-spec : {M : Type 1} → statement M
+file-at-spec =
+    tie.close
+    (tie.spec
+    count-at-requires
+    add-from
+    mul-result
+    add-result
+    sub-result
+    part-result-start
+    part-result-end
+    returns)
