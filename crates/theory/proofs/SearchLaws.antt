@@ -50,11 +50,11 @@ module _ (list store recipes buffer out : List ℕ) where
 
   -- the scan did its work and reported n bytes
   module _ (n : ℕ) (e : scanOutcome form1 list store (length buffer) ≡ Done n) where
-    scan-code : scanCode form1 list store (length buffer) ≡ 0
+    pub scan-code : scanCode form1 list store (length buffer) ≡ 0
     unfolding scanOutcome
     scan-code = done-code (scanCode form1 list store (length buffer)) (length (scanIndex form1 list store)) n e
 
-    scan-length : length (scanIndex form1 list store) ≡ n
+    pub scan-length : length (scanIndex form1 list store) ≡ n
     unfolding scanOutcome
     scan-length = done-value (scanCode form1 list store (length buffer)) (length (scanIndex form1 list store)) n e
 

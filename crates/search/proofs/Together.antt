@@ -1,0 +1,54 @@
+-- The scan's and the join's promises give the search's: the join is handed the first n bytes of the scan's buffer, which are the index, so
+-- demand 3's laws (theory, SearchLaws) turn its answer and its buffer into those of the direct search. Assumes nothing.
+use mathlib.Core.Path.{_≡_, refl, sym, ap, _∙_}
+use mathlib.Core.List.{List}
+use Prim.Native.Nat.{ℕ, _≤_}
+use native.Mathlib.Omega.{arith}
+use lib.ListN.{length, take, length-take}
+use Rattle.spec.specs.declared.Outcome.{Outcome}
+use Rattle.spec.specs.declared.Outcome.the-variants.{Done, Refused}
+use Rattle.spec.specs.declared.Searched.{Searched}
+use Rattle.spec.specs.declared.Searched.the-variants.{ScanRefused}
+use Rattle.spec.specs.Records.{form1}
+use Rattle.spec.specs.Join.{joinOutcome}
+use Rattle.spec.specs.Scan.{scanOutcome, scanBuffer}
+use Rattle.spec.specs.Search.{searchOutcome}
+use Rattle.theory.proofs.SearchLaws.{scan-length, scanned-front, search-scan-refused, search-join-refused, search-found, search-list}
+use Rattle.search.specs.Searching.{afterJoin, Joins, Searches}
+
+module _ (list store recipes buffer out : List ℕ) where
+  -- the scan refused
+  pub not-scanned : (index′ : List ℕ) (c : ℕ) → index′ ≡ scanBuffer form1 list store buffer → scanOutcome form1 list store (length buffer) ≡ Refused c
+      → Searches list store recipes buffer out index′ out (ScanRefused c)
+  not-scanned index′ c q e =
+      let r = search-scan-refused list store recipes buffer out c e in
+      record { answered = r .0; scanned = q; listed = r .1 }
+
+  -- the scan wrote n bytes
+  module _ (n : ℕ) (e : scanOutcome form1 list store (length buffer) ≡ Done n) (index′ : List ℕ) (q : index′ ≡ scanBuffer form1 list store buffer) where
+    pub front-length : n ≡ length (take n index′)
+    front-length =
+        rw q (sym (scan-length list store recipes buffer out n e) ∙ sym (ap length (scanned-front list store recipes buffer out n e)))
+
+    pub front-room : n ≤ length index′
+    front-room = let h : n ≡ length (take n index′) = front-length in omega (arith, length-take n index′)
+
+    answer-is : (o : Outcome) → joinOutcome form1 (take n (scanBuffer form1 list store buffer)) recipes (length out) ≡ o
+        → afterJoin n o ≡ searchOutcome form1 list store recipes (length buffer) (length out)
+    answer-is (Done m) f = search-found list store recipes buffer out n e m f
+    answer-is (Refused c) f = search-join-refused list store recipes buffer out n e c f
+
+    answered-is : afterJoin (length (take n index′)) (joinOutcome form1 (take n index′) recipes (length out)) ≡ searchOutcome form1 list store recipes (length buffer) (length out)
+    answered-is =
+        ap (λ (m : ℕ). afterJoin m (joinOutcome form1 (take n index′) recipes (length out))) (sym front-length)
+        ∙ ap (λ (i : List ℕ). afterJoin n (joinOutcome form1 (take n i) recipes (length out))) q
+        ∙ answer-is (joinOutcome form1 (take n (scanBuffer form1 list store buffer)) recipes (length out)) refl
+
+    -- and its join answered
+    pub scanned-joined : (out′ : List ℕ) (r : Searched) → Joins (take n index′) recipes out out′ r → Searches list store recipes buffer out index′ out′ r
+    scanned-joined out′ r j =
+        record {
+          answered = j .answered ∙ answered-is;
+          scanned = q;
+          listed = j .listed ∙ rw q (search-list list store recipes buffer out n e);
+        }
