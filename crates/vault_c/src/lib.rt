@@ -1,0 +1,176 @@
+// The library for C and other languages: numbers, byte slices (a pointer and a length) and single numbers by reference. A call answers
+// document 01's number, 0 for accepted, found or done. A number by reference is a part of the answer: the length or the count where the
+// work is done, 0 on a refusal. include/vault.h declares these functions.
+ghost use mathlib.Core.Path.{_≡_};
+ghost use Rattle.spec.specs.Keywords.{keywordCode};
+ghost use Rattle.spec.specs.Store.{storeCode};
+ghost use Rattle.spec.specs.Records.{form1};
+ghost use Rattle.spec.specs.Index.{indexCode};
+ghost use Rattle.spec.specs.Lookup.{findChunk, chunkStart, chunkLength, findBody, bodyStart, bodyLength};
+ghost use Rattle.vault_c.specs.Calls.{SizeCall, ScanCall, CountCall, JoinCall, SearchCall};
+
+// ---- checks
+
+#[no_mangle]
+pub extern "C" fn vault_check_keywords(list: &[u8]) -> u8
+    ensures { λ r. ⌜ r ≡ keywordCode (now (list .entry)) ⌝ }
+{
+    keywords::check(list)
+}
+
+#[no_mangle]
+pub extern "C" fn vault_check_store(store: &[u8]) -> u8
+    ensures { λ r. ⌜ r ≡ storeCode (now (store .entry)) ⌝ }
+{
+    store::check(store)
+}
+
+#[no_mangle]
+pub extern "C" fn vault_check_index(index: &[u8]) -> u8
+    ensures { λ r. ⌜ r ≡ indexCode form1 (now (index .entry)) ⌝ }
+{
+    index::check(index)
+}
+
+// ---- scan and join
+
+#[no_mangle]
+pub extern "C" fn vault_scan_size(list: &[u8], store: &[u8], length: &mut u64) -> u8
+    ensures { λ r. ⌜ SizeCall (now (list .entry)) (now (store .entry)) (now (length .exit)) r ⌝ }
+{
+    match scan::size(list, store) {
+        spec::Outcome::Done(n) => {
+            *length = n as u64;
+            0
+        }
+        spec::Outcome::Refused(code) => {
+            *length = 0;
+            code
+        }
+    }
+}
+
+#[no_mangle]
+pub extern "C" fn vault_scan(list: &[u8], store: &[u8], out: &mut [u8], length: &mut u64) -> u8
+    ensures { λ r. ⌜ ScanCall (now (list .entry)) (now (store .entry)) (now (out .entry)) (now (out .exit)) (now (length .exit)) r ⌝ }
+{
+    match scan::scan(list, store, out) {
+        spec::Outcome::Done(n) => {
+            *length = n as u64;
+            0
+        }
+        spec::Outcome::Refused(code) => {
+            *length = 0;
+            code
+        }
+    }
+}
+
+#[no_mangle]
+pub extern "C" fn vault_count(index: &[u8], recipes: &[u8], count: &mut u64) -> u8
+    ensures { λ r. ⌜ CountCall (now (index .entry)) (now (recipes .entry)) (now (count .exit)) r ⌝ }
+{
+    match join::count(index, recipes) {
+        spec::Outcome::Done(n) => {
+            *count = n as u64;
+            0
+        }
+        spec::Outcome::Refused(code) => {
+            *count = 0;
+            code
+        }
+    }
+}
+
+#[no_mangle]
+pub extern "C" fn vault_join(index: &[u8], recipes: &[u8], out: &mut [u8], count: &mut u64) -> u8
+    ensures { λ r. ⌜ JoinCall (now (index .entry)) (now (recipes .entry)) (now (out .entry)) (now (out .exit)) (now (count .exit)) r ⌝ }
+{
+    match join::join(index, recipes, out) {
+        spec::Outcome::Done(n) => {
+            *count = n as u64;
+            0
+        }
+        spec::Outcome::Refused(code) => {
+            *count = 0;
+            code
+        }
+    }
+}
+
+// ---- lookups: the number, where the slice starts, how long it is
+
+#[no_mangle]
+pub extern "C" fn vault_find_chunk(store: &[u8], key: &[u8]) -> u8
+    ensures { λ r. ⌜ r ≡ findChunk (now (store .entry)) (now (key .entry)) ⌝ }
+{
+    store::find_chunk(store, key)
+}
+
+#[no_mangle]
+pub extern "C" fn vault_chunk_start(store: &[u8], key: &[u8]) -> u64
+    ensures { λ r. ⌜ r ≡ chunkStart (now (store .entry)) (now (key .entry)) ⌝ }
+{
+    store::chunk_start(store, key) as u64
+}
+
+#[no_mangle]
+pub extern "C" fn vault_chunk_length(store: &[u8], key: &[u8]) -> u64
+    ensures { λ r. ⌜ r ≡ chunkLength (now (store .entry)) (now (key .entry)) ⌝ }
+{
+    store::chunk_length(store, key) as u64
+}
+
+#[no_mangle]
+pub extern "C" fn vault_find_body(index: &[u8], key: &[u8]) -> u8
+    ensures { λ r. ⌜ r ≡ findBody form1 (now (index .entry)) (now (key .entry)) ⌝ }
+{
+    index::find_body(index, key)
+}
+
+#[no_mangle]
+pub extern "C" fn vault_body_start(index: &[u8], key: &[u8]) -> u64
+    ensures { λ r. ⌜ r ≡ bodyStart form1 (now (index .entry)) (now (key .entry)) ⌝ }
+{
+    index::body_start(index, key) as u64
+}
+
+#[no_mangle]
+pub extern "C" fn vault_body_length(index: &[u8], key: &[u8]) -> u64
+    ensures { λ r. ⌜ r ≡ bodyLength form1 (now (index .entry)) (now (key .entry)) ⌝ }
+{
+    index::body_length(index, key) as u64
+}
+
+// ---- the search whole
+
+#[no_mangle]
+pub extern "C" fn vault_search(
+    list: &[u8],
+    store: &[u8],
+    recipes: &[u8],
+    index: &mut [u8],
+    out: &mut [u8],
+    index_length: &mut u64,
+    count: &mut u64,
+) -> u8
+    ensures { λ r. ⌜ SearchCall (now (list .entry)) (now (store .entry)) (now (recipes .entry)) (now (index .entry)) (now (out .entry)) (now (index .exit)) (now (out .exit)) (now («index_length» .exit)) (now (count .exit)) r ⌝ }
+{
+    match search::search(list, store, recipes, index, out) {
+        spec::Searched::ScanRefused(code) => {
+            *index_length = 0;
+            *count = 0;
+            code
+        }
+        spec::Searched::JoinRefused(n, code) => {
+            *index_length = n as u64;
+            *count = 0;
+            code
+        }
+        spec::Searched::Found(n, m) => {
+            *index_length = n as u64;
+            *count = m as u64;
+            0
+        }
+    }
+}
