@@ -1,6 +1,6 @@
 //! How long a search by scan and join takes, beside restoring each file and searching it.
 //!
-//!     bench [MEGABYTES] [ROUNDS] [--fresh] [--no-plain]
+//!     bench [MEGABYTES] [ROUNDS] [--fresh] [--no-plain] [--directories]
 //!
 //! Every row's methods run one after the other in each round, so that a row's ratios are of one run; times are medians of
 //! the rounds, in processor time of the thread. With each row stands the time of a fixed loop: rows whose loop took longer
@@ -21,15 +21,18 @@ struct Options {
     /// Buffers are made inside the timed part.
     fresh: bool,
     plain: bool,
+    /// Only the largest directories and ten million places.
+    directories: bool,
 }
 
 fn options() -> Option<Options> {
-    let mut options = Options { megabytes: 16, rounds: 5, fresh: false, plain: true };
+    let mut options = Options { megabytes: 16, rounds: 5, fresh: false, plain: true, directories: false };
     let mut numbers = Vec::new();
     for word in std::env::args().skip(1) {
         match word.as_str() {
             "--fresh" => options.fresh = true,
             "--no-plain" => options.plain = false,
+            "--directories" => options.directories = true,
             _ => numbers.push(word.parse::<usize>().ok().filter(|n| *n > 0)?),
         }
     }
@@ -40,7 +43,7 @@ fn options() -> Option<Options> {
 
 fn main() {
     let Some(options) = options() else {
-        eprintln!("usage: bench [MEGABYTES] [ROUNDS] [--fresh] [--no-plain]");
+        eprintln!("usage: bench [MEGABYTES] [ROUNDS] [--fresh] [--no-plain] [--directories]");
         std::process::exit(64);
     };
     vault::on_large_stack(|| run(&options));
@@ -49,6 +52,10 @@ fn main() {
 fn run(options: &Options) {
     if vault::IS_MOCK {
         println!("BUILT WITH THE FEATURE mock: scan and join are the oracle's, and their times say nothing of the library");
+    }
+    if options.directories {
+        directories(options);
+        return many_places(options);
     }
     let vault = vault(options.megabytes << 20);
     println!(
@@ -198,6 +205,15 @@ fn directories(options: &Options) {
     };
     tell("store check", measured(options, || vault::check_store(black_box(&store)).expect("a good store")));
     tell("index check, empty bodies", measured(options, || vault::check_index(black_box(&index)).expect("a good index")));
+    // Fingerprints that the directory's hash, a polynomial of five fields modulo 65,521, can't tell apart: once, as it is slow.
+    let mut chain = store.clone();
+    for k in 0..65_000u32 {
+        let at = 8 + 28 * k as usize;
+        chain[at..at + 20].fill(0);
+        chain[at + 16..at + 20].copy_from_slice(&(65_521 * k).to_le_bytes());
+    }
+    let once = Options { rounds: 1, ..*options };
+    tell("store check, all in one hash chain", measured(&once, || vault::check_store(black_box(&chain)).expect("a good store")));
     tell(
         "chunk lookup, with the check",
         measured(options, || {
