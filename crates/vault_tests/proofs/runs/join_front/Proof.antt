@@ -1,0 +1,38 @@
+-- `join_front` is safe and ends: a part of `room` bytes has that length. Assumes nothing.
+use borrow.Author.Needs.{needs}
+use mathlib.Core.Path.{sym}
+use lib.Seq.{length-take-le}
+use denote.Ref.{now}
+use Rattle.vault_tests.proofs.runs.join_front.Statement.{statement}
+use Rattle.vault_tests.proofs.runs.join_front.Tie as tie
+
+slice-relend-prefix-join-into : tie.Need-slice-relend-prefix-join-into
+slice-relend-prefix-join-into c = c .if1 .taken
+
+slice-aggregate-join-into : tie.Need-slice-aggregate-join-into
+slice-aggregate-join-into c =
+    let a = c .before .before .before .before .before .before .args in
+    sym (length-take-le (a .room) (now (a .buffer)) (c .before .if1 .taken))
+
+join-into-requires : tie.Need-join-into-requires
+join-into-requires c κs = search needs
+
+same-length : tie.Need-same-length
+same-length c = search needs
+
+returns : tie.Need-returns
+returns c = search needs
+
+returns-2 : tie.Need-returns-2
+returns-2 c = search needs
+
+pub join-front-spec : {M : Type 1} → statement M
+join-front-spec =
+    tie.close
+    (tie.spec
+    slice-relend-prefix-join-into
+    slice-aggregate-join-into
+    join-into-requires
+    same-length
+    returns
+    returns-2)

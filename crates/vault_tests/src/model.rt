@@ -1,0 +1,273 @@
+// A generated vault, apart from the formats, in one array of 66,600 bytes: counts, keywords, chunks, match records and files at fixed
+// places. It is filled from a seed.
+use crate::bytes::get;
+use crate::bytes::get_2;
+use crate::bytes::least;
+use crate::bytes::less;
+use crate::bytes::next;
+use crate::bytes::num;
+use crate::bytes::pick;
+use crate::bytes::plus;
+use crate::bytes::put;
+use crate::bytes::put_2;
+
+pub const MODEL: usize = 66600;
+
+// Keyword count, fold flag, chunk count, file count: a byte each.
+pub fn keywords(m: &[u8]) -> usize {
+    num(m, 0)
+}
+
+pub fn flag(m: &[u8]) -> usize {
+    num(m, 1)
+}
+
+pub fn chunks(m: &[u8]) -> usize {
+    num(m, 2)
+}
+
+pub fn files(m: &[u8]) -> usize {
+    num(m, 3)
+}
+
+// Keyword k: a length byte, and its bytes behind.
+pub fn keyword_at(k: usize) -> usize {
+    8 + 33 * (k % 16)
+}
+
+pub fn keyword_size(m: &[u8], k: usize) -> usize {
+    num(m, keyword_at(k))
+}
+
+// Chunk c: its length, 2 bytes; its bytes apart.
+pub fn size_at(c: usize) -> usize {
+    540 + 2 * (c % 12)
+}
+
+pub fn chunk_size(m: &[u8], c: usize) -> usize {
+    get_2(m, size_at(c))
+}
+
+pub fn chunk_at(c: usize) -> usize {
+    600 + 320 * (c % 12)
+}
+
+// The record of chunk c and keyword k: prefix and suffix, a byte each; apart from that a byte for each offset p, 1 where it is recorded.
+pub fn partial_at(c: usize, k: usize) -> usize {
+    4440 + 2 * (16 * (c % 12) + k % 16)
+}
+
+pub fn mark_at(c: usize, k: usize, p: usize) -> usize {
+    5100 + 320 * (16 * (c % 12) + k % 16) + p % 320
+}
+
+// File f: its chunk count, and its chunk numbers behind, a byte each.
+pub fn file_at(f: usize) -> usize {
+    4830 + 20 * (f % 12)
+}
+
+pub fn file_size(m: &[u8], f: usize) -> usize {
+    num(m, file_at(f))
+}
+
+pub fn chunk_of(m: &[u8], f: usize, i: usize) -> usize {
+    num(m, plus(file_at(f), plus(i, 1)))
+}
+
+// ---- from a seed
+
+// The n-th letter of an alphabet: two letters; one letter; the bytes at the fold's borders; four letters.
+fn letter(alphabet: usize, n: usize) -> u8 {
+    if alphabet == 0 {
+        return get(b"AB", n % 2);
+    }
+    if alphabet == 1 {
+        return get(b"A", 0);
+    }
+    if alphabet == 2 {
+        return get(b"@AZ[`az{", n % 8);
+    }
+    get(b"aABb", n % 4)
+}
+
+// Fills n bytes with letters.
+fn spell(m: &mut [u8], at: usize, n: usize, alphabet: usize, seed: u64) -> u64 {
+    let mut s = seed;
+    for i in 0..n {
+        s = next(s);
+        put(m, plus(at, i), letter(alphabet, pick(s, 64)));
+    }
+    s
+}
+
+// A keyword's length: 1 to 4; in some vaults 2 only, 31 or 32, 3 to 5, or its number and one.
+fn keyword_length(kind: usize, k: usize, seed: u64) -> usize {
+    if kind % 6 == 1 {
+        return k % 16 + 1;
+    }
+    if kind == 3 {
+        return less(32, pick(seed, 2));
+    }
+    if kind == 4 {
+        return k % 3 + 3;
+    }
+    if kind == 5 {
+        return 2;
+    }
+    plus(pick(seed, 4), 1)
+}
+
+fn make_keywords(m: &mut [u8], n: usize, kind: usize, alphabet: usize, seed: u64) -> u64 {
+    let mut s = seed;
+    for k in 0..n {
+        s = next(s);
+        let size = keyword_length(kind, k, s);
+        put(m, keyword_at(k), (size % 256) as u8);
+        s = spell(m, plus(keyword_at(k), 1), size, alphabet, s);
+    }
+    s
+}
+
+// A chunk's length: 1 to 40; in some vaults 1 to 3, or one long chunk of 253 to 257 bytes.
+fn chunk_length(kind: usize, c: usize, seed: u64) -> usize {
+    if kind == 5 {
+        return plus(pick(seed, 3), 1);
+    }
+    if kind == 7 {
+        if c == 0 {
+            return plus(253, pick(seed, 5));
+        }
+    }
+    plus(pick(seed, 40), 1)
+}
+
+fn make_chunks(m: &mut [u8], n: usize, kind: usize, alphabet: usize, seed: u64) -> u64 {
+    let mut s = seed;
+    for c in 0..n {
+        s = next(s);
+        let size = chunk_length(kind, c, s);
+        put_2(m, size_at(c), size);
+        s = spell(m, chunk_at(c), size, alphabet, s);
+    }
+    s
+}
+
+// The chunk numbers of a file.
+fn make_file(m: &mut [u8], f: usize, n: usize, chunks: usize, seed: u64) -> u64 {
+    put(m, file_at(f), (n % 256) as u8);
+    let mut s = seed;
+    for i in 0..n {
+        s = next(s);
+        put(
+            m,
+            plus(file_at(f), plus(i, 1)),
+            (pick(s, chunks) % 256) as u8,
+        );
+    }
+    s
+}
+
+// Files of at most 9 chunks, some of them empty; all are where there is no chunk to name.
+fn make_files(m: &mut [u8], n: usize, chunks: usize, seed: u64) -> u64 {
+    let mut s = seed;
+    for f in 0..n {
+        s = next(s);
+        let size = if chunks == 0 { 0 } else { pick(s, 10) };
+        s = make_file(m, f, size, chunks, s);
+    }
+    s
+}
+
+fn alphabet_of(kind: usize, seed: u64) -> usize {
+    if kind % 6 == 1 {
+        return 1;
+    }
+    if kind == 2 {
+        return 2;
+    }
+    if kind == 4 {
+        return 3;
+    }
+    3 * (pick(seed, 2) % 2)
+}
+
+// The four counts; the seed behind.
+fn make_counts(m: &mut [u8], kind: usize, seed: u64) -> u64 {
+    let a = next(seed);
+    let b = next(a);
+    let c = next(b);
+    let d = next(c);
+    let n = if kind == 4 { 16 } else { plus(pick(a, 4), 1) };
+    put(m, 0, (n % 256) as u8);
+    put(m, 1, (pick(b, 2) % 256) as u8);
+    put(m, 2, (pick(c, 9) % 256) as u8);
+    put(m, 3, (pick(d, 6) % 256) as u8);
+    d
+}
+
+// Vault number n, of one of eight kinds: counts, keywords, chunks, files.
+pub fn make(m: &mut [u8], n: usize) {
+    let kind = n % 8;
+    let a = make_counts(m, kind, next(next((n % 1000000) as u64 + 1)));
+    let alphabet = alphabet_of(kind, next(a));
+    let b = make_keywords(m, keywords(m), kind, alphabet, a);
+    let c = make_chunks(m, chunks(m), kind, alphabet, b);
+    make_files(m, files(m), chunks(m), c);
+}
+
+// ---- made-up records
+
+// 1 for an offset at which a keyword of length n fits, in `often` of 4 cases.
+fn fits_often(p: usize, n: usize, size: usize, often: usize, seed: u64) -> u8 {
+    if size < plus(p, n) {
+        return 0;
+    }
+    (pick(seed, 4) < often) as u8
+}
+
+fn invent_marks(
+    m: &mut [u8],
+    c: usize,
+    k: usize,
+    n: usize,
+    size: usize,
+    often: usize,
+    seed: u64,
+) -> u64 {
+    let mut s = seed;
+    for p in 0..size {
+        s = next(s);
+        put(m, mark_at(c, k, p), fits_often(p, n, size, often, s));
+    }
+    s
+}
+
+// A record in range: no chunk need give it.
+fn invent_record(m: &mut [u8], c: usize, k: usize, seed: u64) -> u64 {
+    let n = keyword_size(m, k);
+    let size = chunk_size(m, c);
+    let a = next(seed);
+    let b = next(a);
+    let reach = plus(least(less(n, 1), size), 1);
+    put(m, partial_at(c, k), (pick(a, reach) % 256) as u8);
+    put(m, plus(partial_at(c, k), 1), (pick(b, reach) % 256) as u8);
+    invent_marks(m, c, k, n, size, pick(next(b), 4), b)
+}
+
+fn invent_chunk(m: &mut [u8], c: usize, n: usize, seed: u64) -> u64 {
+    let mut s = seed;
+    for k in 0..n {
+        s = invent_record(m, c, k, s);
+    }
+    s
+}
+
+// Records for every chunk and keyword.
+pub fn invent(m: &mut [u8], seed: u64) {
+    let n = chunks(m);
+    let words = keywords(m);
+    let mut s = seed;
+    for c in 0..n {
+        s = invent_chunk(m, c, words, s);
+    }
+}
