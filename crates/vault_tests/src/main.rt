@@ -5,6 +5,7 @@ mod cases;
 mod damaged;
 mod encode;
 mod faults;
+mod limits;
 mod model;
 mod plain;
 mod report;
@@ -165,10 +166,18 @@ fn faulty(counts: &mut [u64]) {
     report_kind(b"pairs of faults", counts);
 }
 
+fn longest(counts: &mut [u64]) {
+    let mut recipes = limits::room();
+    tally(counts, limits::long_file(65537, 0, &mut recipes));
+    tally(counts, limits::long_file(65538, 16, &mut recipes));
+    report_kind(b"files at the longest length", counts);
+}
+
 fn main() {
     let mut counts = [0u64; 22];
     vaults(&mut counts);
     faulty(&mut counts);
+    longest(&mut counts);
     report::codes(&counts);
     report::line(b"not as expected", counts[20]);
 }
