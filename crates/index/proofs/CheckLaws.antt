@@ -18,7 +18,8 @@ use Rattle.spec.specs.Index.{listIn, indexLayout, indexKeys, lengthsIn, allGood
 use Rattle.spec.proofs.KeywordLaws.{accepted}
 use Rattle.keywords.specs.Parsed.{Parsed}
 use Rattle.bodies.proofs.Turns.{behind}
-use Rattle.index.specs.Stages.{headerCode, directoryCode, Opened, Lens}
+use Rattle.directory.specs.Chains.{Built}
+use Rattle.index.specs.Stages.{headerCode, directoryCode, Opened, Lens, Examined}
 use Rattle.index.proofs.StageLaws.{header-passed}
 
 -- ---- chains of tests, cut in two
@@ -94,14 +95,20 @@ module _ (index : List ℕ) where
         unfolding directoryCode
         pass-3 = pass-2 ∙ two-pass cut 11 walk last (omega arith) p3
 
-        pub stop-4 : twice (indexKeys index) ≡ true → 12 ≡ indexCode form1 index
-        stop-4 e = sym (pass-3 ∙ rw e)
+        -- the crate below built the chains
+        module _ {heads chain : List ℕ} (t : Bool) (b : Built (indexKeys index) heads chain t) where
+          pub stop-4 : t ≡ true → 12 ≡ indexCode form1 index
+          stop-4 e = sym (pass-3 ∙ rw (sym (b .found) ∙ e))
 
-        pub stop-5 : twice (indexKeys index) ≡ false → allGood form1 index ≡ false → 13 ≡ indexCode form1 index
-        stop-5 e g = sym (pass-3 ∙ rw (e, g))
+          pub stop-5 : t ≡ false → allGood form1 index ≡ false → 13 ≡ indexCode form1 index
+          stop-5 e g = sym (pass-3 ∙ rw (sym (b .found) ∙ e, g))
 
-        pub all-pass : twice (indexKeys index) ≡ false → allGood form1 index ≡ true → 0 ≡ indexCode form1 index
-        all-pass e g = sym (pass-3 ∙ rw (e, g))
+          pub all-pass : t ≡ false → allGood form1 index ≡ true → Examined index heads chain 0
+          all-pass e g = record { number = sym (pass-3 ∙ rw (sym (b .found) ∙ e, g)); chains = λ _. b .chains }
+
+-- a number that refuses leaves no chains to speak of
+pub refused-with : (index : List ℕ) (code : ℕ) {heads chain : List ℕ} → code ≡ indexCode form1 index → code ≢ 0 → Examined index heads chain code
+refused-with index code e d = record { number = e; chains = λ z. absurd (d z) }
 
 -- ---- what the keyword list's arrays say of the index
 

@@ -2,7 +2,7 @@
 use mathlib.Core.Path.{_≡_, refl, sym, ap, ap₂, _∙_}
 use mathlib.Core.Logic.{_≢_}
 use mathlib.Core.List.{List, []}
-use Prim.Native.Nat.{ℕ, _+_, _*_, _-_, _≤_, _<_}
+use Prim.Native.Nat.{ℕ, _+_, _*_, _-_, _≤_}
 use native.Mathlib.Nat.{add-sub-cancel-left}
 use native.Mathlib.Omega.{arith}
 use lib.ListN.{length, take, drop}
@@ -13,8 +13,11 @@ use Rattle.spec.specs.Directory.{entryField, offsetAt, lengthAt}
 use Rattle.spec.specs.Store.{chunkCount}
 use Rattle.spec.specs.Records.{form1}
 use Rattle.spec.specs.Index.{listIn, indexLayout, indexKeys, bodyAt, indexCode}
+use Rattle.spec.specs.declared.Outcome.{Outcome}
+use Rattle.spec.specs.declared.Outcome.the-variants.{Done, Refused}
+use Rattle.spec.specs.Outcome.{answer}
 use Rattle.spec.specs.Lookup.{findBody, bodyStart, bodyLength, bodyOf}
-use Rattle.spec.proofs.LookupLaws.{lookup-refused, lookup-length, lookup-none, lookup-found, lookup-passed, start-found, length-found, start-refused, length-refused}
+use Rattle.spec.proofs.LookupLaws.{refuses, finds, lookup-refused, lookup-length, lookup-none, lookup-found, lookup-passed, start-found, length-found, start-refused, length-refused}
 use Rattle.spec.proofs.KeywordLaws.{accepted}
 use Rattle.spec.proofs.IndexChecks.{index-good, length-indexKeys}
 use Rattle.directory.specs.Chains.{keysFrom, Lies}
@@ -57,26 +60,32 @@ module _ (index : List ℕ) (z : indexCode form1 index ≡ 0) where
     pub keys-in : keysFrom index start 32 count ≡ indexKeys index
     keys-in = keys-are index start count opened-again
 
--- ---- the number
+-- ---- the answer of a lookup
 
 module _ (index fp : List ℕ) where
-  pub number-refused : (code : ℕ) → code ≡ indexCode form1 index → code ≢ 0 → code ≡ findBody form1 index fp
-  unfolding findBody
-  number-refused code e d = lookup-refused (indexCode form1 index) (indexKeys index) fp code e d
+  abbrev located : Outcome
+  located = answer (findBody form1 index fp) (positionOf fp (indexKeys index))
 
-  pub number-length : indexCode form1 index ≡ 0 → length fp ≢ 20 → 19 ≡ findBody form1 index fp
+  pub refused-check : (code : ℕ) → code ≡ indexCode form1 index → code ≢ 0 → Refused code ≡ located
   unfolding findBody
-  number-length z d = lookup-length (indexCode form1 index) (indexKeys index) fp z d
+  refused-check code e d = refuses code _ _ (lookup-refused (indexCode form1 index) (indexKeys index) fp code e d) d
+
+  pub refused-length : indexCode form1 index ≡ 0 → length fp ≢ 20 → Refused 19 ≡ located
+  unfolding findBody
+  refused-length z d = refuses 19 _ _ (lookup-length (indexCode form1 index) (indexKeys index) fp z d) (λ e. omega arith)
 
   -- the fingerprint's place among c
-  module _ (z : indexCode form1 index ≡ 0) (l : length fp ≡ 20) (k : ℕ) (q : k ≡ positionOf fp (indexKeys index)) (c : ℕ) (e : c ≡ chunkCount index) where
-    pub number-none : k ≡ c → 15 ≡ findBody form1 index fp
-    unfolding findBody
-    number-none n = lookup-none (indexCode form1 index) (indexKeys index) fp z l c (e ∙ sym (length-indexKeys index)) k q n
+  module _ (z : indexCode form1 index ≡ 0) (l : length fp ≡ 20) (c : ℕ) (e : c ≡ chunkCount index) (k : ℕ) (q : k ≡ positionOf fp (indexKeys index)) where
+    counted : c ≡ length (indexKeys index)
+    counted = e ∙ sym (length-indexKeys index)
 
-    pub number-found : k ≢ c → 0 ≡ findBody form1 index fp
+    pub refused-none : k ≡ c → Refused 15 ≡ located
     unfolding findBody
-    number-found n = lookup-found (indexCode form1 index) (indexKeys index) fp z l c (e ∙ sym (length-indexKeys index)) k q n
+    refused-none n = refuses 15 _ _ (lookup-none (indexCode form1 index) (indexKeys index) fp z l c counted k q n) (λ e. omega arith)
+
+    pub found-at : k ≢ c → Done k ≡ located
+    unfolding findBody
+    found-at n = finds k _ _ (lookup-found (indexCode form1 index) (indexKeys index) fp z l c counted k q n) q
 
 -- ---- the entries of an index that passed its check
 
@@ -112,38 +121,30 @@ module _ (index : List ℕ) (k : ℕ) (entry : EntryOf index k) (at n : ℕ)
 
 -- ---- where a lookup's body is
 
--- a fingerprint that is found has an entry
-module _ (index fp : List ℕ) (z : findBody form1 index fp ≡ 0) where
-  tests : (indexCode form1 index ≡ 0) × (length fp ≡ 20) × (positionOf fp (indexKeys index) < length (indexKeys index))
+module _ (index fp : List ℕ) (k : ℕ) (z : findBody form1 index fp ≡ 0) (q : k ≡ positionOf fp (indexKeys index)) where
+  -- a fingerprint that is found has an entry
+  pub found-entry : EntryOf index k
   unfolding findBody
-  tests = lookup-passed (indexCode form1 index) (indexKeys index) fp z
+  found-entry =
+      let t = lookup-passed (indexCode form1 index) (indexKeys index) fp z in
+      record { checked = t .0; within = omega (arith, t .2, length-indexKeys index) }
 
-  pub found-checked : indexCode form1 index ≡ 0
-  found-checked = tests .0
+  pub start-there : entryField (indexLayout index) index 24 k ≡ bodyStart form1 index fp
+  unfolding bodyStart findBody indexLayout
+  start-there = start-found (indexCode form1 index) (indexKeys index) fp (indexLayout index) index k z q
 
-  pub found-length : length fp ≡ 20
-  found-length = tests .1
+  pub length-there : entryField (indexLayout index) index 28 k ≡ bodyLength form1 index fp
+  unfolding bodyLength findBody indexLayout
+  length-there = length-found (indexCode form1 index) (indexKeys index) fp (indexLayout index) index k z q
 
-  module _ (k : ℕ) (q : k ≡ positionOf fp (indexKeys index)) where
-    pub found-entry : EntryOf index k
-    found-entry = record { checked = found-checked; within = omega (arith, tests .2, length-indexKeys index) }
-
-    pub start-there : entryField (indexLayout index) index 24 k ≡ bodyStart form1 index fp
-    unfolding bodyStart findBody indexLayout
-    start-there = start-found (indexCode form1 index) (indexKeys index) fp (indexLayout index) index k z q
-
-    pub length-there : entryField (indexLayout index) index 28 k ≡ bodyLength form1 index fp
-    unfolding bodyLength findBody indexLayout
-    length-there = length-found (indexCode form1 index) (indexKeys index) fp (indexLayout index) index k z q
-
-    pub slice-there : {whole r : RefT (List ℕ)} → SliceOf whole r (bodyAt index k) (offsetAt (indexLayout index) index k)
-        → SliceOf whole r (bodyOf form1 index fp) (bodyStart form1 index fp)
-    unfolding bodyAt bodyOf indexLayout
-    slice-there s = record {
-      holds = s .holds ∙ ap₂ (part index) start-there length-there;
-      block = s .block;
-      place = s .place ∙ rw start-there;
-    }
+  pub slice-there : {whole r : RefT (List ℕ)} → SliceOf whole r (bodyAt index k) (offsetAt (indexLayout index) index k)
+      → SliceOf whole r (bodyOf form1 index fp) (bodyStart form1 index fp)
+  unfolding bodyAt bodyOf indexLayout
+  slice-there s = record {
+    holds = s .holds ∙ ap₂ (part index) start-there length-there;
+    block = s .block;
+    place = s .place ∙ rw start-there;
+  }
 
 module _ (index fp : List ℕ) (d : findBody form1 index fp ≢ 0) where
   pub start-none : 0 ≡ bodyStart form1 index fp

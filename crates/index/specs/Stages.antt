@@ -11,7 +11,8 @@ use Rattle.spec.specs.Keywords.{listSize}
 use Rattle.spec.specs.Directory.{directoryEnd, sizeAt, offsetAt, lengthAt, entriesCode}
 use Rattle.spec.specs.Store.{chunkCount, mostChunks}
 use Rattle.spec.specs.Records.{form1}
-use Rattle.spec.specs.Index.{listIn, indexLayout, lengthsIn, indexCode}
+use Rattle.spec.specs.Index.{listIn, indexLayout, indexKeys, lengthsIn, indexCode}
+use Rattle.directory.specs.Chains.{Chained}
 
 -- Fewer than 8 bytes, another mark, or c above 65,000.
 unfoldable pub headerCode : List ℕ → ℕ
@@ -46,6 +47,11 @@ pub record Lens (index : List ℕ) (words : ℕ) (lens : List ℕ) : Type 0 wher
   pub are : take words lens ≡ lengthsIn index
   pub room : words ≤ length lens
   pub each : (k : ℕ) → k < words → (1 ≤ getD lens k 0) × (getD lens k 0 ≤ 32)
+
+-- The index check's number, and where it is 0 the chains of the fingerprints.
+pub record Examined (index heads chain : List ℕ) (code : ℕ) : Type 0 where
+  pub number : code ≡ indexCode form1 index
+  pub chains : code ≡ 0 → Chained (indexKeys index) 0 heads chain
 
 -- An entry of an index that passed its check.
 pub record EntryOf (index : List ℕ) (k : ℕ) : Type 0 where

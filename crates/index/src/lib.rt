@@ -2,15 +2,17 @@
 ghost use mathlib.Core.Path.{_≡_};
 ghost use Prim.Native.Nat.{_+_, _*_, _≤_, _<_};
 ghost use lib.ListN.{length};
-ghost use Rattle.spec.specs.Bytes.{twice, positionOf};
+ghost use Rattle.spec.specs.Bytes.{positionOf};
+ghost use Rattle.spec.specs.Outcome.{answer};
 ghost use Rattle.spec.specs.Store.{chunkCount};
 ghost use Rattle.spec.specs.Records.{form1};
 ghost use Rattle.spec.specs.Keywords.{listSize};
 ghost use Rattle.spec.specs.Directory.{entryField, offsetAt};
 ghost use Rattle.spec.specs.Index.{listIn, indexLayout, indexKeys, bodyAt, goodAt, allGood, indexCode};
 ghost use Rattle.spec.specs.Lookup.{findBody, bodyStart, bodyLength, bodyOf};
+ghost use Rattle.directory.specs.Chains.{Empty};
 ghost use Rattle.directory.specs.Slices.{SliceOf};
-ghost use Rattle.index.specs.Stages.{headerCode, directoryCode, Opened, Laid, Lens, EntryOf};
+ghost use Rattle.index.specs.Stages.{headerCode, directoryCode, Opened, Laid, Lens, Examined, EntryOf};
 
 // Fewer than 8 bytes, another mark, or a chunk count above 65,000.
 fn header(index: &[u8]) -> u8
@@ -29,6 +31,14 @@ fn header(index: &[u8]) -> u8
     0
 }
 
+// The chunk count.
+fn count(index: &[u8]) -> usize
+    requires { ⌜ 8 ≤ length (now index) ⌝ }
+    ensures { λ r. ⌜ r ≡ chunkCount (now (index .entry)) ⌝ }
+{
+    field::read(index, 4, 4) as usize
+}
+
 // The directory cut short, an entry wrong, or the last end not the index's.
 fn entries(index: &[u8], start: usize, count: usize) -> u8
     requires { ⌜ Opened (now index) start count ⌝ }
@@ -38,16 +48,6 @@ fn entries(index: &[u8], start: usize, count: usize) -> u8
         return 11;
     }
     directory::entries(index, start, 32, 20, 24, 28, 65535, 11, count)
-}
-
-// Some fingerprint is there twice.
-fn twins(index: &[u8], start: usize, count: usize) -> bool
-    requires { ⌜ Laid (now index) start count ⌝ }
-    ensures { λ r. ⌜ r ≡ twice (indexKeys (now (index .entry))) ⌝ }
-{
-    let mut heads = [0u32; 65536];
-    let mut next = [0u32; 65000];
-    directory::build(index, start, 32, count, &mut heads, &mut next)
 }
 
 // The body of entry e is good.
@@ -84,9 +84,10 @@ fn all_good(index: &[u8], start: usize, count: usize, lens: &[usize], words: usi
     true
 }
 
-// The index check.
-pub fn check(index: &[u8]) -> u8
-    ensures { λ r. ⌜ r ≡ indexCode form1 (now (index .entry)) ⌝ }
+// The index check; it leaves the chains of the index's fingerprints in the arrays.
+pub fn examine(index: &[u8], heads: &mut [u32], chain: &mut [u32]) -> u8
+    requires { ⌜ Empty (now heads) (now chain) ⌝ }
+    ensures { λ r. ⌜ Examined (now (index .entry)) (now (heads .exit)) (now (chain .exit)) r ⌝ }
 {
     let code = header(index);
     if code != 0 {
@@ -98,23 +99,32 @@ pub fn check(index: &[u8]) -> u8
     }
     let list = keywords::parse(&index[8..]);
     let start = 8 + list.size;
-    let count = field::read(index, 4, 4) as usize;
-    let wrong = entries(index, start, count);
+    let c = count(index);
+    let wrong = entries(index, start, c);
     if wrong != 0 {
         return wrong;
     }
-    if twins(index, start, count) {
+    if directory::build(index, start, 32, c, heads, chain) {
         return 12;
     }
     let lens = list.len;
-    if !all_good(index, start, count, &lens, list.count) {
+    if !all_good(index, start, c, &lens, list.count) {
         return 13;
     }
     0
 }
 
+// The index check.
+pub fn check(index: &[u8]) -> u8
+    ensures { λ r. ⌜ r ≡ indexCode form1 (now (index .entry)) ⌝ }
+{
+    let mut heads = [0u32; 65536];
+    let mut chain = [0u32; 65000];
+    examine(index, &mut heads, &mut chain)
+}
+
 // Where the directory starts.
-pub fn start_of(index: &[u8]) -> usize
+fn start_of(index: &[u8]) -> usize
     requires { ⌜ indexCode form1 (now index) ≡ 0 ⌝ }
     ensures { λ r. ⌜ r ≡ 8 + listSize (listIn (now (index .entry))) ⌝ }
 {
@@ -122,46 +132,40 @@ pub fn start_of(index: &[u8]) -> usize
     8 + list.size
 }
 
-// The chunk count.
-pub fn count(index: &[u8]) -> usize
-    requires { ⌜ 8 ≤ length (now index) ⌝ }
-    ensures { λ r. ⌜ r ≡ chunkCount (now (index .entry)) ⌝ }
+// The entry of a fingerprint, or the number that refuses the lookup.
+fn locate(index: &[u8], fp: &[u8]) -> spec::Outcome
+    ensures { λ r. ⌜ r ≡ answer (findBody form1 (now (index .entry)) (now (fp .entry))) (positionOf (now (fp .entry)) (indexKeys (now (index .entry)))) ⌝ }
 {
-    field::read(index, 4, 4) as usize
-}
-
-// The entry of a fingerprint; the chunk count where there is none.
-fn seek(index: &[u8], fp: &[u8]) -> usize
-    requires { ⌜ (indexCode form1 (now index) ≡ 0) × (length (now fp) ≡ 20) ⌝ }
-    ensures { λ r. ⌜ r ≡ positionOf (now (fp .entry)) (indexKeys (now (index .entry))) ⌝ }
-{
+    let mut heads = [0u32; 65536];
+    let mut chain = [0u32; 65000];
+    let code = examine(index, &mut heads, &mut chain);
+    if code != 0 {
+        return spec::Outcome::Refused(code);
+    }
+    if fp.len() != 20 {
+        return spec::Outcome::Refused(19);
+    }
     let start = start_of(index);
     let c = count(index);
-    let mut heads = [0u32; 65536];
-    let mut next = [0u32; 65000];
-    directory::build(index, start, 32, c, &mut heads, &mut next);
-    directory::find(index, start, 32, c, &heads, &next, fp)
+    let k = directory::find(index, start, 32, c, &heads, &chain, fp);
+    if k == c {
+        return spec::Outcome::Refused(15);
+    }
+    spec::Outcome::Done(k)
 }
 
 // The number of a lookup: 0 when the fingerprint is found.
 pub fn find_body(index: &[u8], fp: &[u8]) -> u8
     ensures { λ r. ⌜ r ≡ findBody form1 (now (index .entry)) (now (fp .entry)) ⌝ }
 {
-    let code = check(index);
-    if code != 0 {
-        return code;
+    match locate(index, fp) {
+        spec::Outcome::Done(_) => 0,
+        spec::Outcome::Refused(code) => code,
     }
-    if fp.len() != 20 {
-        return 19;
-    }
-    if seek(index, fp) == count(index) {
-        return 15;
-    }
-    0
 }
 
 // The field of entry k that starts at byte `at` of it.
-pub fn entry_field(index: &[u8], k: usize, at: usize) -> usize
+fn entry_field(index: &[u8], k: usize, at: usize) -> usize
     requires { ⌜ EntryOf (now index) k × (at + 4 ≤ 32) ⌝ }
     ensures { λ r. ⌜ r ≡ entryField (indexLayout (now (index .entry))) (now (index .entry)) at k ⌝ }
 {
@@ -170,7 +174,7 @@ pub fn entry_field(index: &[u8], k: usize, at: usize) -> usize
 }
 
 // The body of entry k: the index's own slice.
-pub fn body_at(index: &[u8], k: usize) -> &[u8]
+fn body_at(index: &[u8], k: usize) -> &[u8]
     requires { ⌜ EntryOf (now index) k ⌝ }
     ensures { λ r. ⌜ SliceOf (index .entry) r (bodyAt (now (index .entry)) k) (offsetAt (indexLayout (now (index .entry))) (now (index .entry)) k) ⌝ }
 {
@@ -183,28 +187,28 @@ pub fn body_at(index: &[u8], k: usize) -> &[u8]
 pub fn body_start(index: &[u8], fp: &[u8]) -> usize
     ensures { λ r. ⌜ r ≡ bodyStart form1 (now (index .entry)) (now (fp .entry)) ⌝ }
 {
-    if find_body(index, fp) != 0 {
-        return 0;
+    match locate(index, fp) {
+        spec::Outcome::Done(k) => entry_field(index, k, 24),
+        spec::Outcome::Refused(_) => 0,
     }
-    entry_field(index, seek(index, fp), 24)
 }
 
 // How long the body of a fingerprint is; 0 on a refusal.
 pub fn body_length(index: &[u8], fp: &[u8]) -> usize
     ensures { λ r. ⌜ r ≡ bodyLength form1 (now (index .entry)) (now (fp .entry)) ⌝ }
 {
-    if find_body(index, fp) != 0 {
-        return 0;
+    match locate(index, fp) {
+        spec::Outcome::Done(k) => entry_field(index, k, 28),
+        spec::Outcome::Refused(_) => 0,
     }
-    entry_field(index, seek(index, fp), 28)
 }
 
 // The body of a fingerprint: a slice of the index itself, never of the fingerprint; the empty slice at the index's start on a refusal.
 pub fn body<'a, 'b>(index: &'a [u8], fp: &'b [u8]) -> &'a [u8]
     ensures { λ r. ⌜ SliceOf (index .entry) r (bodyOf form1 (now (index .entry)) (now (fp .entry))) (bodyStart form1 (now (index .entry)) (now (fp .entry))) ⌝ }
 {
-    if find_body(index, fp) != 0 {
-        return &index[..0];
+    match locate(index, fp) {
+        spec::Outcome::Done(k) => body_at(index, k),
+        spec::Outcome::Refused(_) => &index[..0],
     }
-    body_at(index, seek(index, fp))
 }

@@ -1,38 +1,70 @@
--- `body` meets its contract: the body of the entry that was found, and its place in the index.
-use mathlib.Core.Path.{refl, sym, ap, _∙_}
+-- `body` meets its contract: the body of the entry that `locate` finds, and its place in the index.
+use mathlib.Core.Path.{_≡_, refl, sym, ap, _∙_}
 use Prim.Native.Nat.{ℕ, _+_}
-use denote.Ref.{now}
-use borrow.Author.Needs.{needs}
 use native.Mathlib.Nat.{zero-add}
-use Rattle.index.proofs.LookupLaws.{start-none, slice-none, found-checked, found-length, found-entry, slice-there}
+use denote.Ref.{now}
+use Rattle.spec.specs.Bytes.{positionOf}
+use Rattle.spec.specs.Records.{form1}
+use Rattle.spec.specs.Index.{indexKeys}
+use Rattle.spec.specs.Lookup.{findBody}
+use Rattle.spec.proofs.LookupLaws.{done-code, refused-number}
+use Rattle.index.proofs.LookupLaws.{found-entry, slice-there, slice-none, start-none}
+use borrow.Author.Needs.{needs}
 use Rattle.index.proofs.body.Statement.{statement}
 use Rattle.index.proofs.body.Tie as tie
 
-find-body-requires : tie.Need-find-body-requires
-find-body-requires c κs = search needs
+-- the entry that was found
+told : (c : tie.After-known-told)
+    → let a = c .before .before .before .before .before .before .args in
+    (findBody form1 (now (a .index)) (now (a .fp)) ≡ 0) × (c .before .k .given .0 .0 ≡ positionOf (now (a .fp)) (indexKeys (now (a .index))))
+told c =
+    let called = c .before .before .before in
+    let a = called .before .before .before .args in
+    done-code (c .before .k .given .0 .0) (findBody form1 (now (a .index)) (now (a .fp))) (positionOf (now (a .fp)) (indexKeys (now (a .index)))) (sym (c .before .k .given .1) ∙ called .locate .ensures)
+
+locate-requires : tie.Need-locate-requires
+locate-requires c κs = search needs
+
+enum-known-k : tie.Need-enum-known-k
+enum-known-k c = search needs
+
+body-at-requires : tie.Need-body-at-requires
+body-at-requires c κs =
+    let a = c .before .before .before .before .before .before .args in
+    let t = told c in
+    found-entry (now (a .index)) (now (a .fp)) (c .before .k .given .0 .0) (t .0) (t .1)
+
+enum-told : tie.Need-enum-told
+enum-told c = search needs
 
 slice-aggregate-result : tie.Need-slice-aggregate-result
 slice-aggregate-result c = search needs
 
 returns : tie.Need-returns
-returns c = record { holds = slice-none (now (c .before .before .before .before .before .args .index)) (now (c .before .before .before .before .before .args .fp)) (λ z. c .before .if1 .taken (c .before .before .find-body .ensures ∙ z)); block = refl; place = sym (zero-add (c .before .before .before .before .before .args .index .ptr .1)) ∙ ap (λ (n : ℕ). n + c .before .before .before .before .before .args .index .ptr .1) (start-none (now (c .before .before .before .before .before .args .index)) (now (c .before .before .before .before .before .args .fp)) (λ z. c .before .if1 .taken (c .before .before .find-body .ensures ∙ z))) }
-
-seek-requires : tie.Need-seek-requires
-seek-requires c κs = (found-checked (now (c .before .before .before .before .args .index)) (now (c .before .before .before .before .args .fp)) (sym (c .before .find-body .ensures) ∙ c .if1 .left), found-length (now (c .before .before .before .before .args .index)) (now (c .before .before .before .before .args .fp)) (sym (c .before .find-body .ensures) ∙ c .if1 .left))
-
-body-at-requires : tie.Need-body-at-requires
-body-at-requires c κs = found-entry (now (c .before .before .before .before .before .args .index)) (now (c .before .before .before .before .before .args .fp)) (sym (c .before .before .find-body .ensures) ∙ c .before .if1 .left) (c .seek .result) (c .seek .ensures)
+returns c =
+    let a = c .before .before .before .before .before .before .before .args in
+    let t = told (c .before) in
+    slice-there (now (a .index)) (now (a .fp)) (c .before .before .k .given .0 .0) (t .0) (t .1) (c .body-at .ensures)
 
 returns-2 : tie.Need-returns-2
-returns-2 c = slice-there (now (c .before .before .before .before .before .before .args .index)) (now (c .before .before .before .before .before .before .args .fp)) (sym (c .before .before .before .find-body .ensures) ∙ c .before .before .if1 .left) (c .before .seek .result) (c .before .seek .ensures) (c .body-at .ensures)
+returns-2 c =
+    let called = c .before .before .before in
+    let a = called .before .before .before .args in
+    let d = refused-number (c .before .enum-told .given .0 .0) (findBody form1 (now (a .index)) (now (a .fp))) (positionOf (now (a .fp)) (indexKeys (now (a .index)))) (sym (c .before .enum-told .given .1) ∙ called .locate .ensures) .1 in
+    record {
+      holds = slice-none (now (a .index)) (now (a .fp)) d;
+      block = refl;
+      place = sym (zero-add (a .index .ptr .1)) ∙ ap (λ (n : ℕ). n + a .index .ptr .1) (start-none (now (a .index)) (now (a .fp)) d);
+    }
 
 pub body-spec : {M : Type 1} → statement M
 body-spec =
     tie.close
     (tie.spec
-    find-body-requires
+    locate-requires
+    enum-known-k
+    body-at-requires
+    enum-told
     slice-aggregate-result
     returns
-    seek-requires
-    body-at-requires
     returns-2)

@@ -1,27 +1,55 @@
--- `body_length` meets its contract: the length of the entry that was found, or 0.
-use mathlib.Core.Path.{sym, _∙_}
+-- `body_length` meets its contract: the length of the entry that `locate` finds.
+use mathlib.Core.Path.{_≡_, sym, _∙_}
 use native.Mathlib.Omega.{arith}
 use denote.Ref.{now}
+use Rattle.spec.specs.Bytes.{positionOf}
+use Rattle.spec.specs.Records.{form1}
+use Rattle.spec.specs.Index.{indexKeys}
+use Rattle.spec.specs.Lookup.{findBody}
+use Rattle.spec.proofs.LookupLaws.{done-code, refused-number}
+use Rattle.index.proofs.LookupLaws.{found-entry, length-there, length-none}
 use borrow.Author.Needs.{needs}
-use Rattle.index.proofs.LookupLaws.{length-none, found-checked, found-length, found-entry, length-there}
 use Rattle.index.proofs.body_length.Statement.{statement}
 use Rattle.index.proofs.body_length.Tie as tie
 
-find-body-requires : tie.Need-find-body-requires
-find-body-requires c κs = search needs
+-- the entry that was found
+told : (c : tie.After-known-told)
+    → let a = c .before .before .before .before .before .before .args in
+    (findBody form1 (now (a .index)) (now (a .fp)) ≡ 0) × (c .before .k .given .0 .0 ≡ positionOf (now (a .fp)) (indexKeys (now (a .index))))
+told c =
+    let called = c .before .before .before in
+    let a = called .before .before .before .args in
+    done-code (c .before .k .given .0 .0) (findBody form1 (now (a .index)) (now (a .fp))) (positionOf (now (a .fp)) (indexKeys (now (a .index)))) (sym (c .before .k .given .1) ∙ called .locate .ensures)
 
-returns : tie.Need-returns
-returns c = length-none (now (c .before .before .before .before .args .index)) (now (c .before .before .before .before .args .fp)) (λ z. c .if1 .taken (c .before .find-body .ensures ∙ z))
+locate-requires : tie.Need-locate-requires
+locate-requires c κs = search needs
 
-seek-requires : tie.Need-seek-requires
-seek-requires c κs = (found-checked (now (c .before .before .before .before .args .index)) (now (c .before .before .before .before .args .fp)) (sym (c .before .find-body .ensures) ∙ c .if1 .left), found-length (now (c .before .before .before .before .args .index)) (now (c .before .before .before .before .args .fp)) (sym (c .before .find-body .ensures) ∙ c .if1 .left))
+enum-known-k : tie.Need-enum-known-k
+enum-known-k c = search needs
 
 entry-field-requires : tie.Need-entry-field-requires
-entry-field-requires c κs = (found-entry (now (c .before .before .before .before .before .args .index)) (now (c .before .before .before .before .before .args .fp)) (sym (c .before .before .find-body .ensures) ∙ c .before .if1 .left) (c .seek .result) (c .seek .ensures), omega arith)
+entry-field-requires c κs =
+    let a = c .before .before .before .before .before .before .args in
+    let t = told c in
+    (found-entry (now (a .index)) (now (a .fp)) (c .before .k .given .0 .0) (t .0) (t .1), omega arith)
+
+enum-told : tie.Need-enum-told
+enum-told c = search needs
+
+returns : tie.Need-returns
+returns c =
+    let a = c .before .before .before .before .before .before .before .args in
+    let t = told (c .before) in
+    c .entry-field .ensures ∙ length-there (now (a .index)) (now (a .fp)) (c .before .before .k .given .0 .0) (t .0) (t .1)
 
 returns-2 : tie.Need-returns-2
-returns-2 c = c .entry-field .ensures ∙ length-there (now (c .before .before .before .before .before .before .args .index)) (now (c .before .before .before .before .before .before .args .fp)) (sym (c .before .before .before .find-body .ensures) ∙ c .before .before .if1 .left) (c .before .seek .result) (c .before .seek .ensures)
+returns-2 c =
+    let called = c .before .before in
+    let a = called .before .before .before .args in
+    length-none (now (a .index)) (now (a .fp))
+    (refused-number (c .enum-told .given .0 .0) (findBody form1 (now (a .index)) (now (a .fp))) (positionOf (now (a .fp)) (indexKeys (now (a .index)))) (sym (c .enum-told .given .1) ∙ called .locate .ensures) .1)
 
 pub body-length-spec : {M : Type 1} → statement M
 body-length-spec =
-    tie.close (tie.spec find-body-requires returns seek-requires entry-field-requires returns-2)
+    tie.close
+    (tie.spec locate-requires enum-known-k entry-field-requires enum-told returns returns-2)

@@ -1,0 +1,213 @@
+-- `examine` meets its contract: the stages one after the other; each return by those that passed (CheckLaws).
+use mathlib.Core.Path.{_≡_, sym, ap, _∙_}
+use mathlib.Core.List.{List}
+use Prim.Native.Nat.{ℕ, _+_}
+use native.Mathlib.Omega.{arith}
+use denote.Ref.{now}
+use borrow.Author.Needs.{needs}
+use borrow.Author.Tests.{not-true, not-false}
+use Rattle.spec.specs.Keywords.{keywordFrontCode}
+use Rattle.spec.specs.Index.{listIn}
+use Rattle.index.specs.Stages.{headerCode, directoryCode, Opened, Laid}
+use Rattle.index.proofs.StageLaws.{header-passed, laid, built-of}
+use Rattle.index.proofs.CheckLaws.{refused-with, stop-1, stop-2, stop-3, stop-4, stop-5, all-pass, list-is, opened, lens}
+use Rattle.index.proofs.examine.Statement.{statement}
+use Rattle.index.proofs.examine.Tie as tie
+
+-- ---- what is known behind each stage
+
+abbrev lent : tie.Else1 → List ℕ
+lent c = now (c .before .before .before .before .before .args .index)
+
+header-good : (c : tie.Else1) → headerCode (lent c) ≡ 0
+header-good c = sym (c .before .header .ensures) ∙ c .if1 .left
+
+-- the number of the keyword list
+front : (c : tie.After-check-front) → c .check-front .result ≡ keywordFrontCode (listIn (lent (c .before .before)))
+front c = c .check-front .ensures ∙ ap keywordFrontCode (list-is (lent (c .before .before)))
+
+list-good : (c : tie.Else2) → keywordFrontCode (listIn (lent (c .before .before .before))) ≡ 0
+list-good c = sym (front (c .before)) ∙ c .if2 .left
+
+-- the header's place, seen from behind the keyword list
+abbrev behind-list : tie.After-count → tie.Else2
+behind-list c = c .before .before .before .before
+
+opens : (c : tie.After-count) → Opened (lent (behind-list c .before .before .before)) (8 + c .before .before .parse .result .size) (c .count .result)
+opens c =
+    let h = behind-list c .before .before .before in
+    let r = c .before .before .parse .result in
+    opened (lent h) (r .count) (r .flag) (r .size) (r .most) (r .start) (r .len) (c .before .before .parse .ensures) (c .count .result) (header-good h) (c .count .ensures)
+
+directory-good : (c : tie.Else3) → directoryCode (lent (behind-list (c .before .before) .before .before .before)) ≡ 0
+directory-good c = sym (c .before .entries .ensures) ∙ c .if3 .left
+
+lies : (c : tie.Else3)
+    → let n = c .before .before in
+    Laid (lent (behind-list n .before .before .before)) (8 + n .before .before .parse .result .size) (n .count .result)
+lies c =
+    let n = c .before .before in
+    laid (lent (behind-list n .before .before .before)) (8 + n .before .before .parse .result .size) (n .count .result) (opens n) (directory-good c)
+
+-- ---- the needs
+
+header-requires : tie.Need-header-requires
+header-requires c κs = search needs
+
+returns : tie.Need-returns
+returns c =
+    let index = now (c .before .before .before .before .before .args .index) in
+    let e = c .before .header .ensures in
+    refused-with index (c .before .header .result) (e ∙ stop-1 index (λ z. c .if1 .taken (e ∙ z))) (c .if1 .taken)
+
+sub-check-front : tie.Need-sub-check-front
+sub-check-front c = header-passed (lent c) (header-good c) .0
+
+part-check-front-start : tie.Need-part-check-front-start
+part-check-front-start c = header-passed (lent c) (header-good c) .0
+
+part-check-front-end : tie.Need-part-check-front-end
+part-check-front-end c = search needs
+
+check-front-requires : tie.Need-check-front-requires
+check-front-requires c κs = search needs
+
+returns-2 : tie.Need-returns-2
+returns-2 c =
+    let h = c .before .before .before in
+    let e = front (c .before) in
+    refused-with (lent h) (c .before .check-front .result) (e ∙ stop-2 (lent h) (header-good h) (λ z. c .if2 .taken (e ∙ z))) (c .if2 .taken)
+
+sub-parse : tie.Need-sub-parse
+sub-parse c = let h = c .before .before .before in header-passed (lent h) (header-good h) .0
+
+part-parse-start : tie.Need-part-parse-start
+part-parse-start c = let h = c .before .before .before in header-passed (lent h) (header-good h) .0
+
+part-parse-end : tie.Need-part-parse-end
+part-parse-end c = search needs
+
+parse-requires : tie.Need-parse-requires
+parse-requires c κs = search needs
+
+add-start : tie.Need-add-start
+add-start c = search needs
+
+count-requires : tie.Need-count-requires
+count-requires c κs = let h = c .before .before .before .before .before .before in header-passed (lent h) (header-good h) .0
+
+entries-requires : tie.Need-entries-requires
+entries-requires c κs = opens c
+
+returns-3 : tie.Need-returns-3
+returns-3 c =
+    let l = behind-list (c .before .before) in
+    let h = l .before .before .before in
+    let e = c .before .entries .ensures in
+    refused-with (lent h) (c .before .entries .result) (e ∙ stop-3 (lent h) (header-good h) (list-good l) (λ z. c .if3 .taken (e ∙ z))) (c .if3 .taken)
+
+build-requires : tie.Need-build-requires
+build-requires c κs =
+    let l = lies (c .before .before) in (
+      record { inside = l .room; keyed = omega arith; few = l .opened .few },
+      behind-list (c .before .before .before .before) .before .before .before .before .before .before .before .before .pre,
+    )
+
+same-length : tie.Need-same-length
+same-length c = search needs
+
+same-length-2 : tie.Need-same-length-2
+same-length-2 c = search needs
+
+returns-4 : tie.Need-returns-4
+returns-4 c =
+    let built = c .before .before .before .before .before in
+    let good = built .before .before .before in
+    let n = good .before .before in
+    let l = behind-list n in
+    let h = l .before .before .before in
+    refused-with (lent h) 12
+    (stop-4 (lent h) (header-good h) (list-good l) (directory-good good) (built .build .result)
+    (built-of (lent h) (8 + n .before .before .parse .result .size) (n .count .result) (opens n) (built .build .result) (built .build .ensures)) (c .if4 .taken))
+    (λ z. omega arith)
+
+slice-aggregate-all-good : tie.Need-slice-aggregate-all-good
+slice-aggregate-all-good c = search needs
+
+all-good-requires : tie.Need-all-good-requires
+all-good-requires c κs =
+    let good = c .before .before .before .before .before .before .before .before .before .before in
+    let n = good .before .before in
+    let l = behind-list n in
+    let r = n .before .before .parse .result in
+    (lies good, lens (lent (l .before .before .before)) (r .count) (r .flag) (r .size) (r .most) (r .start) (r .len) (n .before .before .parse .ensures) (list-good l))
+
+same-length-3 : tie.Need-same-length-3
+same-length-3 c = search needs
+
+same-length-4 : tie.Need-same-length-4
+same-length-4 c = search needs
+
+returns-5 : tie.Need-returns-5
+returns-5 c =
+    let tested = c .before .before .before .before in
+    let built = tested .before .before .before .before .before in
+    let good = built .before .before .before in
+    let n = good .before .before in
+    let l = behind-list n in
+    let h = l .before .before .before in
+    refused-with (lent h) 13
+    (stop-5 (lent h) (header-good h) (list-good l) (directory-good good) (built .build .result)
+    (built-of (lent h) (8 + n .before .before .parse .result .size) (n .count .result) (opens n) (built .build .result) (built .build .ensures)) (tested .if4 .left)
+    (sym (c .before .all-good .ensures) ∙ not-true _ (c .if5 .taken)))
+    (λ z. omega arith)
+
+same-length-5 : tie.Need-same-length-5
+same-length-5 c = search needs
+
+same-length-6 : tie.Need-same-length-6
+same-length-6 c = search needs
+
+returns-6 : tie.Need-returns-6
+returns-6 c =
+    let tested = c .before .before .before .before in
+    let built = tested .before .before .before .before .before in
+    let good = built .before .before .before in
+    let n = good .before .before in
+    let l = behind-list n in
+    let h = l .before .before .before in
+    all-pass (lent h) (header-good h) (list-good l) (directory-good good) (built .build .result)
+    (built-of (lent h) (8 + n .before .before .parse .result .size) (n .count .result) (opens n) (built .build .result) (built .build .ensures)) (tested .if4 .left)
+    (sym (c .before .all-good .ensures) ∙ not-false _ (c .if5 .left))
+
+pub examine-spec : {M : Type 1} → statement M
+examine-spec =
+    tie.close
+    (tie.spec
+    header-requires
+    returns
+    sub-check-front
+    part-check-front-start
+    part-check-front-end
+    check-front-requires
+    returns-2
+    sub-parse
+    part-parse-start
+    part-parse-end
+    parse-requires
+    add-start
+    count-requires
+    entries-requires
+    returns-3
+    build-requires
+    same-length
+    same-length-2
+    returns-4
+    slice-aggregate-all-good
+    all-good-requires
+    same-length-3
+    same-length-4
+    returns-5
+    same-length-5
+    same-length-6
+    returns-6)

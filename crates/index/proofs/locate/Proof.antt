@@ -1,0 +1,116 @@
+-- `locate` meets its contract: each return by the tests that led there (LookupLaws).
+use mathlib.Core.Path.{_≡_, sym, ap, _∙_, subst}
+use mathlib.Core.List.{List}
+use Prim.Native.Nat.{ℕ}
+use denote.Ref.{now}
+use Rattle.spec.specs.Bytes.{positionOf}
+use Rattle.spec.specs.Records.{form1}
+use Rattle.spec.specs.Index.{indexKeys, indexCode}
+use Rattle.directory.specs.Chains.{Chained}
+use Rattle.directory.proofs.ChainLaws.{zeros}
+use Rattle.index.proofs.LookupLaws.{header-there, lies-in, keys-in, refused-check, refused-length, refused-none, found-at}
+use borrow.Author.Needs.{needs}
+use Rattle.index.proofs.locate.Statement.{statement}
+use Rattle.index.proofs.locate.Tie as tie
+
+-- the place behind the check, seen from behind the find
+abbrev behind-check : tie.After-find → tie.Else1
+behind-check c = c .before .before .before .before .before .before
+
+-- the index passed its check
+passed : (c : tie.Else1) → indexCode form1 (now (c .before .before .before .before .before .before .before .before .args .index)) ≡ 0
+passed c = sym (c .before .before .before .examine .ensures .number) ∙ c .if1 .left
+
+-- the fingerprint's place
+placed : (c : tie.After-find)
+    → let a = behind-check c .before .before .before .before .before .before .before .before .args in
+    c .find .result ≡ positionOf (now (a .fp)) (indexKeys (now (a .index)))
+placed c =
+    let counted = c .before .before .before in
+    let a = behind-check c .before .before .before .before .before .before .before .before .args in
+    c .find .ensures
+    ∙ ap (positionOf (now (a .fp)))
+    (keys-in (now (a .index)) (passed (behind-check c)) (counted .before .start-of .result) (counted .count .result) (counted .before .start-of .ensures) (counted .count .ensures))
+
+slice-aggregate-examine : tie.Need-slice-aggregate-examine
+slice-aggregate-examine c = search needs
+
+slice-aggregate-examine-2 : tie.Need-slice-aggregate-examine-2
+slice-aggregate-examine-2 c = search needs
+
+examine-requires : tie.Need-examine-requires
+examine-requires c κs = zeros
+
+returns : tie.Need-returns
+returns c =
+    let called = c .before .before .before in
+    let a = called .before .before .before .before .before .args in
+    refused-check (now (a .index)) (now (a .fp)) (called .examine .result) (called .examine .ensures .number) (c .if1 .taken)
+
+returns-2 : tie.Need-returns-2
+returns-2 c =
+    let a = c .before .before .before .before .before .before .before .before .before .args in
+    refused-length (now (a .index)) (now (a .fp)) (passed (c .before)) (c .if2 .taken)
+
+start-of-requires : tie.Need-start-of-requires
+start-of-requires c κs = passed (c .before)
+
+count-requires : tie.Need-count-requires
+count-requires c κs =
+    let checked = c .before .before in
+    header-there (now (checked .before .before .before .before .before .before .before .before .args .index)) (passed checked)
+
+slice-aggregate-find : tie.Need-slice-aggregate-find
+slice-aggregate-find c = search needs
+
+slice-aggregate-find-2 : tie.Need-slice-aggregate-find-2
+slice-aggregate-find-2 c = search needs
+
+find-requires : tie.Need-find-requires
+find-requires c κs =
+    let counted = c .before .before in
+    let begun = counted .before in
+    let checked = begun .before .before in
+    let called = checked .before .before .before in
+    let index = now (called .before .before .before .before .before .args .index) in (
+      lies-in index (passed checked) (begun .start-of .result) (counted .count .result) (begun .start-of .ensures) (counted .count .ensures),
+      (
+        subst (λ (keys : List (List ℕ)). Chained keys 0 (called .examine .last .1 .0) (called .examine .last .1 .1 .0))
+            (sym (keys-in index (passed checked) (begun .start-of .result) (counted .count .result) (begun .start-of .ensures) (counted .count .ensures)))
+            (called .examine .ensures .chains (checked .if1 .left)),
+        begun .before .if2 .left,
+      ),
+    )
+
+returns-3 : tie.Need-returns-3
+returns-3 c =
+    let checked = behind-check (c .before) in
+    let a = checked .before .before .before .before .before .before .before .before .args in
+    let counted = c .before .before .before .before in
+    refused-none (now (a .index)) (now (a .fp)) (passed checked) (counted .before .before .if2 .left) (counted .count .result) (counted .count .ensures)
+    (c .before .find .result) (placed (c .before)) (c .if3 .taken)
+
+returns-4 : tie.Need-returns-4
+returns-4 c =
+    let checked = behind-check (c .before) in
+    let a = checked .before .before .before .before .before .before .before .before .args in
+    let counted = c .before .before .before .before in
+    found-at (now (a .index)) (now (a .fp)) (passed checked) (counted .before .before .if2 .left) (counted .count .result) (counted .count .ensures)
+    (c .before .find .result) (placed (c .before)) (c .if3 .left)
+
+pub locate-spec : {M : Type 1} → statement M
+locate-spec =
+    tie.close
+    (tie.spec
+    slice-aggregate-examine
+    slice-aggregate-examine-2
+    examine-requires
+    returns
+    returns-2
+    start-of-requires
+    count-requires
+    slice-aggregate-find
+    slice-aggregate-find-2
+    find-requires
+    returns-3
+    returns-4)
