@@ -8,7 +8,7 @@ ghost use Rattle.spec.specs.Records.{form1, reach, goodBody};
 ghost use Rattle.bodies.specs.Check.{goodSize, inOrder, offsetsGood, Lengths, Head, Ready};
 
 // The greatest length of a prefix or suffix.
-pub fn reach_of(n: usize, size: usize) -> usize
+fn reach_of(n: usize, size: usize) -> usize
     requires { ⌜ 1 ≤ n ⌝ }
     ensures { λ r. ⌜ r ≡ reach n size ⌝ }
 {
@@ -19,7 +19,7 @@ pub fn reach_of(n: usize, size: usize) -> usize
 }
 
 // The `count` fields of `width` bytes at `at` are offsets in order.
-pub fn in_order(bytes: &[u8], at: usize, width: usize, count: usize, n: usize, size: usize) -> bool
+fn in_order(bytes: &[u8], at: usize, width: usize, count: usize, n: usize, size: usize) -> bool
     requires { ⌜ (width ≤ 8) × (at + width * count ≤ length (now bytes)) × (1 ≤ n) ⌝ }
     ensures { λ r. ⌜ r ≡ inOrder n size (fieldsOf width count (drop at (now (bytes .entry)))) ⌝ }
 {
@@ -158,7 +158,7 @@ fn many(bytes: &[u8], n: usize, size: usize) -> usize
 }
 
 // The size of the good record that the bytes start with, for a keyword of length n and a chunk of length `size`; 0 if they start with none.
-pub fn record_good(bytes: &[u8], n: usize, size: usize) -> usize
+fn record_good(bytes: &[u8], n: usize, size: usize) -> usize
     requires { ⌜ (1 ≤ length (now bytes)) × Lengths n size ⌝ }
     ensures { λ r. ⌜ r ≡ goodSize n size (now (bytes .entry)) ⌝ }
 {

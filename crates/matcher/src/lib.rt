@@ -35,7 +35,7 @@ pub fn occurs_at(keyword: &[u8], chunk: &[u8], at: usize, flag: u8) -> bool
 }
 
 // The greatest length of a prefix or suffix: the smaller of the keyword's length minus 1 and the chunk's length.
-pub fn reach_of(keyword: &[u8], chunk: &[u8]) -> usize
+fn reach_of(keyword: &[u8], chunk: &[u8]) -> usize
     ensures { λ r. ⌜ r ≡ reach (length (now (keyword .entry))) (length (now (chunk .entry))) ⌝ }
 {
     if keyword.len() == 0 {
@@ -49,7 +49,7 @@ pub fn reach_of(keyword: &[u8], chunk: &[u8]) -> usize
 }
 
 // The record's prefix: the longest end of the chunk that begins the keyword and is not all of it.
-pub fn prefix_of(keyword: &[u8], chunk: &[u8], flag: u8) -> usize
+fn prefix_of(keyword: &[u8], chunk: &[u8], flag: u8) -> usize
     ensures { λ r. ⌜ r ≡ prefixOf (folded flag (now (keyword .entry))) (folded flag (now (chunk .entry))) ⌝ }
 {
     let mut i = reach_of(keyword, chunk);
@@ -63,7 +63,7 @@ pub fn prefix_of(keyword: &[u8], chunk: &[u8], flag: u8) -> usize
 }
 
 // The record's suffix: the longest beginning of the chunk that ends the keyword and is not all of it.
-pub fn suffix_of(keyword: &[u8], chunk: &[u8], flag: u8) -> usize
+fn suffix_of(keyword: &[u8], chunk: &[u8], flag: u8) -> usize
     ensures { λ r. ⌜ r ≡ suffixOf (folded flag (now (keyword .entry))) (folded flag (now (chunk .entry))) ⌝ }
 {
     let mut j = reach_of(keyword, chunk);
@@ -78,7 +78,7 @@ pub fn suffix_of(keyword: &[u8], chunk: &[u8], flag: u8) -> usize
 }
 
 // The first offset from `from` on at which the keyword occurs; the chunk's length where there is none.
-pub fn next_offset(keyword: &[u8], chunk: &[u8], flag: u8, from: usize) -> usize
+fn next_offset(keyword: &[u8], chunk: &[u8], flag: u8, from: usize) -> usize
     requires { ⌜ 1 ≤ length (now keyword) ⌝ }
     ensures { λ r. ⌜ r ≡ getD (offsetsFrom (folded flag (now (keyword .entry))) (folded flag (now (chunk .entry))) from) 0 (length (now (chunk .entry))) ⌝ }
 {
@@ -100,7 +100,7 @@ pub fn next_offset(keyword: &[u8], chunk: &[u8], flag: u8, from: usize) -> usize
 }
 
 // How many offsets from `from` on the keyword occurs at.
-pub fn count_from(keyword: &[u8], chunk: &[u8], flag: u8, from: usize) -> usize
+fn count_from(keyword: &[u8], chunk: &[u8], flag: u8, from: usize) -> usize
     requires { ⌜ 1 ≤ length (now keyword) ⌝ }
     ensures { λ r. ⌜ r ≡ length (offsetsFrom (folded flag (now (keyword .entry))) (folded flag (now (chunk .entry))) from) ⌝ }
 {
@@ -118,16 +118,16 @@ pub fn count_from(keyword: &[u8], chunk: &[u8], flag: u8, from: usize) -> usize
 
 // ---- summaries: what decides how a record is written
 
-pub struct Summary {
-    pub prefix: usize,
-    pub suffix: usize,
+struct Summary {
+    prefix: usize,
+    suffix: usize,
     // how many offsets there are, and the first (0 where there is none)
-    pub count: usize,
-    pub first: usize,
+    count: usize,
+    first: usize,
 }
 
 // The summary of the record: one walk over the chunk.
-pub fn summary_of(keyword: &[u8], chunk: &[u8], flag: u8) -> Summary
+fn summary_of(keyword: &[u8], chunk: &[u8], flag: u8) -> Summary
     requires { ⌜ 1 ≤ length (now keyword) ⌝ }
     ensures { λ r. ⌜ r ≡ summaryOf (recordOf (folded flag (now (keyword .entry))) (folded flag (now (chunk .entry)))) ⌝ }
 {
@@ -152,7 +152,7 @@ pub fn summary_of(keyword: &[u8], chunk: &[u8], flag: u8) -> Summary
 }
 
 // The record is empty, so nothing is written.
-pub fn is_empty(s: Summary) -> bool
+fn is_empty(s: Summary) -> bool
     ensures { λ r. ⌜ ((m : MatchRecord) → s ≡ summaryOf m → r ≡ isEmpty m) ⌝ }
 {
     if s.prefix != 0 {
@@ -170,7 +170,7 @@ const TINY_MOST: usize = 1;
 const TINY_STEP: usize = 2;
 
 // The record is tiny.
-pub fn is_tiny(s: Summary) -> bool
+fn is_tiny(s: Summary) -> bool
     ensures { λ r. ⌜ ((n : ℕ) (m : MatchRecord) → s ≡ summaryOf m → r ≡ isTiny form1 n m) ⌝ }
 {
     if s.count != 0 {
@@ -189,7 +189,7 @@ pub fn is_tiny(s: Summary) -> bool
 const LISTED_MOST: usize = 254;
 
 // The kind of a full record.
-pub fn kind_of(count: usize) -> u8
+fn kind_of(count: usize) -> u8
     ensures { λ r. ⌜ r ≡ kindOf count ⌝ }
 {
     if count <= 1 {
@@ -202,7 +202,7 @@ pub fn kind_of(count: usize) -> u8
 }
 
 // The count byte: the smaller of the count and FF.
-pub fn count_byte(count: usize) -> u8
+fn count_byte(count: usize) -> u8
     ensures { λ r. ⌜ r ≡ min count 255 ⌝ }
 {
     if count < 255 {
@@ -219,7 +219,7 @@ const HEAD: usize = 7;
 // ---- lengths
 
 // The length of a full record with so many offsets.
-pub fn full_size(count: usize) -> usize
+fn full_size(count: usize) -> usize
     requires { ⌜ count ≤ form1 .longestChunk ⌝ }
     ensures { λ r. ⌜ ((k : ℕ) (m : MatchRecord) → count ≡ length (m .offsets) → r ≡ length (fullBytes form1 k m)) ⌝ }
 {
@@ -233,7 +233,7 @@ pub fn full_size(count: usize) -> usize
 }
 
 // The length of the record as it is written.
-pub fn record_size(keyword: &[u8], chunk: &[u8], flag: u8) -> usize
+fn record_size(keyword: &[u8], chunk: &[u8], flag: u8) -> usize
     requires { ⌜ (1 ≤ length (now keyword)) × (length (now chunk) ≤ form1 .longestChunk) ⌝ }
     ensures { λ r. ⌜ ((k : ℕ) → r ≡ length (recordBytes form1 (length (now (keyword .entry))) k (recordOf (folded flag (now (keyword .entry))) (folded flag (now (chunk .entry)))))) ⌝ }
 {
@@ -250,7 +250,7 @@ pub fn record_size(keyword: &[u8], chunk: &[u8], flag: u8) -> usize
 // ---- writing
 
 // Writes a tiny record at the buffer's start.
-pub fn put_tiny(out: &mut [u8], k: usize, s: Summary) -> usize
+fn put_tiny(out: &mut [u8], k: usize, s: Summary) -> usize
     requires { ⌜ (3 ≤ length (now out)) × (k < 256) × (s .prefix ≤ 1) × (s .suffix ≤ 1) ⌝ }
     ensures { λ r. ⌜ ((m : MatchRecord) → s ≡ summaryOf m → Wrote (now (out .entry)) 0 (tinyBytes form1 k m) (now (out .exit)) r) ⌝ }
 {
@@ -261,7 +261,7 @@ pub fn put_tiny(out: &mut [u8], k: usize, s: Summary) -> usize
 }
 
 // Writes the head of a full record at the buffer's start.
-pub fn put_head(out: &mut [u8], k: usize, s: Summary) -> usize
+fn put_head(out: &mut [u8], k: usize, s: Summary) -> usize
     requires { ⌜ (7 ≤ length (now out)) × (k < 256) × (s .prefix < 256) × (s .suffix < 256) ⌝ }
     ensures { λ r. ⌜ ((m : MatchRecord) → s ≡ summaryOf m → Wrote (now (out .entry)) 0 (headBytes form1 k m) (now (out .exit)) r) ⌝ }
 {
@@ -277,7 +277,7 @@ pub fn put_head(out: &mut [u8], k: usize, s: Summary) -> usize
 }
 
 // Writes the offsets from `from` on, one after the other, into the buffer at `at`.
-pub fn put_offsets(
+fn put_offsets(
     out: &mut [u8],
     at: usize,
     keyword: &[u8],
@@ -302,14 +302,7 @@ pub fn put_offsets(
 }
 
 // Writes a full record at the buffer's start.
-pub fn put_full(
-    out: &mut [u8],
-    k: usize,
-    s: Summary,
-    keyword: &[u8],
-    chunk: &[u8],
-    flag: u8,
-) -> usize
+fn put_full(out: &mut [u8], k: usize, s: Summary, keyword: &[u8], chunk: &[u8], flag: u8) -> usize
     requires { ⌜ CanPutFull (now out) k s (folded flag (now keyword)) (folded flag (now chunk)) ⌝ }
     ensures { λ r. ⌜ Wrote (now (out .entry)) 0 (fullBytes form1 k (recordOf (folded flag (now (keyword .entry))) (folded flag (now (chunk .entry))))) (now (out .exit)) r ⌝ }
 {
@@ -327,7 +320,7 @@ pub fn put_full(
 }
 
 // Writes the record of keyword k at the buffer's start: nothing where it is empty.
-pub fn put_record(out: &mut [u8], k: usize, keyword: &[u8], chunk: &[u8], flag: u8) -> usize
+fn put_record(out: &mut [u8], k: usize, keyword: &[u8], chunk: &[u8], flag: u8) -> usize
     requires { ⌜ CanPut (now out) k (length (now keyword)) (recordOf (folded flag (now keyword)) (folded flag (now chunk))) ⌝ }
     ensures { λ r. ⌜ Wrote (now (out .entry)) 0 (recordBytes form1 (length (now (keyword .entry))) k (recordOf (folded flag (now (keyword .entry))) (folded flag (now (chunk .entry))))) (now (out .exit)) r ⌝ }
 {

@@ -10,11 +10,16 @@ use Rattle.spec.specs.declared.Outcome.the-variants.{Done, Refused}
 use Rattle.spec.specs.declared.Searched.{Searched}
 use Rattle.spec.specs.declared.Searched.the-variants.{ScanRefused}
 use Rattle.spec.specs.Records.{form1}
-use Rattle.spec.specs.Join.{joinOutcome}
+use Rattle.spec.specs.Join.{joinOutcome, joinBuffer}
 use Rattle.spec.specs.Scan.{scanOutcome, scanBuffer}
 use Rattle.spec.specs.Search.{searchOutcome}
 use Rattle.theory.proofs.SearchLaws.{scan-length, scanned-front, search-scan-refused, search-join-refused, search-found, search-list}
 use Rattle.search.specs.Searching.{afterJoin, Joins, Searches}
+
+-- a join's answer r, known to be the definition's and to be the case o, as a search's
+pub join-answered : (index recipes out out′ : List ℕ) (o r : Outcome) → r ≡ o → r ≡ joinOutcome form1 index recipes (length out)
+    → out′ ≡ joinBuffer form1 index recipes out → Joins index recipes out out′ (afterJoin (length index) o)
+join-answered index recipes out out′ o r k e b = record { answered = ap (afterJoin (length index)) (sym k ∙ e); listed = b }
 
 module _ (list store recipes buffer out : List ℕ) where
   -- the scan refused

@@ -39,8 +39,8 @@ pub extern "C" fn vault_scan_size(list: &[u8], store: &[u8], length: &mut u64) -
     ensures { λ r. ⌜ SizeCall (now (list .entry)) (now (store .entry)) (now (length .exit)) r ⌝ }
 {
     match scan::size(list, store) {
-        spec::Outcome::Done(n) => {
-            *length = n as u64;
+        spec::Outcome::Done(needed) => {
+            *length = needed as u64;
             0
         }
         spec::Outcome::Refused(code) => {
@@ -55,8 +55,8 @@ pub extern "C" fn vault_scan(list: &[u8], store: &[u8], out: &mut [u8], length: 
     ensures { λ r. ⌜ ScanCall (now (list .entry)) (now (store .entry)) (now (out .entry)) (now (out .exit)) (now (length .exit)) r ⌝ }
 {
     match scan::scan(list, store, out) {
-        spec::Outcome::Done(n) => {
-            *length = n as u64;
+        spec::Outcome::Done(written) => {
+            *length = written as u64;
             0
         }
         spec::Outcome::Refused(code) => {
@@ -71,8 +71,8 @@ pub extern "C" fn vault_count(index: &[u8], recipes: &[u8], count: &mut u64) -> 
     ensures { λ r. ⌜ CountCall (now (index .entry)) (now (recipes .entry)) (now (count .exit)) r ⌝ }
 {
     match join::count(index, recipes) {
-        spec::Outcome::Done(n) => {
-            *count = n as u64;
+        spec::Outcome::Done(counted) => {
+            *count = counted as u64;
             0
         }
         spec::Outcome::Refused(code) => {
@@ -87,8 +87,8 @@ pub extern "C" fn vault_join(index: &[u8], recipes: &[u8], out: &mut [u8], count
     ensures { λ r. ⌜ JoinCall (now (index .entry)) (now (recipes .entry)) (now (out .entry)) (now (out .exit)) (now (count .exit)) r ⌝ }
 {
     match join::join(index, recipes, out) {
-        spec::Outcome::Done(n) => {
-            *count = n as u64;
+        spec::Outcome::Done(listed) => {
+            *count = listed as u64;
             0
         }
         spec::Outcome::Refused(code) => {
@@ -162,14 +162,14 @@ pub extern "C" fn vault_search(
             *count = 0;
             code
         }
-        spec::Searched::JoinRefused(n, code) => {
-            *index_length = n as u64;
+        spec::Searched::JoinRefused(written, code) => {
+            *index_length = written as u64;
             *count = 0;
             code
         }
-        spec::Searched::Found(n, m) => {
-            *index_length = n as u64;
-            *count = m as u64;
+        spec::Searched::Found(size, found) => {
+            *index_length = size as u64;
+            *count = found as u64;
             0
         }
     }

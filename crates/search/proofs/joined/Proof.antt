@@ -1,9 +1,8 @@
 -- `joined` meets its contract: the join's answer, case by case. Assumes nothing.
-use mathlib.Core.Path.{sym, ap, _∙_}
-use lib.ListN.{length}
 use denote.Ref.{now}
 use borrow.Author.Needs.{needs}
-use Rattle.search.specs.Searching.{afterJoin}
+use Rattle.spec.specs.declared.Outcome.the-variants.{Done, Refused}
+use Rattle.search.proofs.Together.{join-answered}
 use Rattle.search.proofs.joined.Statement.{statement}
 use Rattle.search.proofs.joined.Tie as tie
 
@@ -23,10 +22,8 @@ returns : tie.Need-returns
 returns c =
     let called = c .before .before .before .before .before in
     let a = called .before .before .before .before .before .args in
-    record {
-      answered = ap (afterJoin (length (now (a .index)))) (sym (c .before .code .given .1) ∙ called .join .ensures .answered);
-      listed = called .join .ensures .listed;
-    }
+    join-answered (now (a .index)) (now (a .recipes)) (now (a .out)) (called .join .last .1 .1 .0) (Refused (c .before .code .given .0 .0))
+    (called .join .result) (c .before .code .given .1) (called .join .ensures .answered) (called .join .ensures .listed)
 
 same-length-2 : tie.Need-same-length-2
 same-length-2 c = search needs
@@ -35,10 +32,8 @@ returns-2 : tie.Need-returns-2
 returns-2 c =
     let called = c .before .before .before .before .before in
     let a = called .before .before .before .before .before .args in
-    record {
-      answered = ap (afterJoin (length (now (a .index)))) (sym (c .before .count .given .1) ∙ called .join .ensures .answered);
-      listed = called .join .ensures .listed;
-    }
+    join-answered (now (a .index)) (now (a .recipes)) (now (a .out)) (called .join .last .1 .1 .0) (Done (c .before .count .given .0 .0))
+    (called .join .result) (c .before .count .given .1) (called .join .ensures .answered) (called .join .ensures .listed)
 
 pub joined-spec : {M : Type 1} → statement M
 joined-spec =

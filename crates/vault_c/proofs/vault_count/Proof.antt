@@ -1,15 +1,16 @@
 -- `vault_count` meets its contract: the answer of `count`, case by case. Assumes nothing.
-use mathlib.Core.Path.{sym, ap, _∙_}
-use Rattle.spec.specs.Outcome.{codeOf, valueOf}
+use denote.Ref.{now}
+use Rattle.spec.specs.declared.Outcome.the-variants.{Done, Refused}
 use borrow.Author.Needs.{needs}
+use Rattle.vault_c.proofs.Answers.{count-call}
 use Rattle.vault_c.proofs.vault_count.Statement.{statement}
 use Rattle.vault_c.proofs.vault_count.Tie as tie
 
 count-requires : tie.Need-count-requires
 count-requires c κs = search needs
 
-enum-known-n : tie.Need-enum-known-n
-enum-known-n c = search needs
+enum-known-counted : tie.Need-enum-known-counted
+enum-known-counted c = search needs
 
 enum-known-code : tie.Need-enum-known-code
 enum-known-code c = search needs
@@ -17,15 +18,15 @@ enum-known-code c = search needs
 returns : tie.Need-returns
 returns c =
     let called = c .before .before .before in
-    let e = sym (c .before .n .given .1) ∙ called .count .ensures in
-    record { code = ap codeOf e; value = ap valueOf e }
+    let a = called .before .before .before .args in
+    count-call (now (a .index)) (now (a .recipes)) (Done (c .before .counted .given .0 .0)) (called .count .result) (c .before .counted .given .1) (called .count .ensures)
 
 returns-2 : tie.Need-returns-2
 returns-2 c =
     let called = c .before .before .before in
-    let e = sym (c .before .code .given .1) ∙ called .count .ensures in
-    record { code = ap codeOf e; value = ap valueOf e }
+    let a = called .before .before .before .args in
+    count-call (now (a .index)) (now (a .recipes)) (Refused (c .before .code .given .0 .0)) (called .count .result) (c .before .code .given .1) (called .count .ensures)
 
 pub vault-count-spec : {M : Type 1} → statement M
 vault-count-spec =
-    tie.close (tie.spec count-requires enum-known-n enum-known-code returns returns-2)
+    tie.close (tie.spec count-requires enum-known-counted enum-known-code returns returns-2)

@@ -1,15 +1,16 @@
 -- `vault_scan` meets its contract: the answer of `scan`, case by case. Assumes nothing.
-use mathlib.Core.Path.{sym, ap, _∙_}
-use Rattle.spec.specs.Outcome.{codeOf, valueOf}
+use denote.Ref.{now}
+use Rattle.spec.specs.declared.Outcome.the-variants.{Done, Refused}
 use borrow.Author.Needs.{needs}
+use Rattle.vault_c.proofs.Answers.{scan-call}
 use Rattle.vault_c.proofs.vault_scan.Statement.{statement}
 use Rattle.vault_c.proofs.vault_scan.Tie as tie
 
 scan-requires : tie.Need-scan-requires
 scan-requires c κs = search needs
 
-enum-known-n : tie.Need-enum-known-n
-enum-known-n c = search needs
+enum-known-written : tie.Need-enum-known-written
+enum-known-written c = search needs
 
 enum-known-code : tie.Need-enum-known-code
 enum-known-code c = search needs
@@ -20,8 +21,9 @@ same-length c = search needs
 returns : tie.Need-returns
 returns c =
     let called = c .before .before .before .before .before in
-    let e = sym (c .before .n .given .1) ∙ called .scan .ensures .answer in
-    record { code = ap codeOf e; value = ap valueOf e; bytes = called .scan .ensures .buffer }
+    let a = called .before .before .before .before .before .args in
+    scan-call (now (a .list)) (now (a .store)) (now (a .out)) (called .scan .last .1 .1 .0) (Done (c .before .written .given .0 .0))
+    (called .scan .result) (c .before .written .given .1) (called .scan .ensures .answer) (called .scan .ensures .buffer)
 
 same-length-2 : tie.Need-same-length-2
 same-length-2 c = search needs
@@ -29,15 +31,16 @@ same-length-2 c = search needs
 returns-2 : tie.Need-returns-2
 returns-2 c =
     let called = c .before .before .before .before .before in
-    let e = sym (c .before .code .given .1) ∙ called .scan .ensures .answer in
-    record { code = ap codeOf e; value = ap valueOf e; bytes = called .scan .ensures .buffer }
+    let a = called .before .before .before .before .before .args in
+    scan-call (now (a .list)) (now (a .store)) (now (a .out)) (called .scan .last .1 .1 .0) (Refused (c .before .code .given .0 .0))
+    (called .scan .result) (c .before .code .given .1) (called .scan .ensures .answer) (called .scan .ensures .buffer)
 
 pub vault-scan-spec : {M : Type 1} → statement M
 vault-scan-spec =
     tie.close
     (tie.spec
     scan-requires
-    enum-known-n
+    enum-known-written
     enum-known-code
     same-length
     returns

@@ -1,15 +1,16 @@
 -- `vault_scan_size` meets its contract: the answer of `size`, case by case. Assumes nothing.
-use mathlib.Core.Path.{sym, ap, _∙_}
-use Rattle.spec.specs.Outcome.{codeOf, valueOf}
+use denote.Ref.{now}
+use Rattle.spec.specs.declared.Outcome.the-variants.{Done, Refused}
 use borrow.Author.Needs.{needs}
+use Rattle.vault_c.proofs.Answers.{size-call}
 use Rattle.vault_c.proofs.vault_scan_size.Statement.{statement}
 use Rattle.vault_c.proofs.vault_scan_size.Tie as tie
 
 size-requires : tie.Need-size-requires
 size-requires c κs = search needs
 
-enum-known-n : tie.Need-enum-known-n
-enum-known-n c = search needs
+enum-known-needed : tie.Need-enum-known-needed
+enum-known-needed c = search needs
 
 enum-known-code : tie.Need-enum-known-code
 enum-known-code c = search needs
@@ -17,15 +18,17 @@ enum-known-code c = search needs
 returns : tie.Need-returns
 returns c =
     let called = c .before .before .before in
-    let e = sym (c .before .n .given .1) ∙ called .size .ensures in
-    record { code = ap codeOf e; value = ap valueOf e }
+    let a = called .before .before .before .args in
+    size-call (now (a .list)) (now (a .store)) (Done (c .before .needed .given .0 .0))
+    (called .size .result) (c .before .needed .given .1) (called .size .ensures)
 
 returns-2 : tie.Need-returns-2
 returns-2 c =
     let called = c .before .before .before in
-    let e = sym (c .before .code .given .1) ∙ called .size .ensures in
-    record { code = ap codeOf e; value = ap valueOf e }
+    let a = called .before .before .before .args in
+    size-call (now (a .list)) (now (a .store)) (Refused (c .before .code .given .0 .0))
+    (called .size .result) (c .before .code .given .1) (called .size .ensures)
 
 pub vault-scan-size-spec : {M : Type 1} → statement M
 vault-scan-size-spec =
-    tie.close (tie.spec size-requires enum-known-n enum-known-code returns returns-2)
+    tie.close (tie.spec size-requires enum-known-needed enum-known-code returns returns-2)

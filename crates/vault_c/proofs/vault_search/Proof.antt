@@ -1,7 +1,8 @@
 -- `vault_search` meets its contract: the answer of `search`, case by case. Assumes nothing.
-use mathlib.Core.Path.{sym, ap, _∙_}
-use Rattle.spec.specs.Search.{searchedCode, searchedSize, searchedCount}
+use denote.Ref.{now}
+use Rattle.spec.specs.declared.Searched.the-variants.{ScanRefused, JoinRefused, Found}
 use borrow.Author.Needs.{needs}
+use Rattle.vault_c.proofs.Answers.{search-call}
 use Rattle.vault_c.proofs.vault_search.Statement.{statement}
 use Rattle.vault_c.proofs.vault_search.Tie as tie
 
@@ -11,11 +12,11 @@ search-requires c κs = search needs
 enum-known-code : tie.Need-enum-known-code
 enum-known-code c = search needs
 
-enum-known-n : tie.Need-enum-known-n
-enum-known-n c = search needs
+enum-known-written : tie.Need-enum-known-written
+enum-known-written c = search needs
 
-enum-known-n-2 : tie.Need-enum-known-n-2
-enum-known-n-2 c = search needs
+enum-known-size : tie.Need-enum-known-size
+enum-known-size c = search needs
 
 same-length : tie.Need-same-length
 same-length c = search needs
@@ -26,14 +27,11 @@ same-length-2 c = search needs
 returns : tie.Need-returns
 returns c =
     let called = c .before .before .before .before .before .before .before in
-    let e = sym (c .before .code .given .1) ∙ called .search .ensures .answered in
-    record {
-      code = ap searchedCode e;
-      indexed = ap searchedSize e;
-      counted = ap searchedCount e;
-      scanned = called .search .ensures .scanned;
-      listed = called .search .ensures .listed;
-    }
+    let a = called .before .before .before .before .before .before .before .before .args in
+    search-call (now (a .list)) (now (a .store)) (now (a .recipes)) (now (a .index)) (now (a .out))
+    (called .search .last .1 .1 .1 .0) (called .search .last .1 .1 .1 .1 .0)
+    (ScanRefused (c .before .code .given .0 .0)) (called .search .result) (c .before .code .given .1) (called .search .ensures .answered)
+    (called .search .ensures .scanned) (called .search .ensures .listed)
 
 same-length-3 : tie.Need-same-length-3
 same-length-3 c = search needs
@@ -44,14 +42,11 @@ same-length-4 c = search needs
 returns-2 : tie.Need-returns-2
 returns-2 c =
     let called = c .before .before .before .before .before .before .before in
-    let e = sym (c .before .n .given .1) ∙ called .search .ensures .answered in
-    record {
-      code = ap searchedCode e;
-      indexed = ap searchedSize e;
-      counted = ap searchedCount e;
-      scanned = called .search .ensures .scanned;
-      listed = called .search .ensures .listed;
-    }
+    let a = called .before .before .before .before .before .before .before .before .args in
+    search-call (now (a .list)) (now (a .store)) (now (a .recipes)) (now (a .index)) (now (a .out))
+    (called .search .last .1 .1 .1 .0) (called .search .last .1 .1 .1 .1 .0)
+    (JoinRefused (c .before .written .given .0 .0) (c .before .written .given .0 .1 .0)) (called .search .result) (c .before .written .given .1) (called .search .ensures .answered)
+    (called .search .ensures .scanned) (called .search .ensures .listed)
 
 same-length-5 : tie.Need-same-length-5
 same-length-5 c = search needs
@@ -62,14 +57,11 @@ same-length-6 c = search needs
 returns-3 : tie.Need-returns-3
 returns-3 c =
     let called = c .before .before .before .before .before .before .before in
-    let e = sym (c .before .n2 .given .1) ∙ called .search .ensures .answered in
-    record {
-      code = ap searchedCode e;
-      indexed = ap searchedSize e;
-      counted = ap searchedCount e;
-      scanned = called .search .ensures .scanned;
-      listed = called .search .ensures .listed;
-    }
+    let a = called .before .before .before .before .before .before .before .before .args in
+    search-call (now (a .list)) (now (a .store)) (now (a .recipes)) (now (a .index)) (now (a .out))
+    (called .search .last .1 .1 .1 .0) (called .search .last .1 .1 .1 .1 .0)
+    (Found (c .before .size .given .0 .0) (c .before .size .given .0 .1 .0)) (called .search .result) (c .before .size .given .1) (called .search .ensures .answered)
+    (called .search .ensures .scanned) (called .search .ensures .listed)
 
 pub vault-search-spec : {M : Type 1} → statement M
 vault-search-spec =
@@ -77,8 +69,8 @@ vault-search-spec =
     (tie.spec
     search-requires
     enum-known-code
-    enum-known-n
-    enum-known-n-2
+    enum-known-written
+    enum-known-size
     same-length
     same-length-2
     returns
