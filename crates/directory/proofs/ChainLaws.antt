@@ -4,7 +4,7 @@ use mathlib.Core.Path.{_≡_, refl, sym, ap, _∙_, subst}
 use mathlib.Core.Logic.{_⊎_, inl, inr, ⊎-elim}
 use mathlib.Core.Bool.{Bool, true, false, _||_}
 use mathlib.Core.List.{List, [], _∷_}
-use Prim.Native.Nat.{ℕ, suc, _+_, _*_, _-_, _≤_, _<_}
+use Prim.Native.Nat.{ℕ, suc, _+_, _*_, _-_, _%_, _≤_, _<_}
 use native.Mathlib.Nat.{sub-self, add-zero, zero-add, suc-add, add-assoc, mul-le-mul-left, mul-suc, eq-or-lt-of-le}
 use native.Mathlib.Omega.{arith}
 use borrow.Author.Tests.{eqb-true, eqb-false, lt-ltb, le-ltb}
@@ -15,21 +15,23 @@ use Rattle.spec.specs.Bytes.{part, fieldsOf, fieldAt, same, contains, twice, po
 use Rattle.spec.proofs.Tests.{bool-cases, le-or-lt}
 use Rattle.spec.proofs.EntryLaws.{length-keys, key-at, contains-position}
 use Rattle.spec.proofs.Same.{same-not}
-use Rattle.directory.specs.Chains.{mixed, hashOf, keysFrom, tailWith, placeFrom, Starts, Linked, Chained, Lies, Empty}
+use Rattle.directory.specs.Chains.{hashOf, keysFrom, tailWith, placeFrom, Starts, Linked, Chained, Lies, Empty}
 
 -- ---- the hash
 
--- five fields, one after the other
-pub hashed : (key : List ℕ) → mixed (mixed (mixed (mixed (mixed 0 (fieldAt key 0 4)) (fieldAt key 4 4)) (fieldAt key 8 4)) (fieldAt key 12 4)) (fieldAt key 16 4) ≡ hashOf key
+-- five fields, each times its weight
+pub hashed : (key : List ℕ) (a b c d e : ℕ) → a ≡ fieldAt key 0 4 → b ≡ fieldAt key 4 4 → c ≡ fieldAt key 8 4 → d ≡ fieldAt key 12 4 → e ≡ fieldAt key 16 4
+    → (a * 506832829 + b * 374761393 + c * 466882007 + d * 298632863 + e * 413158511) % 65521 ≡ hashOf key
 unfolding hashOf fieldsOf
-hashed key =
+hashed key a b c d e p q r s t =
     let e8 : drop 4 (drop 4 key) ≡ drop 8 key = drop-drop 4 4 key in
     let e12 : drop 4 (drop 8 key) ≡ drop 12 key = drop-drop 4 8 key in
     let e16 : drop 4 (drop 12 key) ≡ drop 16 key = drop-drop 4 12 key in
-    rw (e8, e12, e16)
+    rw (e8, e12, e16, p, q, r, s, t) (ap (λ (n : ℕ). n % 65521) (omega arith))
 
 pub hash-lt : (key : List ℕ) → hashOf key < 65521
-hash-lt key = rw (← hashed key) (omega arith)
+unfolding hashOf
+hash-lt key = omega arith
 
 -- ---- skipping
 

@@ -11,17 +11,19 @@ use Rattle.spec.specs.Directory.{Layout, keysOf}
 
 -- ---- the hash of a key
 
--- A hash with one more field; 65521 is the largest prime below 65536.
-abbrev pub mixed : ℕ → ℕ → ℕ
-mixed h field = (h * 2654435761 + field % 4294967296) % 65521
+-- One weight for each field of a key: odd, and below 2^29, so that the sum of five products is below 2^64.
+abbrev pub weights : List ℕ
+weights = 506832829 ∷ 374761393 ∷ 466882007 ∷ 298632863 ∷ 413158511 ∷ []
 
-abbrev pub mixedAll : ℕ → List ℕ → ℕ
-mixedAll h [] = h
-mixedAll h (field ∷ fields) = mixedAll (mixed h field) fields
+-- The sum of the fields, each times its weight.
+abbrev pub weighted : List ℕ → List ℕ → ℕ
+weighted [] fields = 0
+weighted (weight ∷ rest) [] = 0
+weighted (weight ∷ rest) (field ∷ fields) = field * weight + weighted rest fields
 
--- The hash of a key: over all its 20 bytes, as five fields.
+-- The hash of a key: over all its 20 bytes, as five fields. 65521 is the largest prime below 65536.
 unfoldable pub hashOf : List ℕ → ℕ
-hashOf key = mixedAll 0 (fieldsOf 4 5 key)
+hashOf key = weighted weights (fieldsOf 4 5 key) % 65521
 
 -- ---- chains
 

@@ -3,29 +3,36 @@
 ghost use mathlib.Core.Path.{_≡_};
 ghost use Prim.Native.Nat.{suc, _+_, _-_, _*_, _≤_, _<_};
 ghost use lib.ListN.{length};
-ghost use Rattle.spec.specs.Bytes.{part, positionOf};
+ghost use Rattle.spec.specs.Bytes.{part, same, positionOf};
 ghost use Rattle.spec.specs.Directory.{entriesCode};
-ghost use Rattle.directory.specs.Chains.{mixed, hashOf, keysFrom, placeFrom, Starts, Linked, Chained, Inserted, Built, Lies, Empty, layoutOf};
+ghost use Rattle.directory.specs.Chains.{hashOf, keysFrom, placeFrom, Starts, Linked, Chained, Inserted, Built, Lies, Empty, layoutOf};
 
-// A hash with one more field.
-fn mix(h: u64, field: u64) -> u64
-    requires { ⌜ h < 65521 ⌝ }
-    ensures { λ r. ⌜ r ≡ mixed h field ⌝ }
-{
-    (h * 2654435761 + field % 4294967296) % 65521
-}
-
-// The hash of a key of 20 bytes.
+// The hash of a key of 20 bytes. Its five products do not wait for each other, and one remainder is taken.
 fn hash(key: &[u8]) -> usize
     requires { ⌜ length (now key) ≡ 20 ⌝ }
     ensures { λ r. ⌜ r ≡ hashOf (now (key .entry)) ⌝ }
 {
-    let mut h = mix(0, field::read(key, 0, 4));
-    h = mix(h, field::read(key, 4, 4));
-    h = mix(h, field::read(key, 8, 4));
-    h = mix(h, field::read(key, 12, 4));
-    h = mix(h, field::read(key, 16, 4));
-    h as usize
+    let sum = field::read(key, 0, 4) * 506832829
+        + field::read(key, 4, 4) * 374761393
+        + field::read(key, 8, 4) * 466882007
+        + field::read(key, 12, 4) * 298632863
+        + field::read(key, 16, 4) * 413158511;
+    (sum % 65521) as usize
+}
+
+// Two keys of 20 bytes are the same: field by field, as that takes a fourth of the loads.
+fn same_key(a: &[u8], b: &[u8]) -> bool
+    requires { ⌜ (length (now a) ≡ 20) × (length (now b) ≡ 20) ⌝ }
+    ensures { λ r. ⌜ r ≡ same (now (a .entry)) (now (b .entry)) ⌝ }
+{
+    let mut k: usize = 0;
+    while k < 5 {
+        if field::read(a, 4 * k, 4) != field::read(b, 4 * k, 4) {
+            return false;
+        }
+        k += 1;
+    }
+    true
 }
 
 // The key of entry e, a slice of the bytes.
@@ -50,12 +57,13 @@ fn follow(
     requires { ⌜ Lies (now bytes) start stride count ⌝ }
     requires { ⌜ Linked (keysFrom (now bytes) start stride count) (count - from) (now next) ⌝ }
     requires { ⌜ Starts (now probe) (keysFrom (now bytes) start stride count) from ⌝ }
+    requires { ⌜ length (now probe) ≡ 20 ⌝ }
     ensures { λ r. ⌜ r ≡ placeFrom (now (probe .entry)) (keysFrom (now (bytes .entry)) start stride count) (count - from) ⌝ }
 {
     let mut n = from;
     while 0 < n {
         let e = count - n;
-        if field::equal(probe, key(bytes, start, stride, e)) {
+        if same_key(probe, key(bytes, start, stride, e)) {
             return e;
         }
         n = next[e] as usize;

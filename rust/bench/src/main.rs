@@ -205,7 +205,7 @@ fn directories(options: &Options) {
     };
     tell("store check", measured(options, || vault::check_store(black_box(&store)).expect("a good store")));
     tell("index check, empty bodies", measured(options, || vault::check_index(black_box(&index)).expect("a good index")));
-    // Fingerprints that the directory's hash, a polynomial of five fields modulo 65,521, can't tell apart: once, as it is slow.
+    // Fingerprints that the directory's hash, a weighted sum of five fields modulo 65,521, can't tell apart: once, as it is slow.
     let mut chain = store.clone();
     for k in 0..65_000u32 {
         let at = 8 + 28 * k as usize;

@@ -403,7 +403,7 @@ fn many_chunks(rng: &mut Rng) -> Vec<Case> {
     cases
 }
 
-/// Fingerprints that the library's directory hashes alike (a polynomial of five fields modulo 65,521).
+/// Fingerprints that the library's directory hashes alike (a weighted sum of five fields modulo 65,521).
 fn one_chain(rng: &mut Rng) -> Vec<Case> {
     let mut cases = Vec::new();
     for field in [0, 4, 8, 12, 16] {

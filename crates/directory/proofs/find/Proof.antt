@@ -41,7 +41,7 @@ follow-requires : tie.Need-follow-requires
 follow-requires c κs =
     let start = c .before .before .before .before .before .before in
     let h = at-head c in
-    (start .pre .0, (h .links, h .starts))
+    (start .pre .0, (h .links, (h .starts, start .pre .1 .1)))
 
 returns : tie.Need-returns
 returns c =

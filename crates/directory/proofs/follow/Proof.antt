@@ -3,11 +3,11 @@ use mathlib.Core.Path.{_≡_, refl, sym, ap, _∙_}
 use mathlib.Core.List.{[]}
 use Prim.Native.Nat.{_-_, _≤_}
 use native.Mathlib.Omega.{arith}
-use lib.ListN.{getD}
+use lib.ListN.{length, getD}
 use denote.Ref.{now}
 use Rattle.spec.specs.Bytes.{same}
 use Rattle.directory.specs.Chains.{keysFrom, placeFrom, Starts}
-use Rattle.directory.proofs.ChainLaws.{Stepped, step, place-hit, place-none, length-from, key-room, key-in}
+use Rattle.directory.proofs.ChainLaws.{Stepped, step, place-hit, place-none, length-from, key-room, key-in, key-length}
 use Rattle.directory.proofs.follow.Statement.{statement}
 use Rattle.directory.proofs.follow.Tie as tie
 
@@ -20,16 +20,16 @@ abbrev μ-loop : tie.MeasureT-loop
 μ-loop bytes start stride count next from probe n₀ n = n
 
 -- what the comparison of the keys says
-compared : (c : tie.After-equal Inv-loop μ-loop)
+compared : (c : tie.After-same-key Inv-loop μ-loop)
     → let at = c .before .before .before in
     let a = at .before .before .before .before .args in
-    same (now (a .probe)) (getD (keysFrom (now (a .bytes)) (a .start) (a .stride) (a .count)) (a .count - at .loop .n) []) ≡ c .equal .result
+    same (now (a .probe)) (getD (keysFrom (now (a .bytes)) (a .start) (a .stride) (a .count)) (a .count - at .loop .n) []) ≡ c .same-key .result
 compared c =
     let at = c .before .before .before in
     let start = at .before .before .before .before in
     let a = start .args in
     ap (same (now (a .probe))) (sym (c .before .key .ensures ∙ key-in (now (a .bytes)) (a .start) (a .stride) (a .count) (start .pre .0) (a .count - at .loop .n) (omega arith)))
-    ∙ sym (c .equal .ensures)
+    ∙ sym (c .same-key .ensures)
 
 -- the chain's next place
 stepped : (c : tie.Else1 Inv-loop μ-loop)
@@ -48,7 +48,7 @@ loop-holds : tie.Need-loop-holds Inv-loop μ-loop
 loop-holds c =
     let start = c .before .before .before in
     let a = start .args in
-    (omega arith, omega (arith, start .pre .1 .1 .within, length-from (now (a .bytes)) (a .start) (a .stride) (a .count) (start .pre .0)), start .pre .1 .1, refl)
+    (omega arith, omega (arith, start .pre .1 .1 .0 .within, length-from (now (a .bytes)) (a .start) (a .stride) (a .count) (start .pre .0)), start .pre .1 .1 .0, refl)
 
 sub-e : tie.Need-sub-e Inv-loop μ-loop
 sub-e c = omega arith
@@ -59,8 +59,13 @@ key-requires c κs =
     let a = start .args in
     key-room (now (a .bytes)) (a .start) (a .stride) (a .count) (start .pre .0) (a .count - c .before .loop .n) (omega arith)
 
-equal-requires : tie.Need-equal-requires Inv-loop μ-loop
-equal-requires c κs = tt
+same-key-requires : tie.Need-same-key-requires Inv-loop μ-loop
+same-key-requires c κs =
+    let start = c .before .before .before .before .before .before in
+    let a = start .args in (
+      start .pre .1 .1 .1,
+      ap length (c .key .ensures) ∙ key-length (now (a .bytes)) (a .start) (a .stride) (a .count) (start .pre .0) (a .count - c .before .before .loop .n) (omega arith),
+    )
 
 returns : tie.Need-returns Inv-loop μ-loop
 returns c =
@@ -114,7 +119,7 @@ follow-spec =
     loop-holds
     sub-e
     key-requires
-    equal-requires
+    same-key-requires
     returns
     mul-n
     shared-slice-read-n

@@ -37,6 +37,13 @@ at-head c =
 small : (c : tie.After-hash) → (c .hash .result < 65521) × (length (now (c .before .before .before .before .before .args .heads)) ≡ 65536)
 small c = (omega (arith, c .hash .ensures, hash-lt (now (c .before .key .result))), c .before .before .before .before .before .pre .1 .0 .wide)
 
+-- it has 20 bytes
+key-long : (c : tie.After-key) → length (now (c .key .result)) ≡ 20
+key-long c =
+    let start = c .before .before .before .before in
+    let a = start .args in
+    ap length (c .key .ensures) ∙ key-length (now (a .bytes)) (a .start) (a .stride) (a .count) (start .pre .0) (a .e) (start .pre .1 .1)
+
 key-requires : tie.Need-key-requires
 key-requires c κs =
     let start = c .before .before .before in
@@ -44,10 +51,7 @@ key-requires c κs =
     key-room (now (a .bytes)) (a .start) (a .stride) (a .count) (start .pre .0) (a .e) (start .pre .1 .1)
 
 hash-requires : tie.Need-hash-requires
-hash-requires c κs =
-    let start = c .before .before .before .before in
-    let a = start .args in
-    ap length (c .key .ensures) ∙ key-length (now (a .bytes)) (a .start) (a .stride) (a .count) (start .pre .0) (a .e) (start .pre .1 .1)
+hash-requires c κs = key-long c
 
 mul-follow : tie.Need-mul-follow
 mul-follow c = omega (arith, small (c .before))
@@ -61,7 +65,7 @@ cast-follow c = omega (arith, c .slice-known3 .given (c .before .before .hash .r
 follow-requires : tie.Need-follow-requires
 follow-requires c κs =
     let h = at-head (c .before .before) in
-    (c .before .before .before .before .before .before .before .pre .0, (h .links, h .starts))
+    (c .before .before .before .before .before .before .before .pre .0, (h .links, (h .starts, key-long (c .before .before .before))))
 
 mul-next : tie.Need-mul-next
 mul-next c = omega (arith, small (c .before .before .before))
