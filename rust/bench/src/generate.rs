@@ -123,15 +123,17 @@ pub fn recipes_of(files: &[Vec<usize>]) -> Vec<u8> {
     bytes
 }
 
-/// An index of `count` chunks of 8 KiB with empty bodies.
-pub fn empty_index(list: &[u8], count: usize) -> Vec<u8> {
+/// An index of `count` chunks of 8 KiB; all bodies are empty but for the last chunk's.
+pub fn index_of(list: &[u8], count: usize, last: &[u8]) -> Vec<u8> {
     let mut index = b"DM1\n".to_vec();
     index.extend_from_slice(&(count as u32).to_le_bytes());
     index.extend_from_slice(list);
     let end = index.len() + 32 * count;
     for k in 0..count {
+        let length = if k + 1 == count { last.len() } else { 0 };
         index.extend_from_slice(&key(k));
-        [8192, end, 0].iter().for_each(|field| index.extend_from_slice(&(*field as u32).to_le_bytes()));
+        [8192, end, length].iter().for_each(|field| index.extend_from_slice(&(*field as u32).to_le_bytes()));
     }
+    index.extend_from_slice(last);
     index
 }

@@ -11,7 +11,7 @@ mod generate;
 mod peers;
 
 use clock::{calibration, median, timed};
-use generate::{empty_index, key, recipes, recipes_of, store_of, vault, Vault};
+use generate::{index_of, key, recipes, recipes_of, store_of, vault, Vault};
 use peers::{plain, restore_each, Automaton, Chunks};
 use std::hint::black_box;
 
@@ -198,7 +198,7 @@ fn directories(options: &Options) {
     let chunks: Vec<Vec<u8>> = (0..65_000).map(|_| vec![b'x']).collect();
     let store = store_of(&chunks);
     let list = vault::keyword_list(false, &[b"invoice"]).expect("a keyword");
-    let index = empty_index(&list, 65_000);
+    let index = index_of(&list, 65_000, &[]);
     println!("65,000 entries");
     let tell = |what: &str, (time, fixed): (f64, f64)| {
         println!("  {what:<36} {time:>9.3} ms, {:>6.1} ns an entry (loop {fixed:.1} ms)", 1e6 * time / 65_000.0)
@@ -223,19 +223,29 @@ fn directories(options: &Options) {
     println!();
 }
 
-/// Ten million places without an occurrence.
+/// Ten million places of which none, one, or one in each file has an occurrence: what the others cost must not depend on it.
 fn many_places(options: &Options) {
-    println!("join of 65,000 entries with empty bodies and 10,000,000 places in 1,000 files");
+    println!("join of 65,000 entries and 10,000,000 places in 1,000 files; one chunk has an occurrence, and a file names it once or never");
     let mut rng = generate::Rng(3);
-    let files: Vec<Vec<usize>> = (0..1000).map(|_| (0..10_000).map(|_| rng.below(65_000)).collect()).collect();
-    let recipes = recipes_of(&files);
+    let mut files: Vec<Vec<usize>> = (0..1000).map(|_| (0..10_000).map(|_| rng.below(64_999)).collect()).collect();
     let words: Vec<Vec<u8>> = (0..16u8).map(|k| vec![b'a' + k; 8]).collect();
-    for count in [1, 16] {
-        let keywords: Vec<&[u8]> = words[..count].iter().map(|w| &w[..]).collect();
-        let index = empty_index(&vault::keyword_list(false, &keywords).expect("different keywords"), 65_000);
-        let (time, fixed) = measured(options, || {
-            assert!(vault::join_into(&index, &recipes, &mut []).expect("good recipes") == 0);
-        });
-        println!("  {count:>2} keywords: {time:>9.1} ms, {:>6.1} ns a place (loop {fixed:.1} ms)", 1e6 * time / 1e7);
+    // Keyword 0, kind 1: no prefix, no suffix, one occurrence, at offset 100.
+    let body = [0, 1, 0, 0, 1, 100, 0];
+    for named in [0, 1, 1000] {
+        files[..named].iter_mut().for_each(|file| file[5000] = 64_999);
+        let recipes = recipes_of(&files);
+        for count in [1, 16] {
+            let keywords: Vec<&[u8]> = words[..count].iter().map(|w| &w[..]).collect();
+            let list = vault::keyword_list(false, &keywords).expect("different keywords");
+            let index = index_of(&list, 65_000, &body);
+            let mut out = vec![0; named * vault::ROW];
+            let (time, fixed) = measured(options, || {
+                assert!(vault::join_into(&index, &recipes, &mut out).expect("good recipes") == named);
+            });
+            println!(
+                "  {count:>2} keywords, {named:>4} files with an occurrence: {time:>9.1} ms, {:>6.1} ns a place (loop {fixed:.1} ms)",
+                1e6 * time / 1e7
+            );
+        }
     }
 }
