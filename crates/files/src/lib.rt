@@ -1,20 +1,19 @@
-// Files against a directory: a fingerprint that is not there, a file that is too long, an inner chunk that is too short (document 01,
-// refusals 15, 16, 17). Every place of a file is looked up once.
+// A file against a directory: a fingerprint that is not there, a file that is too long, an inner chunk that is too short (document 01,
+// refusals 15, 16, 17). A file is the bytes of its fingerprints. Every place is looked up once; the entries of the first places are left
+// in slots, so that who walks the file next need not look them up again.
 ghost use mathlib.Core.Path.{_≡_};
 ghost use mathlib.Core.List.{[], _∷_};
 ghost use Prim.Native.Nat.{_+_, _*_, _≤_, _<_, min};
-ghost use lib.ListN.{length, drop};
+ghost use lib.ListN.{length, set};
 ghost use Rattle.spec.specs.Bytes.{part, positionOf};
 ghost use Rattle.spec.specs.Outcome.{firstOf};
-ghost use Rattle.spec.specs.Directory.{keysOf, sizeAt};
-ghost use Rattle.spec.specs.Recipes.{filesOf, recipesCode, fileCode, filesCode};
+ghost use Rattle.spec.specs.Directory.{sizeAt};
 ghost use Rattle.directory.specs.Chains.{keysFrom, Lies, Chained, layoutOf};
-ghost use Rattle.files.specs.Measures.{keysAt, sizesAt, innerShort, Measured};
+ghost use Rattle.files.specs.Measures.{named, keysAt, sizesAt, innerShort, Measured, Tested};
 
-// The entry of fingerprint j of a file whose fingerprints start at `from`; `count` where there is none.
-pub fn entry_of(
-    recipes: &[u8],
-    from: usize,
+// The entry of fingerprint j of a file; `count` where there is none.
+fn entry_of(
+    file: &[u8],
     j: usize,
     index: &[u8],
     start: usize,
@@ -24,8 +23,8 @@ pub fn entry_of(
 ) -> usize
     requires { ⌜ Lies (now index) start 32 count ⌝ }
     requires { ⌜ Chained (keysAt (now index) start count) 0 (now heads) (now next) ⌝ }
-    requires { ⌜ from + 20 * j + 20 ≤ length (now recipes) ⌝ }
-    ensures { λ r. ⌜ r ≡ positionOf (part (now (recipes .entry)) (from + 20 * j) 20) (keysAt (now (index .entry)) start count) ⌝ }
+    requires { ⌜ 20 * j + 20 ≤ length (now file) ⌝ }
+    ensures { λ r. ⌜ r ≡ positionOf (part (now (file .entry)) (20 * j) 20) (keysAt (now (index .entry)) start count) ⌝ }
 {
     directory::find(
         index,
@@ -34,12 +33,22 @@ pub fn entry_of(
         count,
         heads,
         next,
-        directory::key(recipes, from, 20, j),
+        &file[20 * j..20 * j + 20],
     )
 }
 
+// Writes the entry of place j to its slot, if it has one.
+fn keep(slots: &mut [u32], j: usize, k: usize)
+    requires { ⌜ k < 4294967296 ⌝ }
+    ensures { λ _. ⌜ now (slots .exit) ≡ set (now (slots .entry)) j k ⌝ }
+{
+    if j < slots.len() {
+        slots[j] = k as u32;
+    }
+}
+
 // The chunk's length of entry k.
-pub fn size_of(index: &[u8], start: usize, count: usize, k: usize) -> usize
+fn size_of(index: &[u8], start: usize, count: usize, k: usize) -> usize
     requires { ⌜ Lies (now index) start 32 count ⌝ }
     requires { ⌜ k < count ⌝ }
     ensures { λ r. ⌜ r ≡ sizesAt (now (index .entry)) start k ⌝ }
@@ -77,33 +86,32 @@ fn inner_short(j: usize, n: usize, size: usize, due: usize) -> bool
 
 // What the tests of a file ask: whether a fingerprint is missing; and, where none is, the file's length, up to 4294967296, and whether
 // an inner chunk is too short.
-pub struct Measure {
-    pub missing: bool,
-    pub total: usize,
-    pub short: bool,
+struct Measure {
+    missing: bool,
+    total: usize,
+    short: bool,
 }
 
 fn measure_file(
-    recipes: &[u8],
-    from: usize,
-    n: usize,
+    file: &[u8],
     index: &[u8],
     start: usize,
     count: usize,
     heads: &[u32],
     next: &[u32],
     due: usize,
+    slots: &mut [u32],
 ) -> Measure
     requires { ⌜ Lies (now index) start 32 count ⌝ }
     requires { ⌜ Chained (keysAt (now index) start count) 0 (now heads) (now next) ⌝ }
-    requires { ⌜ from + 20 * n ≤ length (now recipes) ⌝ }
-    ensures { λ r. ⌜ Measured (keysAt (now (index .entry)) start count) (sizesAt (now (index .entry)) start) due (keysOf 20 n (drop from (now (recipes .entry)))) (r .missing) (r .total) (r .short) ⌝ }
+    ensures { λ r. ⌜ Measured (keysAt (now (index .entry)) start count) (sizesAt (now (index .entry)) start) due (named (now (file .entry))) (now (slots .exit)) (r .missing) (r .total) (r .short) ⌝ }
 {
+    let n = file.len() / 20;
     let mut total: usize = 0;
     let mut short = false;
     let mut j: usize = 0;
     while j < n {
-        let k = entry_of(recipes, from, j, index, start, count, heads, next);
+        let k = entry_of(file, j, index, start, count, heads, next);
         if count <= k {
             return Measure {
                 missing: true,
@@ -111,6 +119,7 @@ fn measure_file(
                 short: short,
             };
         }
+        keep(slots, j, k);
         let size = size_of(index, start, count, k);
         total = capped(total, size);
         let tight = inner_short(j, n, size, due);
@@ -140,54 +149,22 @@ fn first_of(a: bool, x: u8, b: bool, y: u8, c: bool, z: u8) -> u8
     0
 }
 
-// The code of the file of n fingerprints that start at `from`.
+// The code of a file. Where it is 0, the slots have the entries of the file's first places.
 pub fn file_code(
-    recipes: &[u8],
-    from: usize,
-    n: usize,
+    file: &[u8],
     index: &[u8],
     start: usize,
     count: usize,
     heads: &[u32],
     next: &[u32],
     due: usize,
+    slots: &mut [u32],
 ) -> u8
     requires { ⌜ Lies (now index) start 32 count ⌝ }
     requires { ⌜ Chained (keysAt (now index) start count) 0 (now heads) (now next) ⌝ }
-    requires { ⌜ from + 20 * n ≤ length (now recipes) ⌝ }
-    ensures { λ r. ⌜ r ≡ fileCode (keysAt (now (index .entry)) start count) (sizesAt (now (index .entry)) start) due (keysOf 20 n (drop from (now (recipes .entry)))) ⌝ }
+    ensures { λ r. ⌜ Tested (keysAt (now (index .entry)) start count) (sizesAt (now (index .entry)) start) due (named (now (file .entry))) (now (slots .exit)) r ⌝ }
 {
-    let m = measure_file(recipes, from, n, index, start, count, heads, next, due);
+    let m = measure_file(file, index, start, count, heads, next, due, slots);
     let long = 4294967295 < m.total;
     first_of(m.missing, 15, long, 16, m.short, 17)
-}
-
-// The code of all files of accepted recipes, file by file.
-pub fn files_code(
-    recipes: &[u8],
-    index: &[u8],
-    start: usize,
-    count: usize,
-    heads: &[u32],
-    next: &[u32],
-    due: usize,
-) -> u8
-    requires { ⌜ Lies (now index) start 32 count ⌝ }
-    requires { ⌜ Chained (keysAt (now index) start count) 0 (now heads) (now next) ⌝ }
-    requires { ⌜ recipesCode (now recipes) ≡ 0 ⌝ }
-    ensures { λ r. ⌜ r ≡ filesCode (keysAt (now (index .entry)) start count) (sizesAt (now (index .entry)) start) due (filesOf (now (recipes .entry))) ⌝ }
-{
-    let files = recipes::count_at(recipes, 0);
-    let mut at: usize = 4;
-    let mut k: usize = 0;
-    while k < files {
-        let n = recipes::count_at(recipes, at);
-        let code = file_code(recipes, at + 4, n, index, start, count, heads, next, due);
-        if code != 0 {
-            return code;
-        }
-        at = at + 4 + 20 * n;
-        k += 1;
-    }
-    0
 }

@@ -19,9 +19,9 @@ use Rattle.walk.specs.Walking.{chunksIn, sizeOf, Directory, File, Keyed,
 use Rattle.walk.proofs.Places.{AllGood, place-ready, place-join}
 use Rattle.walk.proofs.Moves.{size-next, start-place, start-coming}
 
-pub walkable : (index : List ℕ) (directory entries : ℕ) (heads chain : List ℕ) (tables : List (List (List ℕ))) (file : List ℕ) (count : ℕ)
-    → Directory index directory entries heads chain → File index file → Keyed index count tables → Walkable index directory entries heads chain tables file count
-walkable index directory entries heads chain tables file count d f k = record { known = d; whole = f; keyed = k }
+pub walkable : (index : List ℕ) (directory entries : ℕ) (heads chain : List ℕ) (tables : List (List (List ℕ))) (file slots : List ℕ) (count : ℕ)
+    → Directory index directory entries heads chain → File index file slots → Keyed index count tables → Walkable index directory entries heads chain tables file slots count
+walkable index directory entries heads chain tables file slots count d f k = record { known = d; whole = f; keyed = k }
 
 -- ---- lengths
 
@@ -133,8 +133,8 @@ module _ (index file : List ℕ) (count : ℕ) (rows : List (List ℕ)) (size : 
   abbrev here : List ℕ
   here = set (replicate {A = ℕ} 4 0) 3 size
 
-  pub first-place : count ≤ 16 → File index file → LoadedAt index count (chunksIn index file) 0 rows size → AtPlace index count (chunksIn index file) here zeros rows
-  first-place few f l =
+  pub first-place : (slots : List ℕ) → count ≤ 16 → File index file slots → LoadedAt index count (chunksIn index file) 0 rows size → AtPlace index count (chunksIn index file) here zeros rows
+  first-place slots few f l =
       start-place index count (chunksIn index file) here zeros rows refl refl refl refl (omega (arith, length-replicate {A = List ℕ} 16 (replicate {A = ℕ} 5 0)))
       (λ k h. zero-streams 16 k) (f .small) l
 

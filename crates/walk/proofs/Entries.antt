@@ -6,10 +6,10 @@ use mathlib.Core.List.{List, [], _∷_, map}
 use Prim.Native.Nat.{ℕ, zero, suc, _+_, _-_, _*_, _/_, _≤_, _<_}
 use native.Mathlib.Omega.{arith}
 use lib.ListN.{length, getD, take, drop, length-map, length-drop, drop-of-length-le, replicate, length-replicate}
-use lib.Seq.{drop-cons, length-take-le}
+use lib.Seq.{drop-cons}
 use Rattle.spec.specs.Bytes.{part, fieldAt, positionOf}
 use Rattle.spec.specs.Keywords.{foldedKeywords}
-use Rattle.spec.specs.Directory.{keysOf, directoryEnd, sizeAt, offsetAt, lengthAt}
+use Rattle.spec.specs.Directory.{directoryEnd, sizeAt, offsetAt, lengthAt}
 use Rattle.spec.specs.Store.{chunkCount}
 use Rattle.spec.specs.Records.{MatchRecord, ChunkRecords, emptyRecord, recordAt, form1, inRange, allInRange, readBody}
 use Rattle.spec.specs.Index.{listIn, indexLayout, indexKeys, bodyAt, lengthsIn, indexRecords, indexCode, goodAt}
@@ -22,8 +22,10 @@ use Rattle.spec.proofs.IndexChecks.{IndexGood, index-good}
 use Rattle.spec.proofs.RecordLaws.{allPositive, good-is-written}
 use Rattle.spec.proofs.ScanLaws.{positive-lengths}
 use Rattle.directory.specs.Chains.{keysFrom, Lies}
+use Rattle.files.proofs.Places.{slice-part}
 use Rattle.loader.specs.Loaded.{Row, rowOf, Loadable, Loaded}
 use Rattle.loader.proofs.Fitting.{good-body-fits}
+use Rattle.files.specs.Measures.{named}
 use Rattle.walk.specs.Walking.{noChunk, chunksIn, chunkIn, Directory, File, LoadedAt}
 
 -- ---- a file's chunks
@@ -31,7 +33,7 @@ use Rattle.walk.specs.Walking.{noChunk, chunksIn, chunkIn, Directory, Fi
 module _ (index file : List ℕ) where
   pub chunks-length : length (chunksIn index file) ≡ length file / 20
   unfolding chunksIn fileRecords
-  chunks-length = length-map (keysOf 20 (length file / 20) file) _ ∙ length-keys 20 (length file / 20) file
+  chunks-length = length-map (named file) _ ∙ length-keys 20 (length file / 20) file
 
   pub in-chunks : (n : ℕ) → n < length file / 20 → n < length (chunksIn index file)
   in-chunks n h = omega (arith, chunks-length)
@@ -42,7 +44,7 @@ module _ (index file : List ℕ) where
   pub chunk-at : (n : ℕ) → n < length file / 20 → chunkIn (chunksIn index file) n ≡ indexRecords form1 index (positionOf (part file (20 * n) 20) (indexKeys index))
   unfolding chunksIn fileRecords
   chunk-at n h =
-      getD-map (λ key. indexRecords form1 index (positionOf key (indexKeys index))) (keysOf 20 (length file / 20) file) n [] noChunk (rw (length-keys 20 (length file / 20) file) h)
+      getD-map (λ key. indexRecords form1 index (positionOf key (indexKeys index))) (named file) n [] noChunk (rw (length-keys 20 (length file / 20) file) h)
       ∙ ap (λ (key : List ℕ). indexRecords form1 index (positionOf key (indexKeys index))) (key-at 20 (length file / 20) n file h)
 
 -- ---- an entry of a checked index
@@ -146,14 +148,18 @@ module _ (index : List ℕ) (directory entries : ℕ) (heads chain : List ℕ) (
 
 -- ---- place n of a file
 
-module _ (index : List ℕ) (directory entries : ℕ) (heads chain file : List ℕ) (d : Directory index directory entries heads chain) (f : File index file) (n : ℕ) (h : n < length file / 20) where
-  pub probe-length : length (take (20 * n + 20 - 20 * n) (drop (20 * n) file)) ≡ 20
-  probe-length = let e : 20 * n + 20 - 20 * n ≡ 20 = omega arith in rw e (length-take-le 20 (drop (20 * n) file) (omega (arith, length-drop (20 * n) file, f .whole)))
+module _ (index : List ℕ) (directory entries : ℕ) (heads chain file slots : List ℕ) (d : Directory index directory entries heads chain) (f : File index file slots) (n : ℕ) (h : n < length file / 20) where
+  pub place-inside : 20 * n + 20 ≤ length file
+  place-inside = omega arith
 
-  module _ (e : ℕ) (found : e ≡ positionOf (take (20 * n + 20 - 20 * n) (drop (20 * n) file)) (keysFrom index directory 32 entries)) where
-    pub entry-is : e ≡ positionOf (part file (20 * n) 20) (indexKeys index)
-    entry-is = let q : 20 * n + 20 - 20 * n ≡ 20 = omega arith in found ∙ ap₂ positionOf (ap (λ (m : ℕ). take m (drop (20 * n) file)) q) (keys-are index directory entries heads chain d)
+  -- its entry, from its slot or by its fingerprint
+  pub slot-is : n < length slots → getD slots n 0 ≡ positionOf (part file (20 * n) 20) (indexKeys index)
+  slot-is l = f .slotted .each n (rw (length-keys 20 (length file / 20) file) h) l ∙ ap (λ (key : List ℕ). positionOf key (indexKeys index)) (key-at 20 (length file / 20) n file h)
 
+  pub found-is : (e : ℕ) → e ≡ positionOf (take (20 * n + 20 - 20 * n) (drop (20 * n) file)) (keysFrom index directory 32 entries) → e ≡ positionOf (part file (20 * n) 20) (indexKeys index)
+  found-is e found = found ∙ ap₂ positionOf (slice-part file (20 * n)) (keys-are index directory entries heads chain d)
+
+  module _ (e : ℕ) (entry-is : e ≡ positionOf (part file (20 * n) 20) (indexKeys index)) where
     pub entry-in : e < chunkCount index
     entry-in = omega (arith, entry-is, f .found n h)
 

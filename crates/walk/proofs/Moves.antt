@@ -19,9 +19,9 @@ use Rattle.walk.proofs.Places.{AllGood, crossable, place-ready, place-j
 
 -- ---- what the check of the index says of a file's chunks
 
-pub all-good : (index : List ℕ) (directory entries : ℕ) (heads chain : List ℕ) (tables : List (List (List ℕ))) (file : List ℕ) (count : ℕ)
-    → Walkable index directory entries heads chain tables file count → AllGood (foldedKeywords (listIn index)) (chunksIn index file)
-all-good index directory entries heads chain tables file count w =
+pub all-good : (index : List ℕ) (directory entries : ℕ) (heads chain : List ℕ) (tables : List (List (List ℕ))) (file slots : List ℕ) (count : ℕ)
+    → Walkable index directory entries heads chain tables file slots count → AllGood (foldedKeywords (listIn index)) (chunksIn index file)
+all-good index directory entries heads chain tables file slots count w =
     record {
       proper = proper index (w .known .good);
       ranges = λ n h k u.

@@ -6,12 +6,12 @@ use Prim.Native.Nat.{ℕ, _+_, _-_, _*_, _/_, _^_, _≤_, _<_}
 use lib.ListN.{length, getD, drop}
 use Rattle.spec.specs.Bytes.{part, splice, positionOf, sum}
 use Rattle.spec.specs.Keywords.{listSize, foldedKeywords}
-use Rattle.spec.specs.Directory.{keysOf}
 use Rattle.spec.specs.Store.{chunkCount}
 use Rattle.spec.specs.Records.{ChunkRecords, recordAt, form1}
 use Rattle.spec.specs.Index.{listIn, indexKeys, indexCode}
 use Rattle.spec.specs.Join.{Occurrence, joinFrom, joinFile, fileRecords, listBytes}
 use Rattle.directory.specs.Chains.{keysFrom, Chained}
+use Rattle.files.specs.Measures.{named, Slotted}
 use Rattle.loader.specs.Loaded.{Row, rowOf}
 use Rattle.tables.specs.Tabled.{cellAt, Tabled}
 use Rattle.listing.specs.Streams.{Held, streamOf, streamAt, occurrences}
@@ -23,7 +23,7 @@ noChunk = record { size = 0; records = [] }
 
 -- The records of the chunks that a run of fingerprints names.
 unfoldable pub chunksIn : List ℕ → List ℕ → List ChunkRecords
-chunksIn index file = fileRecords form1 index (keysOf 20 (length file / 20) file)
+chunksIn index file = fileRecords form1 index (named file)
 
 abbrev pub chunkIn : List ChunkRecords → ℕ → ChunkRecords
 chunkIn chunks n = getD chunks n noChunk
@@ -46,11 +46,12 @@ pub record Directory (index : List ℕ) (directory entries : ℕ) (heads chain :
   pub counts : entries ≡ chunkCount index
   pub chained : Chained (keysFrom index directory 32 entries) 0 heads chain
 
--- The file is whole fingerprints of the directory, and is not too long.
-pub record File (index file : List ℕ) : Type 0 where
+-- The file is whole fingerprints of the directory and is not too long, and the slots have the entries of its first places.
+pub record File (index file slots : List ℕ) : Type 0 where
   pub whole : length file ≡ 20 * (length file / 20)
   pub found : (n : ℕ) → n < length file / 20 → positionOf (part file (20 * n) 20) (indexKeys index) < chunkCount index
   pub small : sizeOf (chunksIn index file) < 2 ^ 32
+  pub slotted : Slotted (indexKeys index) (named file) slots
 
 -- The keywords, their number, and their tables.
 pub record Keyed (index : List ℕ) (count : ℕ) (tables : List (List (List ℕ))) : Type 0 where
@@ -59,9 +60,9 @@ pub record Keyed (index : List ℕ) (count : ℕ) (tables : List (List (List ℕ
   pub few : count ≤ 16
   pub tabled : Tabled (foldedKeywords (listIn index)) tables
 
-pub record Walkable (index : List ℕ) (directory entries : ℕ) (heads chain : List ℕ) (tables : List (List (List ℕ))) (file : List ℕ) (count : ℕ) : Type 0 where
+pub record Walkable (index : List ℕ) (directory entries : ℕ) (heads chain : List ℕ) (tables : List (List (List ℕ))) (file slots : List ℕ) (count : ℕ) : Type 0 where
   pub known : Directory index directory entries heads chain
-  pub whole : File index file
+  pub whole : File index file slots
   pub keyed : Keyed index count tables
 
 -- ---- rows

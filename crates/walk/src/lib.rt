@@ -1,11 +1,12 @@
-// The occurrences of a file, one after the other, across its places. A file is a run of fingerprints in the recipes; each is looked up in
-// the index when the place before it is opened.
+// The occurrences of a file, one after the other, across its places. A file is a run of fingerprints in the recipes; the entry of each is
+// taken from its slot, or looked up in the index where it has none, when the place before it is opened.
 ghost use mathlib.Core.Path.{_≡_};
 ghost use Prim.Native.Nat.{_+_, _*_, _/_, _^_, _≤_, _<_};
 ghost use lib.ListN.{length, getD};
+ghost use Rattle.spec.specs.Bytes.{part, positionOf};
 ghost use Rattle.spec.specs.Records.{form1};
 ghost use Rattle.spec.specs.Keywords.{foldedKeywords};
-ghost use Rattle.spec.specs.Index.{listIn};
+ghost use Rattle.spec.specs.Index.{listIn, indexKeys};
 ghost use Rattle.spec.specs.Join.{joinFile};
 ghost use Rattle.walk.specs.Walking.{chunksIn, Directory, File, Keyed, Walkable, LoadedAt, Crossable, Crossed, AtPlace, Moved, NextOf, Counted, Listed};
 
@@ -21,6 +22,36 @@ const PLACE: usize = 2;
 
 const LEFT: usize = 3;
 
+// The entry of place n of a file.
+fn entry_at(
+    index: &[u8],
+    directory: usize,
+    entries: usize,
+    heads: &[u32],
+    chain: &[u32],
+    file: &[u8],
+    slots: &[u32],
+    n: usize,
+) -> usize
+    requires { ⌜ Directory (now index) directory entries (now heads) (now chain) ⌝ }
+    requires { ⌜ File (now index) (now file) (now slots) ⌝ }
+    requires { ⌜ n < length (now file) / 20 ⌝ }
+    ensures { λ r. ⌜ r ≡ positionOf (part (now (file .entry)) (20 * n) 20) (indexKeys (now (index .entry))) ⌝ }
+{
+    if n < slots.len() {
+        return slots[n] as usize;
+    }
+    directory::find(
+        index,
+        directory,
+        32,
+        entries,
+        heads,
+        chain,
+        &file[20 * n..20 * n + 20],
+    )
+}
+
 // Loads place n of a file, and returns its size. Behind the last place nothing is to be crossed into.
 fn load(
     index: &[u8],
@@ -29,12 +60,13 @@ fn load(
     heads: &[u32],
     chain: &[u32],
     file: &[u8],
+    slots: &[u32],
     n: usize,
     count: usize,
     rows: &mut [[usize; 4]; 16],
 ) -> usize
     requires { ⌜ Directory (now index) directory entries (now heads) (now chain) ⌝ }
-    requires { ⌜ File (now index) (now file) ⌝ }
+    requires { ⌜ File (now index) (now file) (now slots) ⌝ }
     requires { ⌜ (count ≡ length (foldedKeywords (listIn (now index)))) × (count ≤ 16) × (count ≤ length (now rows)) ⌝ }
     ensures { λ r. ⌜ LoadedAt (now (index .entry)) count (chunksIn (now (index .entry)) (now (file .entry))) n (now (rows .exit)) r ⌝ }
 {
@@ -43,15 +75,7 @@ fn load(
         *rows = none;
         return 0;
     }
-    let e = directory::find(
-        index,
-        directory,
-        32,
-        entries,
-        heads,
-        chain,
-        &file[20 * n..20 * n + 20],
-    );
+    let e = entry_at(index, directory, entries, heads, chain, file, slots, n);
     let entry = directory + 32 * e;
     let from = field::read(index, entry + 24, 4) as usize;
     let long = field::read(index, entry + 28, 4) as usize;
@@ -100,12 +124,13 @@ fn move_on(
     chain: &[u32],
     tables: &[[[u32; 32]; 32]; 16],
     file: &[u8],
+    slots: &[u32],
     count: usize,
     here: &mut [usize; 4],
     streams: &mut [[usize; 5]; 16],
     rows: &mut [[usize; 4]; 16],
 )
-    requires { ⌜ Walkable (now index) directory entries (now heads) (now chain) (now tables) (now file) count ⌝ }
+    requires { ⌜ Walkable (now index) directory entries (now heads) (now chain) (now tables) (now file) (now slots) count ⌝ }
     requires { ⌜ AtPlace (now index) count (chunksIn (now index) (now file)) (now here) (now streams) (now rows) ⌝ }
     requires { ⌜ getD (now here) 0 0 < length (now file) / 20 ⌝ }
     ensures { λ _. ⌜ Moved (now (index .entry)) count (chunksIn (now (index .entry)) (now (file .entry))) (now (here .entry)) (now (here .exit)) (now (streams .exit)) (now (rows .exit)) ⌝ }
@@ -123,6 +148,7 @@ fn move_on(
         heads,
         chain,
         file,
+        slots,
         n + 1,
         count,
         rows,
@@ -132,7 +158,7 @@ fn move_on(
 }
 
 // The next occurrence of a file: its keyword, and its offset in the file. The keyword is `count` where there is none.
-pub fn next(
+fn next(
     index: &[u8],
     directory: usize,
     entries: usize,
@@ -140,12 +166,13 @@ pub fn next(
     chain: &[u32],
     tables: &[[[u32; 32]; 32]; 16],
     file: &[u8],
+    slots: &[u32],
     count: usize,
     here: &mut [usize; 4],
     streams: &mut [[usize; 5]; 16],
     rows: &mut [[usize; 4]; 16],
 ) -> listing::Taken
-    requires { ⌜ Walkable (now index) directory entries (now heads) (now chain) (now tables) (now file) count ⌝ }
+    requires { ⌜ Walkable (now index) directory entries (now heads) (now chain) (now tables) (now file) (now slots) count ⌝ }
     requires { ⌜ AtPlace (now index) count (chunksIn (now index) (now file)) (now here) (now streams) (now rows) ⌝ }
     ensures { λ r. ⌜ NextOf (now (index .entry)) count (chunksIn (now (index .entry)) (now (file .entry))) (now (here .entry)) (now (streams .entry))
         (now (here .exit)) (now (streams .exit)) (now (rows .exit)) (r .keyword) (r .offset) ⌝ }
@@ -173,6 +200,7 @@ pub fn next(
             chain,
             tables,
             file,
+            slots,
             count,
             here,
             streams,
@@ -189,11 +217,12 @@ pub fn count_file(
     heads: &[u32],
     chain: &[u32],
     file: &[u8],
+    slots: &[u32],
     count: usize,
     tables: &[[[u32; 32]; 32]; 16],
 ) -> usize
     requires { ⌜ Directory (now index) directory entries (now heads) (now chain) ⌝ }
-    requires { ⌜ File (now index) (now file) ⌝ }
+    requires { ⌜ File (now index) (now file) (now slots) ⌝ }
     requires { ⌜ Keyed (now index) count (now tables) ⌝ }
     ensures { λ r. ⌜ Counted (now (index .entry)) (now (file .entry)) r ⌝ }
 {
@@ -206,6 +235,7 @@ pub fn count_file(
         heads,
         chain,
         file,
+        slots,
         0,
         count,
         &mut rows,
@@ -221,6 +251,7 @@ pub fn count_file(
             heads,
             chain,
             file,
+            slots,
             n + 1,
             count,
             &mut rows,
@@ -241,6 +272,7 @@ pub fn list_file(
     heads: &[u32],
     chain: &[u32],
     file: &[u8],
+    slots: &[u32],
     count: usize,
     tables: &[[[u32; 32]; 32]; 16],
     number: usize,
@@ -248,7 +280,7 @@ pub fn list_file(
     place: usize,
 ) -> usize
     requires { ⌜ Directory (now index) directory entries (now heads) (now chain) ⌝ }
-    requires { ⌜ File (now index) (now file) ⌝ }
+    requires { ⌜ File (now index) (now file) (now slots) ⌝ }
     requires { ⌜ Keyed (now index) count (now tables) ⌝ }
     requires { ⌜ place + 9 * length (joinFile number (foldedKeywords (listIn (now index))) (chunksIn (now index) (now file))) ≤ length (now out) ⌝ }
     ensures { λ r. ⌜ Listed (now (index .entry)) (now (file .entry)) number (now (out .entry)) (now (out .exit)) place r ⌝ }
@@ -263,6 +295,7 @@ pub fn list_file(
         heads,
         chain,
         file,
+        slots,
         0,
         count,
         &mut rows,
@@ -277,6 +310,7 @@ pub fn list_file(
             chain,
             tables,
             file,
+            slots,
             count,
             &mut here,
             &mut streams,

@@ -1,10 +1,7 @@
 -- `files::file_code` meets its contract: the measure's tests in their order. Assumes nothing.
-use mathlib.Core.Path.{_∙_}
-use lib.ListN.{drop}
 use denote.Ref.{now}
-use Rattle.spec.specs.Directory.{keysOf}
-use Rattle.files.specs.Measures.{keysAt, sizesAt}
-use Rattle.files.proofs.Measuring.{measured-code}
+use Rattle.files.specs.Measures.{named, keysAt, sizesAt}
+use Rattle.files.proofs.Measuring.{tested}
 use borrow.Author.Needs.{needs}
 use Rattle.files.proofs.file_code.Statement.{statement}
 use Rattle.files.proofs.file_code.Tie as tie
@@ -15,12 +12,16 @@ measure-file-requires c κs = search needs
 first-of-requires : tie.Need-first-of-requires
 first-of-requires c κs = search needs
 
+same-length : tie.Need-same-length
+same-length c = search needs
+
 returns : tie.Need-returns
 returns c =
-    let s = c .before .before .before .before .before .before .before in
-    c .first-of .ensures
-    ∙ measured-code (keysAt (s .args .index .now) (s .args .start) (s .args .count)) (sizesAt (s .args .index .now) (s .args .start)) (s .args .due)
-    (keysOf 20 (s .args .n) (drop (s .args .from) (s .args .recipes .now))) _ _ _ (c .before .before .measure-file .ensures)
+    let m = c .before .before .before .before in
+    let a = m .before .before .before .before .before .before .before .args in
+    let r = m .measure-file in
+    tested (keysAt (now (a .index)) (a .start) (a .count)) (sizesAt (now (a .index)) (a .start)) (a .due) (named (now (a .file))) (r .last .1 .1 .1 .1 .1 .1 .1 .0) (r .result .missing) (r .result .total) (r .result .short)
+    (c .first-of .result) (r .ensures) (c .first-of .ensures)
 
 pub file-code-spec : {M : Type 1} → statement M
-file-code-spec = tie.close (tie.spec measure-file-requires first-of-requires returns)
+file-code-spec = tie.close (tie.spec measure-file-requires first-of-requires same-length returns)

@@ -16,62 +16,62 @@ use Rattle.walk.proofs.cross.Reads as cross-reads
 use Rattle.walk.proofs.load.Reads as load-reads
 
 abbrev Inv-loop : tie.InvT-loop
-Inv-loop index directory entries heads chain file count tables rows₀ streams₀ size₀ sum₀ n₀ rows streams size sum n =
+Inv-loop index directory entries heads chain file slots count tables rows₀ streams₀ size₀ sum₀ n₀ rows streams size sum n =
     (n ≤ length file / 20) × (count ≤ length streams) × LoadedAt index count (chunksIn index file) n rows size × Counting index (chunksIn index file) n sum
 
 abbrev μ-loop : tie.MeasureT-loop
-μ-loop index directory entries heads chain file count tables rows₀ streams₀ size₀ sum₀ n₀ rows streams size sum n =
+μ-loop index directory entries heads chain file slots count tables rows₀ streams₀ size₀ sum₀ n₀ rows streams size sum n =
     length file / 20 - n
 
-turn : (c : tie.After-count-all Inv-loop μ-loop) → let p = c .before .before .before .before .before .before .before .before .before in let a = p .before .before .before .before .before .before .before .args in
+turn : (c : tie.After-count-all Inv-loop μ-loop) → let p = c .before .before .before .before .before .before .before .before .before in let a = p .before .before .before .before .before .before .before .before .args in
     Counting (a .index .now) (chunksIn (a .index .now) (a .file .now)) (p .loop .n + 1) (p .loop .sum + c .count-all .result)
 turn c =
     let p = c .before .before .before .before .before .before .before .before .before in
-    let s = p .before .before .before .before .before .before .before in
+    let s = p .before .before .before .before .before .before .before .before in
     let a = s .args in
     let chunks = chunksIn (a .index .now) (a .file .now) in
     let t = c .before .before .before .before .before .before .load2 in
     let x = c .before .before .cross in
-    counting-on (a .index .now) (a .count) (a .tables .now) chunks (s .pre .1 .1) (all-good (a .index .now) (a .directory) (a .entries) (a .heads .now) (a .chain .now) (a .tables .now) (a .file .now) (a .count) (walkable (a .index .now) (a .directory) (a .entries) (a .heads .now) (a .chain .now) (a .tables .now) (a .file .now) (a .count) (s .pre .0) (s .pre .1 .0) (s .pre .1 .1))) (p .loop .n) (p .loop .rows) (t .last .1 .1 .1 .1 .1 .1 .1 .1 .0) (p .loop .size) (t .result) (in-chunks (a .index .now) (a .file .now) (p .loop .n) (c .before .before .before .before .before .before .before .before .loop-test .taken)) (p .loop .inv .2) (t .ensures) (x .last .1 .1 .1 .1 .1 .0) (x .ensures) (p .loop .sum) (p .loop .inv .3) (c .count-all .result) (c .count-all .ensures)
+    counting-on (a .index .now) (a .count) (a .tables .now) chunks (s .pre .1 .1) (all-good (a .index .now) (a .directory) (a .entries) (a .heads .now) (a .chain .now) (a .tables .now) (a .file .now) (a .slots .now) (a .count) (walkable (a .index .now) (a .directory) (a .entries) (a .heads .now) (a .chain .now) (a .tables .now) (a .file .now) (a .slots .now) (a .count) (s .pre .0) (s .pre .1 .0) (s .pre .1 .1))) (p .loop .n) (p .loop .rows) (t .last .1 .1 .1 .1 .1 .1 .1 .1 .1 .0) (p .loop .size) (t .result) (in-chunks (a .index .now) (a .file .now) (p .loop .n) (c .before .before .before .before .before .before .before .before .loop-test .taken)) (p .loop .inv .2) (t .ensures) (x .last .1 .1 .1 .1 .1 .0) (x .ensures) (p .loop .sum) (p .loop .inv .3) (c .count-all .result) (c .count-all .ensures)
 
 load-requires : tie.Need-load-requires Inv-loop μ-loop
-load-requires c κs = let s = c .before .before .before .before .before in
+load-requires c κs = let s = c .before .before .before .before .before .before in
     (s .pre .0, (s .pre .1 .0, (s .pre .1 .1 .counts, s .pre .1 .1 .few, s .pre .1 .1 .few)))
 
 loop-holds : tie.Need-loop-holds Inv-loop μ-loop
-loop-holds c = let s = c .before .before .before .before .before .before in
+loop-holds c = let s = c .before .before .before .before .before .before .before in
     (omega arith, s .pre .1 .1 .few, c .load .ensures, counting-start (s .args .index .now) (chunksIn (s .args .index .now) (s .args .file .now)))
 
 add-load : tie.Need-add-load Inv-loop μ-loop
-add-load c = omega (arith, c .loop-test .taken, c .before .before .before .before .before .before .before .before)
+add-load c = omega (arith, c .loop-test .taken, c .before .before .before .before .before .before .before .before .before)
 
 load-requires-2 : tie.Need-load-requires-2 Inv-loop μ-loop
 load-requires-2 c κs = let p = c .before .before in
-    let s = p .before .before .before .before .before .before .before in
+    let s = p .before .before .before .before .before .before .before .before in
     (s .pre .0, (s .pre .1 .0, (s .pre .1 .1 .counts, s .pre .1 .1 .few, p .loop .inv .2 .long)))
 
 cross-requires : tie.Need-cross-requires Inv-loop μ-loop
 cross-requires c κs = let p = c .before .before .before .before .before .before in
-    let s = p .before .before .before .before .before .before .before in
+    let s = p .before .before .before .before .before .before .before .before in
     let a = s .args in
     let chunks = chunksIn (a .index .now) (a .file .now) in
     let t = c .before .before .before .load2 in
-    (s .pre .1 .1 .few, p .loop .inv .1, crossable (a .index .now) (a .count) (a .tables .now) chunks (s .pre .1 .1) (all-good (a .index .now) (a .directory) (a .entries) (a .heads .now) (a .chain .now) (a .tables .now) (a .file .now) (a .count) (walkable (a .index .now) (a .directory) (a .entries) (a .heads .now) (a .chain .now) (a .tables .now) (a .file .now) (a .count) (s .pre .0) (s .pre .1 .0) (s .pre .1 .1))) (p .loop .n) (p .loop .rows) (t .last .1 .1 .1 .1 .1 .1 .1 .1 .0) (p .loop .size) (t .result) (in-chunks (a .index .now) (a .file .now) (p .loop .n) (c .before .before .before .before .before .loop-test .taken)) (p .loop .inv .2) (t .ensures))
+    (s .pre .1 .1 .few, p .loop .inv .1, crossable (a .index .now) (a .count) (a .tables .now) chunks (s .pre .1 .1) (all-good (a .index .now) (a .directory) (a .entries) (a .heads .now) (a .chain .now) (a .tables .now) (a .file .now) (a .slots .now) (a .count) (walkable (a .index .now) (a .directory) (a .entries) (a .heads .now) (a .chain .now) (a .tables .now) (a .file .now) (a .slots .now) (a .count) (s .pre .0) (s .pre .1 .0) (s .pre .1 .1))) (p .loop .n) (p .loop .rows) (t .last .1 .1 .1 .1 .1 .1 .1 .1 .1 .0) (p .loop .size) (t .result) (in-chunks (a .index .now) (a .file .now) (p .loop .n) (c .before .before .before .before .before .loop-test .taken)) (p .loop .inv .2) (t .ensures))
 
 count-all-requires : tie.Need-count-all-requires Inv-loop μ-loop
 count-all-requires c κs = let p = c .before .before .before .before .before .before .before .before in
-    let s = p .before .before .before .before .before .before .before in
+    let s = p .before .before .before .before .before .before .before .before in
     let a = s .args in
     let chunks = chunksIn (a .index .now) (a .file .now) in
     let t = c .before .before .before .before .before .load2 in
     let x = c .before .cross in
-    (s .pre .1 .1 .few, streams-small (a .index .now) (a .count) (a .tables .now) chunks (s .pre .1 .1) (all-good (a .index .now) (a .directory) (a .entries) (a .heads .now) (a .chain .now) (a .tables .now) (a .file .now) (a .count) (walkable (a .index .now) (a .directory) (a .entries) (a .heads .now) (a .chain .now) (a .tables .now) (a .file .now) (a .count) (s .pre .0) (s .pre .1 .0) (s .pre .1 .1))) (p .loop .n) (p .loop .rows) (t .last .1 .1 .1 .1 .1 .1 .1 .1 .0) (p .loop .size) (t .result) (in-chunks (a .index .now) (a .file .now) (p .loop .n) (c .before .before .before .before .before .before .before .loop-test .taken)) (p .loop .inv .2) (t .ensures) (x .last .1 .1 .1 .1 .1 .0) (x .ensures) (p .loop .sum) (p .loop .inv .3) (s .pre .1 .0 .small))
+    (s .pre .1 .1 .few, streams-small (a .index .now) (a .count) (a .tables .now) chunks (s .pre .1 .1) (all-good (a .index .now) (a .directory) (a .entries) (a .heads .now) (a .chain .now) (a .tables .now) (a .file .now) (a .slots .now) (a .count) (walkable (a .index .now) (a .directory) (a .entries) (a .heads .now) (a .chain .now) (a .tables .now) (a .file .now) (a .slots .now) (a .count) (s .pre .0) (s .pre .1 .0) (s .pre .1 .1))) (p .loop .n) (p .loop .rows) (t .last .1 .1 .1 .1 .1 .1 .1 .1 .1 .0) (p .loop .size) (t .result) (in-chunks (a .index .now) (a .file .now) (p .loop .n) (c .before .before .before .before .before .before .before .loop-test .taken)) (p .loop .inv .2) (t .ensures) (x .last .1 .1 .1 .1 .1 .0) (x .ensures) (p .loop .sum) (p .loop .inv .3) (s .pre .1 .0 .small))
 
 add-sum : tie.Need-add-sum Inv-loop μ-loop
-add-sum c = omega (arith, turn c .most, c .before .before .before .before .before .before .before .before .before .before .before .before .before .before .before .before .pre .1 .0 .small)
+add-sum c = omega (arith, turn c .most, c .before .before .before .before .before .before .before .before .before .before .before .before .before .before .before .before .before .pre .1 .0 .small)
 
 add-n : tie.Need-add-n Inv-loop μ-loop
-add-n c = omega (arith, c .before .before .before .before .before .before .before .before .loop-test .taken, c .before .before .before .before .before .before .before .before .before .before .before .before .before .before .before .before)
+add-n c = omega (arith, c .before .before .before .before .before .before .before .before .loop-test .taken, c .before .before .before .before .before .before .before .before .before .before .before .before .before .before .before .before .before)
 
 loop-less : tie.Need-loop-less Inv-loop μ-loop
 loop-less c = omega (arith, c .before .before .before .before .before .before .before .before .loop-test .taken)
@@ -81,7 +81,7 @@ loop-again c = (omega (arith, c .before .before .before .before .before .before 
 
 returns : tie.Need-returns Inv-loop μ-loop
 returns c = let p = c .before in
-    let s = p .before .before .before .before .before .before .before in
+    let s = p .before .before .before .before .before .before .before .before in
     let a = s .args in
     counting-end (a .index .now) (a .file .now) (p .loop .n) (p .loop .sum) (s .pre .1 .0 .small) (out-chunks (a .index .now) (a .file .now) (p .loop .n) (c .loop-test .left)) (p .loop .inv .3)
 

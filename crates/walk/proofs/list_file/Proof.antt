@@ -18,40 +18,40 @@ use Rattle.walk.proofs.load.Reads as load-reads
 use Rattle.walk.proofs.next.Reads as next-reads
 
 abbrev Inv-loop : tie.InvT-loop
-Inv-loop index directory entries heads chain file count tables number out₀ place here₀ streams₀ rows₀ p₀ out here streams rows p =
+Inv-loop index directory entries heads chain file slots count tables number out₀ place here₀ streams₀ rows₀ p₀ out here streams rows p =
     AtPlace index count (chunksIn index file) here streams rows
     × Going out₀ out place p (listBytes (joinFile number (foldedKeywords (listIn index)) (chunksIn index file))) (listBytes (coming number index count (chunksIn index file) here streams))
 
 abbrev μ-loop : tie.MeasureT-loop
-μ-loop index directory entries heads chain file count tables number out₀ place here₀ streams₀ rows₀ p₀ out here streams rows p =
+μ-loop index directory entries heads chain file slots count tables number out₀ place here₀ streams₀ rows₀ p₀ out here streams rows p =
     length (coming number index count (chunksIn index file) here streams)
 
 load-requires : tie.Need-load-requires Inv-loop μ-loop
-load-requires c κs = let s = c .before .before .before .before .before .before in
+load-requires c κs = let s = c .before .before .before .before .before .before .before in
     (s .pre .0, (s .pre .1 .0, (s .pre .1 .1 .0 .counts, s .pre .1 .1 .0 .few, s .pre .1 .1 .0 .few)))
 
 array-write-here : tie.Need-array-write-here Inv-loop μ-loop
 array-write-here c = search needs
 
 loop-holds : tie.Need-loop-holds Inv-loop μ-loop
-loop-holds c = let s = c .before .before .before .before .before .before .before in
+loop-holds c = let s = c .before .before .before .before .before .before .before .before in
     let a = s .args in (
-      first-place (a .index .now) (a .file .now) (a .count) (c .load .last .1 .1 .1 .1 .1 .1 .1 .1 .0) (c .load .result) (s .pre .1 .1 .0 .few) (s .pre .1 .0) (c .load .ensures),
-      first-going (a .index .now) (a .file .now) (a .count) (c .load .last .1 .1 .1 .1 .1 .1 .1 .1 .0) (c .load .result) (a .out .now) (a .place) (a .number),
+      first-place (a .index .now) (a .file .now) (a .count) (c .load .last .1 .1 .1 .1 .1 .1 .1 .1 .1 .0) (c .load .result) (a .slots .now) (s .pre .1 .1 .0 .few) (s .pre .1 .0) (c .load .ensures),
+      first-going (a .index .now) (a .file .now) (a .count) (c .load .last .1 .1 .1 .1 .1 .1 .1 .1 .1 .0) (c .load .result) (a .out .now) (a .place) (a .number),
     )
 
 next-requires : tie.Need-next-requires Inv-loop μ-loop
 next-requires c κs = let p = c .before .before .before in
-    let s = p .before .before .before .before .before .before .before .before in
+    let s = p .before .before .before .before .before .before .before .before .before in
     let a = s .args in
-    ((walkable (a .index .now) (a .directory) (a .entries) (a .heads .now) (a .chain .now) (a .tables .now) (a .file .now) (a .count) (s .pre .0) (s .pre .1 .0) (s .pre .1 .1 .0)), p .loop .inv .0)
+    ((walkable (a .index .now) (a .directory) (a .entries) (a .heads .now) (a .chain .now) (a .tables .now) (a .file .now) (a .slots .now) (a .count) (s .pre .0) (s .pre .1 .0) (s .pre .1 .1 .0)), p .loop .inv .0)
 
 same-length : tie.Need-same-length Inv-loop μ-loop
 same-length c = c .before .before .before .before .before .before .loop .inv .1 .same
 
 returns : tie.Need-returns Inv-loop μ-loop
 returns c = let p = c .before .before .before .before .before .before in
-    let s = p .before .before .before .before .before .before .before .before in
+    let s = p .before .before .before .before .before .before .before .before .before in
     let a = s .args in
     let keywords = foldedKeywords (listIn (a .index .now)) in
     let chunks = chunksIn (a .index .now) (a .file .now) in
@@ -61,25 +61,25 @@ returns c = let p = c .before .before .before .before .before .before in
 
 put-requires : tie.Need-put-requires Inv-loop μ-loop
 put-requires c κs = let p = c .before .before .before .before .before .before .before in
-    let s = p .before .before .before .before .before .before .before .before in
+    let s = p .before .before .before .before .before .before .before .before .before in
     let a = s .args in
     let keywords = foldedKeywords (listIn (a .index .now)) in
     let chunks = chunksIn (a .index .now) (a .file .now) in
     let n = c .before .before .before .next in
-    (list-room (a .out .now) (p .loop .out) (a .place) (p .loop .p) (joinFile (a .number) keywords chunks) (coming (a .number) (a .index .now) (a .count) chunks (p .loop .here) (p .loop .streams)) (p .loop .inv .1) (record { file = a .number; offset = n .result .offset; keyword = n .result .keyword }) (coming (a .number) (a .index .now) (a .count) chunks (n .last .1 .1 .1 .1 .1 .1 .1 .1 .0) (n .last .1 .1 .1 .1 .1 .1 .1 .1 .1 .0)) (s .pre .1 .1 .1) (n .ensures .found (c .before .if1 .left) (a .number)), omega (arith, s .pre .1 .1 .0 .few, c .before .if1 .left))
+    (list-room (a .out .now) (p .loop .out) (a .place) (p .loop .p) (joinFile (a .number) keywords chunks) (coming (a .number) (a .index .now) (a .count) chunks (p .loop .here) (p .loop .streams)) (p .loop .inv .1) (record { file = a .number; offset = n .result .offset; keyword = n .result .keyword }) (coming (a .number) (a .index .now) (a .count) chunks (n .last .1 .1 .1 .1 .1 .1 .1 .1 .1 .0) (n .last .1 .1 .1 .1 .1 .1 .1 .1 .1 .1 .0)) (s .pre .1 .1 .1) (n .ensures .found (c .before .if1 .left) (a .number)), omega (arith, s .pre .1 .1 .0 .few, c .before .if1 .left))
 
 add-p : tie.Need-add-p Inv-loop μ-loop
 add-p c = let p = c .before .before .before .before .before .before .before .before .before .before in
-    let s = p .before .before .before .before .before .before .before .before in
+    let s = p .before .before .before .before .before .before .before .before .before in
     let a = s .args in
     let keywords = foldedKeywords (listIn (a .index .now)) in
     let chunks = chunksIn (a .index .now) (a .file .now) in
     let n = c .before .before .before .before .before .before .next in
-    omega (arith, list-room (a .out .now) (p .loop .out) (a .place) (p .loop .p) (joinFile (a .number) keywords chunks) (coming (a .number) (a .index .now) (a .count) chunks (p .loop .here) (p .loop .streams)) (p .loop .inv .1) (record { file = a .number; offset = n .result .offset; keyword = n .result .keyword }) (coming (a .number) (a .index .now) (a .count) chunks (n .last .1 .1 .1 .1 .1 .1 .1 .1 .0) (n .last .1 .1 .1 .1 .1 .1 .1 .1 .1 .0)) (s .pre .1 .1 .1) (n .ensures .found (c .before .before .before .before .if1 .left) (a .number)), p .loop .inv .1 .same, s)
+    omega (arith, list-room (a .out .now) (p .loop .out) (a .place) (p .loop .p) (joinFile (a .number) keywords chunks) (coming (a .number) (a .index .now) (a .count) chunks (p .loop .here) (p .loop .streams)) (p .loop .inv .1) (record { file = a .number; offset = n .result .offset; keyword = n .result .keyword }) (coming (a .number) (a .index .now) (a .count) chunks (n .last .1 .1 .1 .1 .1 .1 .1 .1 .1 .0) (n .last .1 .1 .1 .1 .1 .1 .1 .1 .1 .1 .0)) (s .pre .1 .1 .1) (n .ensures .found (c .before .before .before .before .if1 .left) (a .number)), p .loop .inv .1 .same, s)
 
 loop-less : tie.Need-loop-less Inv-loop μ-loop
 loop-less c = let p = c .before .before .before .before .before .before .before .before .before .before in
-    let s = p .before .before .before .before .before .before .before .before in
+    let s = p .before .before .before .before .before .before .before .before .before in
     let a = s .args in
     let keywords = foldedKeywords (listIn (a .index .now)) in
     let chunks = chunksIn (a .index .now) (a .file .now) in
@@ -88,12 +88,12 @@ loop-less c = let p = c .before .before .before .before .before .before .before 
 
 loop-again : tie.Need-loop-again Inv-loop μ-loop
 loop-again c = let p = c .before .before .before .before .before .before .before .before .before .before in
-    let s = p .before .before .before .before .before .before .before .before in
+    let s = p .before .before .before .before .before .before .before .before .before in
     let a = s .args in
     let keywords = foldedKeywords (listIn (a .index .now)) in
     let chunks = chunksIn (a .index .now) (a .file .now) in
     let n = c .before .before .before .before .before .before .next in
-    (n .ensures .at, list-on (a .out .now) (p .loop .out) (a .place) (p .loop .p) (joinFile (a .number) keywords chunks) (coming (a .number) (a .index .now) (a .count) chunks (p .loop .here) (p .loop .streams)) (p .loop .inv .1) (c .before .before .put .last .0) (record { file = a .number; offset = n .result .offset; keyword = n .result .keyword }) (coming (a .number) (a .index .now) (a .count) chunks (n .last .1 .1 .1 .1 .1 .1 .1 .1 .0) (n .last .1 .1 .1 .1 .1 .1 .1 .1 .1 .0)) (s .pre .1 .1 .1) (n .ensures .found (c .before .before .before .before .if1 .left) (a .number)) (c .before .before .put .ensures))
+    (n .ensures .at, list-on (a .out .now) (p .loop .out) (a .place) (p .loop .p) (joinFile (a .number) keywords chunks) (coming (a .number) (a .index .now) (a .count) chunks (p .loop .here) (p .loop .streams)) (p .loop .inv .1) (c .before .before .put .last .0) (record { file = a .number; offset = n .result .offset; keyword = n .result .keyword }) (coming (a .number) (a .index .now) (a .count) chunks (n .last .1 .1 .1 .1 .1 .1 .1 .1 .1 .0) (n .last .1 .1 .1 .1 .1 .1 .1 .1 .1 .1 .0)) (s .pre .1 .1 .1) (n .ensures .found (c .before .before .before .before .if1 .left) (a .number)) (c .before .before .put .ensures))
 
 pub list-file-spec : {M : Type 1} → statement M
 list-file-spec =

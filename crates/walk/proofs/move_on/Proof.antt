@@ -50,27 +50,27 @@ element-write-here-4 : tie.Need-element-write-here-4
 element-write-here-4 c = search needs
 
 cross-requires : tie.Need-cross-requires
-cross-requires c κs = let s = c .before .before .before .before .before .before .before .before .before .before .before .before .before .before in
+cross-requires c κs = let s = c .before .before .before .before .before .before .before .before .before .before .before .before .before .before .before in
     let a = s .args in
     let chunks = chunksIn (a .index .now) (a .file .now) in
     let t = c .before .before .before .load in
-    (s .pre .0 .keyed .few, s .pre .1 .0 .held .long, moved-crossable (a .index .now) (a .count) (a .tables .now) chunks (s .pre .0 .keyed) (all-good (a .index .now) (a .directory) (a .entries) (a .heads .now) (a .chain .now) (a .tables .now) (a .file .now) (a .count) (s .pre .0)) (a .here .now) (a .streams .now) (a .rows .now) (s .pre .1 .0) (in-chunks (a .index .now) (a .file .now) (getD (a .here .now) 0 0) (s .pre .1 .1)) (t .last .1 .1 .1 .1 .1 .1 .1 .1 .0) (t .result) (t .ensures))
+    (s .pre .0 .keyed .few, s .pre .1 .0 .held .long, moved-crossable (a .index .now) (a .count) (a .tables .now) chunks (s .pre .0 .keyed) (all-good (a .index .now) (a .directory) (a .entries) (a .heads .now) (a .chain .now) (a .tables .now) (a .file .now) (a .slots .now) (a .count) (s .pre .0)) (a .here .now) (a .streams .now) (a .rows .now) (s .pre .1 .0) (in-chunks (a .index .now) (a .file .now) (getD (a .here .now) 0 0) (s .pre .1 .1)) (t .last .1 .1 .1 .1 .1 .1 .1 .1 .1 .0) (t .result) (t .ensures))
 
 open-requires : tie.Need-open-requires
-open-requires c κs = let s = c .before .before .before .before .before .before .before .before .before .before .before .before .before .before .before .before in
+open-requires c κs = let s = c .before .before .before .before .before .before .before .before .before .before .before .before .before .before .before .before .before in
     let a = s .args in
     let chunks = chunksIn (a .index .now) (a .file .now) in
     let t = c .before .before .before .before .before .load in
     let x = c .before .cross in
-    (s .pre .0 .keyed .few, omega arith, moved-ready (a .index .now) (a .count) (a .tables .now) chunks (s .pre .0 .keyed) (all-good (a .index .now) (a .directory) (a .entries) (a .heads .now) (a .chain .now) (a .tables .now) (a .file .now) (a .count) (s .pre .0)) (a .here .now) (a .streams .now) (a .rows .now) (s .pre .1 .0) (in-chunks (a .index .now) (a .file .now) (getD (a .here .now) 0 0) (s .pre .1 .1)) (t .last .1 .1 .1 .1 .1 .1 .1 .1 .0) (t .result) (t .ensures) (x .last .1 .1 .1 .1 .1 .0) (x .ensures))
+    (s .pre .0 .keyed .few, omega arith, moved-ready (a .index .now) (a .count) (a .tables .now) chunks (s .pre .0 .keyed) (all-good (a .index .now) (a .directory) (a .entries) (a .heads .now) (a .chain .now) (a .tables .now) (a .file .now) (a .slots .now) (a .count) (s .pre .0)) (a .here .now) (a .streams .now) (a .rows .now) (s .pre .1 .0) (in-chunks (a .index .now) (a .file .now) (getD (a .here .now) 0 0) (s .pre .1 .1)) (t .last .1 .1 .1 .1 .1 .1 .1 .1 .1 .0) (t .result) (t .ensures) (x .last .1 .1 .1 .1 .1 .0) (x .ensures))
 
 returns : tie.Need-returns
-returns c = let s = c .before .before .before .before .before .before .before .before .before .before .before .before .before .before .before .before .before in
+returns c = let s = c .before .before .before .before .before .before .before .before .before .before .before .before .before .before .before .before .before .before in
     let a = s .args in
     let chunks = chunksIn (a .index .now) (a .file .now) in
     let t = c .before .before .before .before .before .before .load in
     let x = c .before .before .cross in
-    moved-on (a .index .now) (a .count) (a .tables .now) chunks (s .pre .0 .keyed) (all-good (a .index .now) (a .directory) (a .entries) (a .heads .now) (a .chain .now) (a .tables .now) (a .file .now) (a .count) (s .pre .0)) (a .here .now) (a .streams .now) (a .rows .now) (s .pre .1 .0) (in-chunks (a .index .now) (a .file .now) (getD (a .here .now) 0 0) (s .pre .1 .1)) (t .last .1 .1 .1 .1 .1 .1 .1 .1 .0) (t .result) (t .ensures) (x .last .1 .1 .1 .1 .1 .0) (x .ensures) (c .«open» .last .1 .1 .1 .1 .0) (c .«open» .ensures)
+    moved-on (a .index .now) (a .count) (a .tables .now) chunks (s .pre .0 .keyed) (all-good (a .index .now) (a .directory) (a .entries) (a .heads .now) (a .chain .now) (a .tables .now) (a .file .now) (a .slots .now) (a .count) (s .pre .0)) (a .here .now) (a .streams .now) (a .rows .now) (s .pre .1 .0) (in-chunks (a .index .now) (a .file .now) (getD (a .here .now) 0 0) (s .pre .1 .1)) (t .last .1 .1 .1 .1 .1 .1 .1 .1 .1 .0) (t .result) (t .ensures) (x .last .1 .1 .1 .1 .1 .0) (x .ensures) (c .«open» .last .1 .1 .1 .1 .0) (c .«open» .ensures)
 
 pub move-on-spec : {M : Type 1} → statement M
 move-on-spec =

@@ -15,34 +15,34 @@ use Rattle.listing.proofs.next.Reads as next-reads
 use Rattle.walk.proofs.move_on.Reads as move-on-reads
 
 abbrev Inv-loop : tie.InvT-loop
-Inv-loop index directory entries heads chain tables file count here₀ streams₀ rows₀ here streams rows =
+Inv-loop index directory entries heads chain tables file slots count here₀ streams₀ rows₀ here streams rows =
     AtPlace index count (chunksIn index file) here streams rows
     × ((number : ℕ) → coming number index count (chunksIn index file) here₀ streams₀ ≡ coming number index count (chunksIn index file) here streams)
 
 abbrev μ-loop : tie.MeasureT-loop
-μ-loop index directory entries heads chain tables file count here₀ streams₀ rows₀ here streams rows =
+μ-loop index directory entries heads chain tables file slots count here₀ streams₀ rows₀ here streams rows =
     length file / 20 - getD here 0 0
 
 loop-holds : tie.Need-loop-holds Inv-loop μ-loop
-loop-holds c = (c .before .before .before .before .pre .1, λ file. refl)
+loop-holds c = (c .before .before .before .before .before .pre .1, λ file. refl)
 
 element-copy-out-size : tie.Need-element-copy-out-size Inv-loop μ-loop
 element-copy-out-size c = search needs
 
 next-requires : tie.Need-next-requires Inv-loop μ-loop
 next-requires c κs = let p = c .before .before in
-    let s = p .before .before .before .before .before in
+    let s = p .before .before .before .before .before .before in
     (s .pre .0 .keyed .some, s .pre .0 .keyed .few, omega arith, p .loop .inv .0 .held)
 
-element-copy-out-t21 : tie.Need-element-copy-out-t21 Inv-loop μ-loop
-element-copy-out-t21 c = search needs
+element-copy-out-t22 : tie.Need-element-copy-out-t22 Inv-loop μ-loop
+element-copy-out-t22 c = search needs
 
-add-t22 : tie.Need-add-t22 Inv-loop μ-loop
-add-t22 c = omega (arith, c .before .before .before .before .before .before .before .loop .inv .0 .small, c .before .before .if1 .taken)
+add-t23 : tie.Need-add-t23 Inv-loop μ-loop
+add-t23 c = omega (arith, c .before .before .before .before .before .before .before .loop .inv .0 .small, c .before .before .if1 .taken)
 
 returns : tie.Need-returns Inv-loop μ-loop
 returns c = let p = c .before .before .before .before .before .before .before in
-    let s = p .before .before .before .before .before in
+    let s = p .before .before .before .before .before .before in
     let a = s .args in
     let chunks = chunksIn (a .index .now) (a .file .now) in
     let t = c .before .before .before .before .next in
@@ -53,7 +53,7 @@ element-copy-out-if2 c = search needs
 
 returns-2 : tie.Need-returns-2 Inv-loop μ-loop
 returns-2 c = let p = c .before .before .before .before .before .before .before in
-    let s = p .before .before .before .before .before in
+    let s = p .before .before .before .before .before .before in
     let a = s .args in
     let chunks = chunksIn (a .index .now) (a .file .now) in
     let t = c .before .before .before .before .next in
@@ -61,7 +61,7 @@ returns-2 c = let p = c .before .before .before .before .before .before .before 
 
 move-on-requires : tie.Need-move-on-requires Inv-loop μ-loop
 move-on-requires c κs = let p = c .before .before .before .before .before .before .before .before .before .before in
-    let s = p .before .before .before .before .before in
+    let s = p .before .before .before .before .before .before in
     let a = s .args in
     let chunks = chunksIn (a .index .now) (a .file .now) in
     let t = c .before .before .before .before .before .before .before .next in
@@ -72,7 +72,7 @@ loop-less c = omega (arith, c .move-on .ensures .more, c .before .before .before
 
 loop-again : tie.Need-loop-again Inv-loop μ-loop
 loop-again c = let p = c .before .before .before .before .before .before .before .before .before .before .before in
-    let s = p .before .before .before .before .before in
+    let s = p .before .before .before .before .before .before in
     let a = s .args in
     let chunks = chunksIn (a .index .now) (a .file .now) in
     let t = c .before .before .before .before .before .before .before .before .next in
@@ -87,8 +87,8 @@ next-spec =
     loop-holds
     element-copy-out-size
     next-requires
-    element-copy-out-t21
-    add-t22
+    element-copy-out-t22
+    add-t23
     returns
     element-copy-out-if2
     returns-2
