@@ -6,19 +6,14 @@ use Rattle.spec.specs.Directory.{sizeAt}
 use Rattle.spec.specs.Keywords.{listSize}
 use Rattle.spec.specs.Store.{chunkCount}
 use Rattle.spec.specs.Index.{listIn, indexLayout, indexKeys}
-use Rattle.spec.specs.Recipes.{filesCode}
-use Rattle.files.specs.Measures.{keysAt, sizesAt}
+use Rattle.files.specs.Measures.{keysAt, sizesAt, Tested}
 
 module _ (index : List ℕ) (start count : ℕ) (s : start ≡ 8 + listSize (listIn index)) (c : count ≡ chunkCount index) where
   pub index-keys : keysAt index start count ≡ indexKeys index
   unfolding indexKeys indexLayout
   index-keys = rw (s, c)
 
-  pub index-size : (k : ℕ) → sizesAt index start k ≡ sizeAt (indexLayout index) index k
-  unfolding indexLayout
-  index-size k = rw s
-
-  pub index-files : (due : ℕ) (files : List (List (List ℕ)))
-      → filesCode (keysAt index start count) (sizesAt index start) due files ≡ filesCode (indexKeys index) (sizeAt (indexLayout index) index) due files
+  pub index-tested : (due : ℕ) (file : List (List ℕ)) (slots : List ℕ) (code : ℕ) → Tested (keysAt index start count) (sizesAt index start) due file slots code
+      → Tested (indexKeys index) (sizeAt (indexLayout index) index) due file slots code
   unfolding indexKeys indexLayout
-  index-files due files = rw (s, c)
+  index-tested due file slots code t = rw (s, c) at t

@@ -8,7 +8,7 @@ use lib.ListN.{length, take, drop, getD, set, length-drop}
 use lib.Seq.{length-take-le}
 use Rattle.spec.specs.Bytes.{part, positionOf}
 use Rattle.spec.proofs.EntryLaws.{length-keys, key-at}
-use Rattle.files.specs.Measures.{named, keysAt, sizesAt, innerShort, Measured}
+use Rattle.files.specs.Measures.{named, keysAt, sizesAt, innerShort, Slotted, Measured}
 use Rattle.files.proofs.Measuring.{Measuring, measured-missing, measuring-on, measuring-end}
 
 -- ---- the slice of a fingerprint
@@ -21,6 +21,10 @@ slice-length file at h = rw (slice-size at) (length-take-le 20 (drop at file) (r
 
 pub slice-part : (file : List ℕ) (at : ℕ) → take (at + 20 - at) (drop at file) ≡ part file at 20
 slice-part file at = ap (λ (n : ℕ). take n (drop at file)) (slice-size at)
+
+-- no slots hold nothing
+pub no-slots : (keys file : List (List ℕ)) → Slotted keys file []
+no-slots keys file = record { each = λ j h l. let z : ⊥ = omega arith in absurd z }
 
 -- ---- one place
 

@@ -1,42 +1,30 @@
--- The files one after the other: what is left to list from file k on, that it starts with file k's list, and that file k can be walked.
--- A file's slice is the definition's file (its fingerprints are read alike); what 15 and 16 test is what the walk asks. Assumes nothing.
+-- The files one after the other: what is left to test and to list from file k on, that it starts with file k, and that an accepted file can
+-- be walked. A file's slice is the definition's file (its fingerprints are read alike); what 15 and 16 test is what the walk asks.
+-- Assumes nothing.
 use mathlib.Core.Path.{_≡_, refl, sym, ap, ap₂, _∙_}
 use mathlib.Core.List.{List, [], _∷_, _++_, map}
-use Prim.Native.Nat.{ℕ, zero, suc, _+_, _-_, _*_, _/_, _≤_, _<_}
-use native.Mathlib.Nat.{add-sub-cancel-left}
+use Prim.Native.Nat.{ℕ, zero, suc, _+_, _-_, _*_, _/_, _^_, _≤_, _<_}
+use native.Mathlib.Nat.{add-sub-cancel-left, add-zero}
 use native.Mathlib.Numerals.{add-one}
 use native.Mathlib.Omega.{arith}
 use lib.ListN.{length, take, drop, getD, length-drop}
-use lib.Seq.{take-take, length-take-le}
+use lib.Seq.{take-take, length-take-le, getD-drop}
 use Rattle.spec.specs.Bytes.{part, fieldAt, positionOf, sum}
+use Rattle.spec.specs.Outcome.{firstCode}
 use Rattle.spec.specs.Keywords.{foldedKeywords}
 use Rattle.spec.specs.Directory.{keysOf, sizeAt}
 use Rattle.spec.specs.Records.{form1}
-use Rattle.spec.specs.Index.{listIn, indexLayout, indexKeys, indexRecords, indexCode}
-use Rattle.spec.specs.Recipes.{fileCount, filesOf, recipesCode, sizesIn, filesCode}
-use Rattle.spec.specs.Join.{Occurrence, joinFile, joinFiles, fileRecords, joinList, due, joinableCode}
-use Rattle.spec.proofs.Codes.{passed-whole}
+use Rattle.spec.specs.Index.{listIn, indexLayout, indexKeys, indexRecords}
+use Rattle.spec.specs.Recipes.{fileCount, filesOf, sizesIn, fileCode, filesCode}
+use Rattle.spec.specs.Join.{Occurrence, joinFile, joinFiles, fileRecords, joinList, due}
 use Rattle.spec.proofs.EntryLaws.{length-keys, key-at}
 use Rattle.spec.proofs.IndexChecks.{length-indexKeys}
-use Rattle.spec.proofs.FileLaws.{FileAccepted, file-accepted, files-cons, files-drop}
+use Rattle.spec.proofs.FileLaws.{file-accepted, files-cons, files-drop}
 use Rattle.loader.proofs.Rows.{drop-take}
 use Rattle.recipes.proofs.Files.{Walk, walk-file, walk-files, walk-on, walk-end}
+use Rattle.files.specs.Measures.{named, Slotted}
 use Rattle.walk.specs.Walking.{chunksIn, sizeOf, File}
-
--- ---- what the code 0 gives
-
-pub record Passes (index recipes : List ℕ) : Type 0 where
-  pub indexed : indexCode form1 index ≡ 0
-  pub named : recipesCode recipes ≡ 0
-  pub files : filesCode (indexKeys index) (sizeAt (indexLayout index) index) (due form1 (listIn index)) (filesOf recipes) ≡ 0
-
-pub passes : (index recipes : List ℕ) → joinableCode form1 index recipes ≡ 0 → Passes index recipes
-unfolding joinableCode
-passes index recipes e =
-    let a = passed-whole (indexCode form1 index) _ e in
-    let b = passed-whole (recipesCode recipes) _ (a .1) in
-    let c = passed-whole (filesCode (indexKeys index) (sizeAt (indexLayout index) index) (due form1 (listIn index)) (filesOf recipes)) _ (b .1) in
-    record { indexed = a .0; named = b .0; files = c .0 }
+use Rattle.join.specs.Joining.{allFilesCode, listOf}
 
 -- ---- a run of fingerprints
 
@@ -57,6 +45,10 @@ unfolding fileRecords indexRecords
 sizes-are index [] = refl
 sizes-are index (key ∷ file) = ap (λ (m : ℕ). sizeAt (indexLayout index) index (positionOf key (indexKeys index)) + m) (sizes-are index file)
 
+-- a file's code
+abbrev pub codeOf : List ℕ → List (List ℕ) → ℕ
+codeOf index file = fileCode (indexKeys index) (sizeAt (indexLayout index) index) (due form1 (listIn index)) file
+
 -- ---- the files from k on
 
 module _ (index recipes : List ℕ) where
@@ -74,49 +66,75 @@ module _ (index recipes : List ℕ) where
   unfolding left joinFiles
   left-end k at w h = rw (walk-end recipes k at w h)
 
+  -- the code of the files from k on
+  abbrev pub codes : ℕ → ℕ
+  codes k = filesCode (indexKeys index) (sizeAt (indexLayout index) index) (due form1 (listIn index)) (drop k (filesOf recipes))
+
+  pub codes-end : (k at : ℕ) → Walk recipes k at → fileCount recipes ≤ k → codes k ≡ 0
+  unfolding filesCode
+  codes-end k at w h = rw (walk-end recipes k at w h)
+
   -- file k is at `at`, and `file` is its slice
-  module _ (good : joinableCode form1 index recipes ≡ 0) (k at : ℕ) (w : Walk recipes k at) (turn : k < fileCount recipes) (file : List ℕ)
-      (f : file ≡ part recipes (at + 4) (20 * fieldAt recipes at 4)) where
+  module _ (k at : ℕ) (w : Walk recipes k at) (turn : k < fileCount recipes) (file : List ℕ) (f : file ≡ part recipes (at + 4) (20 * fieldAt recipes at 4)) where
     abbrev n : ℕ
     n = fieldAt recipes at 4
 
     -- the fingerprints that it names
-    abbrev named : List (List ℕ)
-    named = keysOf 20 n (drop (at + 4) recipes)
+    abbrev names : List (List ℕ)
+    names = keysOf 20 n (drop (at + 4) recipes)
 
-    pub file-length : length file ≡ 20 * n
+    file-length : length file ≡ 20 * n
     file-length = ap length f ∙ length-take-le (20 * n) (drop (at + 4) recipes) (omega (arith, length-drop (at + 4) recipes, walk-file recipes k at n w turn refl .room))
 
     file-count : length file / 20 ≡ n
     file-count = omega (arith, file-length)
 
-    file-keys : keysOf 20 (length file / 20) file ≡ named
-    file-keys = ap₂ (keysOf 20) file-count f ∙ keys-take n (drop (at + 4) recipes)
+    file-names : named file ≡ names
+    file-names = ap₂ (keysOf 20) file-count f ∙ keys-take n (drop (at + 4) recipes)
 
-    chunks-are : chunksIn index file ≡ fileRecords form1 index named
+    chunks-are : chunksIn index file ≡ fileRecords form1 index names
     unfolding chunksIn
-    chunks-are = ap (fileRecords form1 index) file-keys
+    chunks-are = ap (fileRecords form1 index) file-names
 
-    accepted : FileAccepted (indexKeys index) (sizeAt (indexLayout index) index) (due form1 (listIn index)) named
-    accepted =
-        file-accepted (indexKeys index) (sizeAt (indexLayout index) index) (due form1 (listIn index)) named
-        (files-cons (indexKeys index) (sizeAt (indexLayout index) index) (due form1 (listIn index)) named (drop (k + 1) (filesOf recipes))
-        (ap (λ (files : List (List (List ℕ))). filesCode (indexKeys index) (sizeAt (indexLayout index) index) (due form1 (listIn index)) files) (sym (walk-files recipes k at n w turn refl))
-        ∙ files-drop (indexKeys index) (sizeAt (indexLayout index) index) (due form1 (listIn index)) (filesOf recipes) k (passes index recipes good .files)) .0)
+    names-are : getD (filesOf recipes) k [] ≡ names
+    names-are =
+        ap (λ (i : ℕ). getD (filesOf recipes) i []) (sym (add-zero k)) ∙ sym (getD-drop k (filesOf recipes) 0 [])
+        ∙ ap (λ (files : List (List (List ℕ))). getD files 0 []) (walk-files recipes k at n w turn refl)
 
-    key-is : (j : ℕ) → j < n → part file (20 * j) 20 ≡ getD named j []
-    key-is j h =
-        sym (key-at 20 (length file / 20) j file (omega (arith, file-count)))
-        ∙ ap (λ (keys : List (List ℕ)). getD keys j []) file-keys
+    pub list-is : listOf index recipes k ≡ joinFile k keywords (chunksIn index file)
+    list-is = ap (λ (l : List (List ℕ)). joinFile k keywords (fileRecords form1 index l)) names-are ∙ ap (joinFile k keywords) (sym chunks-are)
 
-    pub file-walks : File index file
-    file-walks =
+    file-size : sizeOf (chunksIn index file) ≡ sum (sizesIn (indexKeys index) (sizeAt (indexLayout index) index) (due form1 (listIn index)) (named file))
+    unfolding chunksIn
+    file-size = sizes-are index (named file)
+
+    -- a file that is accepted can be walked
+    pub file-walks : (slots : List ℕ) → codeOf index (named file) ≡ 0 → Slotted (indexKeys index) (named file) slots → File index file slots
+    file-walks slots e s =
+        let accepted = file-accepted (indexKeys index) (sizeAt (indexLayout index) index) (due form1 (listIn index)) (named file) e in
         record {
           whole = omega (arith, file-length);
-          found = λ j h. let l : j < n = omega (arith, file-count) in
-              rw (key-is j l) (omega (arith, accepted .found j (omega (arith, length-keys 20 n (drop (at + 4) recipes))), length-indexKeys index));
-          small = rw chunks-are (omega (arith, sizes-are index named, accepted .short));
+          found = λ j h.
+              rw (← key-at 20 (length file / 20) j file h)
+              (omega (arith, accepted .found j (rw (length-keys 20 (length file / 20) file) h), length-indexKeys index));
+          small = omega (arith, file-size, accepted .short);
+          slotted = s;
         }
+
+    -- its code, where all files pass
+    pub file-passes : allFilesCode index recipes ≡ 0 → codeOf index (named file) ≡ 0
+    file-passes e =
+        ap (codeOf index) file-names
+        ∙ files-cons (indexKeys index) (sizeAt (indexLayout index) index) (due form1 (listIn index)) names (drop (k + 1) (filesOf recipes))
+        (ap (filesCode (indexKeys index) (sizeAt (indexLayout index) index) (due form1 (listIn index))) (sym (walk-files recipes k at n w turn refl))
+        ∙ files-drop (indexKeys index) (sizeAt (indexLayout index) index) (due form1 (listIn index)) (filesOf recipes) k e) .0
+
+    -- the code of the files from k on
+    pub codes-step : codes k ≡ firstCode (codeOf index (named file) ∷ map (codeOf index) (drop (k + 1) (filesOf recipes)))
+    unfolding filesCode
+    codes-step =
+        ap (filesCode (indexKeys index) (sizeAt (indexLayout index) index) (due form1 (listIn index))) (walk-files recipes k at n w turn refl)
+        ∙ ap (λ (x : ℕ). firstCode (x ∷ map (codeOf index) (drop (k + 1) (filesOf recipes)))) (sym (ap (codeOf index) file-names))
 
     -- the next file is behind it
     pub file-next : Walk recipes (k + 1) (at + 4 + length file)

@@ -1,91 +1,160 @@
 -- The two loops over the files: before file k, the files from k on still give what is missing. Assumes nothing.
-use mathlib.Core.Path.{_≡_, sym, ap, _∙_}
-use mathlib.Core.List.{List, _++_}
-use Prim.Native.Nat.{ℕ, _+_, _*_, _≤_, _<_}
+use mathlib.Core.Path.{_≡_, refl, sym, ap, _∙_}
+use mathlib.Core.Logic.{_≢_}
+use mathlib.Core.List.{List, [], _∷_, _++_, map}
+use Prim.Native.Nat.{ℕ, _+_, _*_, _≤_, _<_, min}
 use native.Mathlib.Nat.{zero-add}
 use native.Mathlib.Omega.{arith}
-use lib.ListN.{length, length-append}
+use borrow.Author.Count.{below-none, below-more}
+use lib.ListN.{length, getD, set, drop, length-append}
+use lib.Seq.{getD-set-same, getD-set-other}
 use Rattle.spec.specs.Bytes.{part, fieldAt, splice}
+use Rattle.spec.specs.Outcome.{firstCode}
+use Rattle.spec.specs.Directory.{sizeAt}
+use Rattle.spec.specs.Keywords.{foldedKeywords}
 use Rattle.spec.specs.Records.{form1}
-use Rattle.spec.specs.Recipes.{fileCount}
-use Rattle.spec.specs.Join.{Occurrence, joinFile, joinList, listBytes, joinableCode}
+use Rattle.spec.specs.Index.{listIn, indexLayout, indexKeys}
+use Rattle.spec.specs.Recipes.{fileCount, filesOf, recipesCode, filesCode}
+use Rattle.spec.specs.Join.{Occurrence, joinFile, joinList, listBytes, due}
+use Rattle.spec.proofs.Codes.{refused-code, next-code}
+use Rattle.spec.proofs.Splices.{splice-nil}
 use Rattle.spec.proofs.Writing.{Going, going-start, going-room, going-on, going-end}
 use Rattle.recipes.proofs.Files.{Walk, accepted}
+use Rattle.files.specs.Measures.{named, keysAt, sizesAt, Tested}
+use Rattle.files.proofs.OfIndex.{index-tested}
 use Rattle.listing.proofs.Writes.{length-list, list-nil, list-append}
-use Rattle.walk.specs.Walking.{chunksIn, Counted, Listed}
-use Rattle.join.proofs.FileLaws.{passes, keywords, left, left-start, left-end, file-next, left-step}
+use Rattle.walk.specs.Walking.{chunksIn, Directory, Counted, Listed}
+use Rattle.join.specs.Joining.{allFilesCode, listOf, Marked, Surveyed}
+use Rattle.join.proofs.FileLaws.{keywords, codeOf, left, left-start, left-end, codes, codes-step, codes-end, list-is, file-next, left-step}
+
+-- the test of a file, in the terms of the definitions
+pub tested-in : (index : List ℕ) (directory entries : ℕ) (heads chain : List ℕ) (least : ℕ) (file : List (List ℕ)) (slots : List ℕ) (code : ℕ) → Directory index directory entries heads chain
+    → least ≡ due form1 (listIn index) → Tested (keysAt index directory entries) (sizesAt index directory) least file slots code
+    → Tested (indexKeys index) (sizeAt (indexLayout index) index) (due form1 (listIn index)) file slots code
+tested-in index directory entries heads chain least file slots code d e t = rw e at (index-tested index directory entries (d .start) (d .counts) least file slots code t)
+
+empty : (l : List Occurrence) → length l ≡ 0 → l ≡ []
+empty [] e = refl
+empty (o ∷ l) e = let z : ⊥ = omega arith in absurd z
 
 module _ (index recipes : List ℕ) where
-  -- before file k, which is at `at`: what was counted and what is left are the whole count
-  pub record Counting (k at total : ℕ) : Type 0 where
+  -- a file that is not marked has no occurrence
+  abbrev MarkedAt : List ℕ → ℕ → Type 0
+  MarkedAt some k = getD some k 0 ≡ 0 → listOf index recipes k ≡ []
+
+  -- before file k, which is at `at`: the files before it passed, what was counted and what is left are the whole count
+  pub record Surveying (some : List ℕ) (k at total : ℕ) : Type 0 where
     pub walk : Walk recipes k at
     pub few : fileCount recipes ≤ 65535
+    pub coded : codes index recipes k ≡ allFilesCode index recipes
     pub sums : total + length (left index recipes k) ≡ length (joinList form1 index recipes)
     pub small : total ≤ 68719476736 * k
+    pub marks : (j : ℕ) → j < k → MarkedAt some j
 
   -- the same for a list: it lies in the buffer up to `place`
   pub record Listing (out₀ out : List ℕ) (k at place : ℕ) : Type 0 where
     pub walk : Walk recipes k at
     pub going : Going out₀ out 0 place (listBytes (joinList form1 index recipes)) (listBytes (left index recipes k))
 
-  module _ (good : joinableCode form1 index recipes ≡ 0) where
-    pub counting-start : Counting 0 4 0
-    counting-start =
-        let a = accepted recipes (passes index recipes good .named) in
-        record { walk = a .start; few = a .few; sums = zero-add (length (left index recipes 0)) ∙ ap length (left-start index recipes); small = omega arith }
+  module _ (good : recipesCode recipes ≡ 0) where
+    pub survey-start : (some : List ℕ) → Surveying some 0 4 0
+    survey-start some =
+        let a = accepted recipes good in
+        record {
+          walk = a .start;
+          few = a .few;
+          coded = refl;
+          sums = zero-add (length (left index recipes 0)) ∙ ap length (left-start index recipes);
+          small = omega arith;
+          marks = below-none (MarkedAt some);
+        }
 
     pub listing-start : (out : List ℕ) → Listing out out 0 4 0
     listing-start out =
         record {
-          walk = accepted recipes (passes index recipes good .named) .start;
+          walk = accepted recipes good .start;
           going = rw (left-start index recipes) (going-start out 0 (listBytes (joinList form1 index recipes)));
         }
 
-    -- a turn, with file k's slice
-    module _ (k at : ℕ) (turn : k < fileCount recipes) (file : List ℕ) (f : file ≡ part recipes (at + 4) (20 * fieldAt recipes at 4)) where
-      pub counting-on : (total m : ℕ) → Counting k at total → Counted index file m → Counting (k + 1) (at + 4 + length file) (total + m)
-      counting-on total m g c =
-          let s : length (left index recipes k) ≡ m + length (left index recipes (k + 1))
-          = ap length (left-step index recipes good k at (g .walk) turn file f) ∙ length-append (joinFile k (keywords index recipes) (chunksIn index file)) (left index recipes (k + 1))
-          ∙ ap (λ (x : ℕ). x + length (left index recipes (k + 1))) (sym (c .exact k)) in
+  -- a turn, with file k's slice
+  module _ (k at : ℕ) (turn : k < fileCount recipes) (file : List ℕ) (f : file ≡ part recipes (at + 4) (20 * fieldAt recipes at 4)) where
+    module _ (some : List ℕ) (total : ℕ) (g : Surveying some k at total) (code : ℕ) (c : code ≡ codeOf index (named file)) where
+      abbrev rest : List ℕ
+      rest = map (codeOf index) (drop (k + 1) (filesOf recipes))
+
+      step : codes index recipes k ≡ firstCode (codeOf index (named file) ∷ rest)
+      step = codes-step index recipes k at (g .walk) turn file f
+
+      pub survey-refused : code ≢ 0 → Surveyed index recipes some code 0
+      survey-refused h =
           record {
-            walk = file-next index recipes good k at (g .walk) turn file f;
-            few = g .few;
-            sums = omega (arith, s, g .sums);
-            small = omega (arith, g .small, c .few);
+            number = c ∙ refused-code (codeOf index (named file)) rest (λ z. h (c ∙ z)) ∙ sym step ∙ g .coded;
+            counted = λ z. absurd (h z);
+            marked = λ z. absurd (h z);
           }
 
-      module _ (out₀ out : List ℕ) (place : ℕ) (g : Listing out₀ out k at place) (room : 9 * length (joinList form1 index recipes) ≤ length out₀) where
-        abbrev here : List Occurrence
-        here = joinFile k (keywords index recipes) (chunksIn index file)
+      pub survey-on : code ≡ 0 → (n mark : ℕ) → Counted index file n → mark ≡ min n 1 → k < length some → Surveying (set some k mark) (k + 1) (at + 4 + length file) (total + n)
+      unfolding filesCode
+      survey-on z n mark m e l =
+          let here : List Occurrence = joinFile k (keywords index recipes) (chunksIn index file) in
+          let s : length (left index recipes k) ≡ n + length (left index recipes (k + 1))
+          = ap length (left-step index recipes k at (g .walk) turn file f) ∙ length-append here (left index recipes (k + 1)) ∙ ap (λ (x : ℕ). x + length (left index recipes (k + 1))) (sym (m .exact k)) in
+          record {
+            walk = file-next index recipes k at (g .walk) turn file f;
+            few = g .few;
+            coded = sym (step ∙ next-code (codeOf index (named file)) rest (sym c ∙ z)) ∙ g .coded;
+            sums = omega (arith, s, g .sums);
+            small = omega (arith, g .small, m .few);
+            marks = below-more (MarkedAt (set some k mark)) k
+                (λ j h u. g .marks j h (sym (getD-set-other some k j mark 0 (λ q. omega arith)) ∙ u))
+                (λ u. list-is index recipes k at (g .walk) turn file f ∙ empty here (omega (arith, m .exact k, e, getD-set-same some k mark 0 l)));
+          }
 
-        bytes-step : listBytes (left index recipes k) ≡ listBytes here ++ listBytes (left index recipes (k + 1))
-        bytes-step = ap listBytes (left-step index recipes good k at (g .walk) turn file f) ∙ list-append here (left index recipes (k + 1))
+    module _ (out₀ out : List ℕ) (place : ℕ) (g : Listing out₀ out k at place) (room : 9 * length (joinList form1 index recipes) ≤ length out₀) where
+      abbrev here : List Occurrence
+      here = joinFile k (keywords index recipes) (chunksIn index file)
 
-        whole-room : 0 + length (listBytes (joinList form1 index recipes)) ≤ length out₀
-        whole-room = omega (arith, length-list (joinList form1 index recipes))
+      bytes-step : listBytes (left index recipes k) ≡ listBytes here ++ listBytes (left index recipes (k + 1))
+      bytes-step = ap listBytes (left-step index recipes k at (g .walk) turn file f) ∙ list-append here (left index recipes (k + 1))
 
-        pub listing-room : place + 9 * length here ≤ length out
-        listing-room =
-            omega (
-              arith,
-              length-list here,
-              going-room out₀ out 0 place (listBytes (joinList form1 index recipes)) (listBytes (left index recipes k)) (g .going) (listBytes here) (listBytes (left index recipes (k + 1))) whole-room bytes-step,
-            )
+      whole-room : 0 + length (listBytes (joinList form1 index recipes)) ≤ length out₀
+      whole-room = omega (arith, length-list (joinList form1 index recipes))
 
-        pub listing-on : (out′ : List ℕ) (end : ℕ) → Listed index file k out out′ place end → Listing out₀ out′ (k + 1) (at + 4 + length file) end
-        listing-on out′ end l =
-            record {
-              walk = file-next index recipes good k at (g .walk) turn file f;
-              going =
-                  going-on out₀ out 0 place (listBytes (joinList form1 index recipes)) (listBytes (left index recipes k)) (g .going) out′ (listBytes here) (listBytes (left index recipes (k + 1))) end whole-room
-                  bytes-step (l .ends ∙ ap (λ (x : ℕ). place + x) (sym (length-list here))) (l .bytes);
-            }
+      pub listing-room : place + 9 * length here ≤ length out
+      listing-room =
+          omega (
+            arith,
+            length-list here,
+            going-room out₀ out 0 place (listBytes (joinList form1 index recipes)) (listBytes (left index recipes k)) (g .going) (listBytes here) (listBytes (left index recipes (k + 1))) whole-room bytes-step,
+          )
 
-  pub counting-end : (k at total : ℕ) → Counting k at total → fileCount recipes ≤ k → total ≡ length (joinList form1 index recipes)
-  counting-end k at total g h = omega (arith, g .sums, ap length (left-end index recipes k at (g .walk) h))
+      pub listing-on : (out′ : List ℕ) (end : ℕ) → Listed index file k out out′ place end → Listing out₀ out′ (k + 1) (at + 4 + length file) end
+      listing-on out′ end l =
+          record {
+            walk = file-next index recipes k at (g .walk) turn file f;
+            going =
+                going-on out₀ out 0 place (listBytes (joinList form1 index recipes)) (listBytes (left index recipes k)) (g .going) out′ (listBytes here) (listBytes (left index recipes (k + 1))) end whole-room
+                bytes-step (l .ends ∙ ap (λ (x : ℕ). place + x) (sym (length-list here))) (l .bytes);
+          }
+
+  pub survey-end : (some : List ℕ) (k at total : ℕ) → Surveying some k at total → fileCount recipes ≤ k → 65535 ≤ length some → Surveyed index recipes some 0 total
+  survey-end some k at total g h l =
+      record {
+        number = sym (codes-end index recipes k at (g .walk) h) ∙ g .coded;
+        counted = λ _. omega (arith, g .sums, ap length (left-end index recipes k at (g .walk) h));
+        marked = λ _. record { long = omega (arith, g .few); none = λ j u. g .marks j (omega arith) };
+      }
 
   pub listing-end : (out₀ out : List ℕ) (k at place : ℕ) → Listing out₀ out k at place → fileCount recipes ≤ k → out ≡ splice out₀ 0 (listBytes (joinList form1 index recipes))
   listing-end out₀ out k at place g h =
       going-end out₀ out 0 place (listBytes (joinList form1 index recipes)) (listBytes (left index recipes k)) (g .going)
       (ap listBytes (left-end index recipes k at (g .walk) h) ∙ list-nil)
+
+-- a file without occurrences: nothing is written
+pub listed-none : (index file : List ℕ) (number : ℕ) (out : List ℕ) (place : ℕ) → joinFile number (foldedKeywords (listIn index)) (chunksIn index file) ≡ []
+    → Listed index file number out out place place
+listed-none index file number out place e =
+    record {
+      bytes = sym (ap (λ (l : List Occurrence). splice out place (listBytes l)) e ∙ ap (splice out place) list-nil ∙ splice-nil out place);
+      ends = omega (arith, ap length e);
+    }

@@ -1,33 +1,28 @@
 // The join: the logical phase of the search, over a match index and recipes alone (document 01, "Recipes and the join"). It is given no
-// store. It counts first, so that a refusal changes no byte; then it lists, file by file.
+// store. It tests and counts each file first, so that a refusal changes no byte; then it lists the files that have occurrences.
 ghost use mathlib.Core.Path.{_≡_};
-ghost use Prim.Native.Nat.{_+_, _*_, _≤_};
+ghost use mathlib.Core.List.{[]};
+ghost use Prim.Native.Nat.{_+_, _*_, _≤_, min};
 ghost use lib.ListN.{length};
 ghost use Rattle.spec.specs.Bytes.{part, fieldAt, splice};
+ghost use Rattle.spec.specs.Keywords.{foldedKeywords};
 ghost use Rattle.spec.specs.Records.{form1};
-ghost use Rattle.spec.specs.Join.{joinList, listBytes, countOutcome};
+ghost use Rattle.spec.specs.Index.{listIn};
+ghost use Rattle.spec.specs.Join.{due, joinFile, joinList, listBytes, countOutcome};
 ghost use Rattle.directory.specs.Chains.{Empty};
-ghost use Rattle.join.specs.Joining.{Prepared, Joinable, Joined};
+ghost use Rattle.walk.specs.Walking.{chunksIn, Directory, File, Keyed, Listed};
+ghost use Rattle.join.specs.Joining.{Prepared, Joinable, allFilesCode, Marked, Surveyed, Planned, Joined};
 
-// The refusals before 18: the index check, 14, then file by file 15, 16, 17. It leaves the chains of the index's fingerprints in the arrays.
+// The index check, then 14. It leaves the chains of the index's fingerprints in the arrays.
 fn prepare(index: &[u8], recipes: &[u8], heads: &mut [u32], chain: &mut [u32]) -> u8
     requires { ⌜ Empty (now heads) (now chain) ⌝ }
     ensures { λ r. ⌜ Prepared (now (index .entry)) (now (recipes .entry)) (now (heads .exit)) (now (chain .exit)) r ⌝ }
 {
-    let code = index::check(index);
+    let code = index::examine(index, heads, chain);
     if code != 0 {
         return code;
     }
-    let wrong = recipes::check(recipes);
-    if wrong != 0 {
-        return wrong;
-    }
-    let words = keywords::parse(&index[8..]);
-    let start = 8 + words.size;
-    let entries = field::read(index, 4, 4) as usize;
-    // the index check found no fingerprint twice
-    directory::build(index, start, 32, entries, heads, chain);
-    files::files_code(recipes, index, start, entries, heads, chain, words.most - 1)
+    recipes::check(recipes)
 }
 
 // The fingerprints of the file at `at`, a slice of the recipes.
@@ -40,8 +35,25 @@ fn file_at(recipes: &[u8], at: usize) -> &[u8]
     &recipes[from..from + 20 * n]
 }
 
-// How many occurrences all files have.
-fn count_files(
+// The mark of a file with n occurrences.
+fn mark_of(n: usize) -> u8
+    ensures { λ r. ⌜ r ≡ min n 1 ⌝ }
+{
+    if n == 0 {
+        return 0;
+    }
+    1
+}
+
+// What the files' tests say and, where they pass, how many occurrences there are.
+struct Survey {
+    code: u8,
+    total: usize,
+}
+
+// Tests each file and counts its occurrences, file by file. A file is counted right after it is tested, while its slots hold its entries;
+// it is marked if it has an occurrence.
+fn survey_files(
     index: &[u8],
     recipes: &[u8],
     directory: usize,
@@ -50,9 +62,13 @@ fn count_files(
     chain: &[u32],
     count: usize,
     tables: &[[[u32; 32]; 32]; 16],
-) -> usize
+    least: usize,
+    slots: &mut [u32],
+    some: &mut [u8],
+) -> Survey
     requires { ⌜ Joinable (now index) (now recipes) directory entries (now heads) (now chain) count (now tables) ⌝ }
-    ensures { λ r. ⌜ r ≡ length (joinList form1 (now (index .entry)) (now (recipes .entry))) ⌝ }
+    requires { ⌜ (least ≡ due form1 (listIn (now index))) × (65535 ≤ length (now some)) ⌝ }
+    ensures { λ r. ⌜ Surveyed (now (index .entry)) (now (recipes .entry)) (now (some .exit)) (r .code) (r .total) ⌝ }
 {
     let files = recipes::count_at(recipes, 0);
     let mut total: usize = 0;
@@ -60,11 +76,75 @@ fn count_files(
     let mut k: usize = 0;
     while k < files {
         let file = file_at(recipes, at);
-        total += walk::count_file(index, directory, entries, heads, chain, file, count, tables);
+        let code = files::file_code(file, index, directory, entries, heads, chain, least, slots);
+        if code != 0 {
+            return Survey {
+                code: code,
+                total: 0,
+            };
+        }
+        let n = walk::count_file(
+            index,
+            directory,
+            entries,
+            heads,
+            chain,
+            file,
+            slots,
+            count,
+            tables,
+        );
+        some[k] = mark_of(n);
+        total += n;
         at = at + 4 + file.len();
         k += 1;
     }
-    total
+    Survey {
+        code: 0,
+        total: total,
+    }
+}
+
+// Lists the occurrences of a file from a place of the buffer on, and returns the place behind. Of a file without a mark no place is looked at.
+fn list_marked(
+    mark: u8,
+    index: &[u8],
+    directory: usize,
+    entries: usize,
+    heads: &[u32],
+    chain: &[u32],
+    file: &[u8],
+    count: usize,
+    tables: &[[[u32; 32]; 32]; 16],
+    number: usize,
+    out: &mut [u8],
+    place: usize,
+) -> usize
+    requires { ⌜ (mark ≡ 0 → joinFile number (foldedKeywords (listIn (now index))) (chunksIn (now index) (now file)) ≡ []) ⌝ }
+    requires { ⌜ Directory (now index) directory entries (now heads) (now chain) ⌝ }
+    requires { ⌜ File (now index) (now file) [] ⌝ }
+    requires { ⌜ Keyed (now index) count (now tables) ⌝ }
+    requires { ⌜ place + 9 * length (joinFile number (foldedKeywords (listIn (now index))) (chunksIn (now index) (now file))) ≤ length (now out) ⌝ }
+    ensures { λ r. ⌜ Listed (now (index .entry)) (now (file .entry)) number (now (out .entry)) (now (out .exit)) place r ⌝ }
+{
+    if mark == 0 {
+        return place;
+    }
+    let none = [0u32; 0];
+    walk::list_file(
+        index,
+        directory,
+        entries,
+        heads,
+        chain,
+        file,
+        &none,
+        count,
+        tables,
+        number,
+        out,
+        place,
+    )
 }
 
 // Lists the occurrences of all files.
@@ -77,9 +157,11 @@ fn list_files(
     chain: &[u32],
     count: usize,
     tables: &[[[u32; 32]; 32]; 16],
+    some: &[u8],
     out: &mut [u8],
 )
     requires { ⌜ Joinable (now index) (now recipes) directory entries (now heads) (now chain) count (now tables) ⌝ }
+    requires { ⌜ (allFilesCode (now index) (now recipes) ≡ 0) × Marked (now index) (now recipes) (now some) ⌝ }
     requires { ⌜ 9 * length (joinList form1 (now index) (now recipes)) ≤ length (now out) ⌝ }
     ensures { λ _. ⌜ now (out .exit) ≡ splice (now (out .entry)) 0 (listBytes (joinList form1 (now (index .entry)) (now (recipes .entry)))) ⌝ }
 {
@@ -89,7 +171,8 @@ fn list_files(
     let mut number: usize = 0;
     while number < files {
         let file = file_at(recipes, at);
-        place = walk::list_file(
+        place = list_marked(
+            some[number],
             index,
             directory,
             entries,
@@ -107,31 +190,85 @@ fn list_files(
     }
 }
 
+// The refusals before 18 and the count, and the numbers that the list is made from.
+struct Plan {
+    code: u8,
+    total: usize,
+    directory: usize,
+    entries: usize,
+    count: usize,
+}
+
+fn make_plan(
+    index: &[u8],
+    recipes: &[u8],
+    heads: &mut [u32],
+    chain: &mut [u32],
+    tables: &mut [[[u32; 32]; 32]; 16],
+    some: &mut [u8],
+) -> Plan
+    requires { ⌜ Empty (now heads) (now chain) × (65535 ≤ length (now some)) ⌝ }
+    ensures { λ r. ⌜ Planned (now (index .entry)) (now (recipes .entry)) (now (heads .exit)) (now (chain .exit)) (now (tables .exit)) (now (some .exit))
+        (r .code) (r .total) (r .directory) (r .entries) (r .count) ⌝ }
+{
+    let code = prepare(index, recipes, heads, chain);
+    if code != 0 {
+        return Plan {
+            code: code,
+            total: 0,
+            directory: 0,
+            entries: 0,
+            count: 0,
+        };
+    }
+    let list = &index[8..];
+    let words = keywords::parse(list);
+    *tables = tables::tables_of(list, words);
+    let directory = 8 + words.size;
+    let entries = field::read(index, 4, 4) as usize;
+    let mut slots = [0u32; 65536];
+    let s = survey_files(
+        index,
+        recipes,
+        directory,
+        entries,
+        heads,
+        chain,
+        words.count,
+        tables,
+        words.most - 1,
+        &mut slots,
+        some,
+    );
+    Plan {
+        code: s.code,
+        total: s.total,
+        directory: directory,
+        entries: entries,
+        count: words.count,
+    }
+}
+
 // The count that a join would report, whatever the buffer, or the refusal.
 pub fn count(index: &[u8], recipes: &[u8]) -> spec::Outcome
     ensures { λ r. ⌜ r ≡ countOutcome form1 (now (index .entry)) (now (recipes .entry)) ⌝ }
 {
     let mut heads = [0u32; 65536];
     let mut chain = [0u32; 65000];
-    let code = prepare(index, recipes, &mut heads, &mut chain);
-    if code != 0 {
-        return spec::Outcome::Refused(code);
-    }
-    let list = &index[8..];
-    let words = keywords::parse(list);
-    let tables = tables::tables_of(list, words);
-    let start = 8 + words.size;
-    let entries = field::read(index, 4, 4) as usize;
-    spec::Outcome::Done(count_files(
+    let mut tables = [[[0u32; 32]; 32]; 16];
+    let mut some = [0u8; 65535];
+    let p = make_plan(
         index,
         recipes,
-        start,
-        entries,
-        &heads,
-        &chain,
-        words.count,
-        &tables,
-    ))
+        &mut heads,
+        &mut chain,
+        &mut tables,
+        &mut some,
+    );
+    if p.code != 0 {
+        return spec::Outcome::Refused(p.code);
+    }
+    spec::Outcome::Done(p.total)
 }
 
 // The join: the count, or the refusal, which changes no byte of the buffer.
@@ -140,38 +277,33 @@ pub fn join(index: &[u8], recipes: &[u8], out: &mut [u8]) -> spec::Outcome
 {
     let mut heads = [0u32; 65536];
     let mut chain = [0u32; 65000];
-    let code = prepare(index, recipes, &mut heads, &mut chain);
-    if code != 0 {
-        return spec::Outcome::Refused(code);
-    }
-    let list = &index[8..];
-    let words = keywords::parse(list);
-    let tables = tables::tables_of(list, words);
-    let start = 8 + words.size;
-    let entries = field::read(index, 4, 4) as usize;
-    let found = count_files(
+    let mut tables = [[[0u32; 32]; 32]; 16];
+    let mut some = [0u8; 65535];
+    let p = make_plan(
         index,
         recipes,
-        start,
-        entries,
-        &heads,
-        &chain,
-        words.count,
-        &tables,
+        &mut heads,
+        &mut chain,
+        &mut tables,
+        &mut some,
     );
-    if out.len() / 9 < found {
+    if p.code != 0 {
+        return spec::Outcome::Refused(p.code);
+    }
+    if out.len() / 9 < p.total {
         return spec::Outcome::Refused(18);
     }
     list_files(
         index,
         recipes,
-        start,
-        entries,
+        p.directory,
+        p.entries,
         &heads,
         &chain,
-        words.count,
+        p.count,
         &tables,
+        &some,
         out,
     );
-    spec::Outcome::Done(found)
+    spec::Outcome::Done(p.total)
 }

@@ -1,93 +1,42 @@
 -- `join` meets its contract: one law for each way out (Answers).
-use mathlib.Core.Path.{_≡_}
-use Prim.Native.Nat.{_+_}
+use Prim.Native.Nat.{ℕ}
 use native.Mathlib.Omega.{arith}
+use lib.ListN.{length-replicate}
 use denote.Ref.{now}
-use Rattle.spec.specs.Records.{form1}
-use Rattle.spec.specs.Index.{indexCode}
 use Rattle.directory.proofs.ChainLaws.{zeros}
-use Rattle.join.specs.Joining.{Joinable}
-use Rattle.join.proofs.Stages.{header, list-good, passed-index, joinable}
+use Rattle.join.proofs.Stages.{all-pass}
 use Rattle.join.proofs.Answers.{join-refused, join-long, join-room, join-done}
 use borrow.Author.Needs.{needs}
 use Rattle.join.proofs.join.Statement.{statement}
 use Rattle.join.proofs.join.Tie as tie
 
-slice-aggregate-prepare : tie.Need-slice-aggregate-prepare
-slice-aggregate-prepare c = search needs
+slice-aggregate-make-plan : tie.Need-slice-aggregate-make-plan
+slice-aggregate-make-plan c = search needs
 
-slice-aggregate-prepare-2 : tie.Need-slice-aggregate-prepare-2
-slice-aggregate-prepare-2 c = search needs
+slice-aggregate-make-plan-2 : tie.Need-slice-aggregate-make-plan-2
+slice-aggregate-make-plan-2 c = search needs
 
-prepare-requires : tie.Need-prepare-requires
-prepare-requires c κs = zeros
+slice-aggregate-make-plan-3 : tie.Need-slice-aggregate-make-plan-3
+slice-aggregate-make-plan-3 c = search needs
 
--- the index passed its check
-indexed : (c : tie.Else1) → indexCode form1 (now (c .before .before .before .before .before .before .before .before .before .args .index)) ≡ 0
-indexed c =
-    let a = c .before .before .before .before .before .before .before .before .before .args in
-    let q = c .before .before .before .prepare in
-    passed-index (now (a .index)) (now (a .recipes)) _ _ (q .result) (q .ensures) (c .if1 .left)
+make-plan-requires : tie.Need-make-plan-requires
+make-plan-requires c κs = (zeros, omega (arith, length-replicate {A = ℕ} 65535 0))
 
 returns : tie.Need-returns
 returns c =
-    let a = c .before .before .before .before .before .before .before .before .before .args in
-    let q = c .before .before .before .prepare in
-    join-refused (now (a .index)) (now (a .recipes)) (q .result) (q .ensures .number) (now (a .out)) (c .if1 .taken)
-
-sub-list : tie.Need-sub-list
-sub-list c = header (now (c .before .before .before .before .before .before .before .before .before .args .index)) (indexed c)
-
-part-list-start : tie.Need-part-list-start
-part-list-start c = header (now (c .before .before .before .before .before .before .before .before .before .args .index)) (indexed c)
-
-part-list-end : tie.Need-part-list-end
-part-list-end c = search needs
-
-parse-requires : tie.Need-parse-requires
-parse-requires c κs = list-good (now (c .before .before .before .before .before .before .before .before .before .before .args .index)) (indexed (c .before))
-
-tables-of-requires : tie.Need-tables-of-requires
-tables-of-requires c κs = search needs
-
-add-start : tie.Need-add-start
-add-start c = search needs
-
-read-requires : tie.Need-read-requires
-read-requires c κs = (omega arith, header (now (c .before .before .before .before .before .before .before .before .before .before .before .before .before .args .index)) (indexed (c .before .before .before .before)))
-
-slice-aggregate-count-files : tie.Need-slice-aggregate-count-files
-slice-aggregate-count-files c = search needs
-
-slice-aggregate-count-files-2 : tie.Need-slice-aggregate-count-files-2
-slice-aggregate-count-files-2 c = search needs
-
--- all files can be walked
-walks : (c : tie.After-tables)
-    → let a = c .before .before .before .before .before .before .before .before .before .before .before .before .before .before .before .before .before .args in
-    let q = c .before .before .before .before .before .before .before .before .before .before .before .prepare in
-    let r = c .before .before .before .before .before .before .parse .result in
-    Joinable (now (a .index)) (now (a .recipes)) (8 + r .size) (c .before .before .before .read .result) (q .last .1 .1 .0) (q .last .1 .1 .1 .0) (r .count) (c .before .before .before .before .before .tables-of .result)
-walks c =
-    let e = c .before .before .before .before .before .before .before .before in
-    let a = e .before .before .before .before .before .before .before .before .before .args in
-    let q = e .before .before .before .prepare in
-    let w = c .before .before .before .before .before .before .parse in
-    let r = w .result in
-    let n = c .before .before .before .read in
-    let t = c .before .before .before .before .before .tables-of in
-    joinable (now (a .index)) (now (a .recipes)) (q .last .1 .1 .0) (q .last .1 .1 .1 .0) (q .result) (q .ensures) (e .if1 .left) (r .count) (r .flag) (r .size) (r .most) (r .start) (r .len) (w .ensures) (n .result) (n .ensures) (t .result) (t .ensures)
-
-count-files-requires : tie.Need-count-files-requires
-count-files-requires c κs = walks c
+    let m = c .before .before .before .before .before in
+    let a = m .before .before .before .before .before .before .before .before .args in
+    let p = m .make-plan in
+    join-refused (now (a .index)) (now (a .recipes)) (p .result .code) (p .ensures .number) (now (a .out)) (c .if1 .taken)
 
 returns-2 : tie.Need-returns-2
 returns-2 c =
-    let e = c .before .before .before .before .before .before .before .before .before .before in
-    let a = e .before .before .before .before .before .before .before .before .before .args in
-    let q = e .before .before .before .prepare in
-    let n = c .before .count-files in
-    join-long (now (a .index)) (now (a .recipes)) (q .result) (q .ensures .number) (now (a .out)) (n .result) (e .if1 .left) (n .ensures) (c .if2 .taken)
+    let e = c .before .before in
+    let m = e .before .before .before .before .before in
+    let a = m .before .before .before .before .before .before .before .before .args in
+    let p = m .make-plan in
+    let z = e .if1 .left in
+    join-long (now (a .index)) (now (a .recipes)) (p .result .code) (p .ensures .number) (now (a .out)) (p .result .total) z (p .ensures .counted z) (c .if2 .taken)
 
 slice-aggregate-list-files : tie.Need-slice-aggregate-list-files
 slice-aggregate-list-files c = search needs
@@ -95,47 +44,51 @@ slice-aggregate-list-files c = search needs
 slice-aggregate-list-files-2 : tie.Need-slice-aggregate-list-files-2
 slice-aggregate-list-files-2 c = search needs
 
+slice-aggregate-list-files-3 : tie.Need-slice-aggregate-list-files-3
+slice-aggregate-list-files-3 c = search needs
+
 list-files-requires : tie.Need-list-files-requires
 list-files-requires c κs =
-    let e = c .before .before .before .before .before .before .before .before .before .before .before .before .before .before in
-    let a = e .before .before .before .before .before .before .before .before .before .args in
-    let q = e .before .before .before .prepare in
-    let n = c .before .before .before .before .before .count-files in
-    (walks (c .before .before .before .before .before .before), join-room (now (a .index)) (now (a .recipes)) (q .result) (q .ensures .number) (now (a .out)) (n .result) (n .ensures) (c .before .before .before .before .if2 .left))
+    let f = c .before .before .before .before .before in
+    let e = f .before .before in
+    let m = e .before .before .before .before .before in
+    let a = m .before .before .before .before .before .before .before .before .args in
+    let p = m .make-plan in
+    let z = e .if1 .left in (
+      p .ensures .joinable z,
+      (
+        (all-pass _ _ _ _ _ _ _ _ _ _ _ (p .ensures) z, p .ensures .marked z),
+        join-room (now (a .index)) (now (a .recipes)) (p .result .code) (p .ensures .number) (now (a .out)) (p .result .total) (p .ensures .counted z) (f .if2 .left),
+      ),
+    )
 
 same-length : tie.Need-same-length
 same-length c = search needs
 
 returns-3 : tie.Need-returns-3
 returns-3 c =
-    let e = c .before .before .before .before .before .before .before .before .before .before .before .before .before .before .before .before .before in
-    let a = e .before .before .before .before .before .before .before .before .before .args in
-    let q = e .before .before .before .prepare in
-    let n = c .before .before .before .before .before .before .before .before .count-files in
-    let w = c .before .before .list-files in
-    join-done (now (a .index)) (now (a .recipes)) (q .result) (q .ensures .number) (now (a .out)) (n .result) (w .last .1 .1 .1 .1 .1 .1 .1 .1 .0) (e .if1 .left) (n .ensures) (c .before .before .before .before .before .before .before .if2 .left) (w .ensures)
+    let w = c .before .before in
+    let f = w .before .before .before .before .before .before in
+    let e = f .before .before in
+    let m = e .before .before .before .before .before in
+    let a = m .before .before .before .before .before .before .before .before .args in
+    let p = m .make-plan in
+    let z = e .if1 .left in
+    join-done (now (a .index)) (now (a .recipes)) (p .result .code) (p .ensures .number) (now (a .out)) (p .result .total) (w .list-files .last .1 .1 .1 .1 .1 .1 .1 .1 .1 .0) z (p .ensures .counted z) (f .if2 .left) (w .list-files .ensures)
 
 pub join-spec : {M : Type 1} → statement M
 join-spec =
     tie.close
     (tie.spec
-    slice-aggregate-prepare
-    slice-aggregate-prepare-2
-    prepare-requires
+    slice-aggregate-make-plan
+    slice-aggregate-make-plan-2
+    slice-aggregate-make-plan-3
+    make-plan-requires
     returns
-    sub-list
-    part-list-start
-    part-list-end
-    parse-requires
-    tables-of-requires
-    add-start
-    read-requires
-    slice-aggregate-count-files
-    slice-aggregate-count-files-2
-    count-files-requires
     returns-2
     slice-aggregate-list-files
     slice-aggregate-list-files-2
+    slice-aggregate-list-files-3
     list-files-requires
     same-length
     returns-3)

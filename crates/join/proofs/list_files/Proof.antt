@@ -1,68 +1,84 @@
 -- `list_files` meets its contract: the walk along the files (Turns).
-use mathlib.Core.Path.{_≡_, refl}
+use mathlib.Core.Path.{_≡_, refl, sym, _∙_}
+use mathlib.Core.List.{[]}
 use Prim.Native.Nat.{_+_, _-_, _≤_}
 use native.Mathlib.Omega.{arith}
 use lib.ListN.{length}
 use denote.Ref.{now}
 use Rattle.spec.specs.Bytes.{fieldAt}
+use Rattle.spec.specs.Index.{indexKeys}
 use Rattle.spec.specs.Recipes.{fileCount}
 use Rattle.recipes.proofs.Files.{walk-file, accepted}
-use Rattle.join.proofs.FileLaws.{passes, file-walks, file-next}
+use Rattle.files.specs.Measures.{named}
+use Rattle.files.proofs.Places.{no-slots}
+use Rattle.join.proofs.FileLaws.{list-is, file-walks, file-passes, file-next}
 use Rattle.join.proofs.Turns.{Listing, listing-start, listing-room, listing-on, listing-end}
 use Rattle.join.proofs.list_files.Statement.{statement}
 use Rattle.join.proofs.list_files.Tie as tie
 
 abbrev Inv-loop : tie.InvT-loop
-Inv-loop index recipes directory entries heads chain count tables out₀ files place₀ at₀ number₀ out place at number = (files ≡ fileCount recipes) × Listing index recipes out₀ out number at place
+Inv-loop index recipes directory entries heads chain count tables some out₀ files place₀ at₀ number₀ out place at number = (files ≡ fileCount recipes) × Listing index recipes out₀ out number at place
 
 abbrev μ-loop : tie.MeasureT-loop
-μ-loop index recipes directory entries heads chain count tables out₀ files place₀ at₀ number₀ out place at number = files - number
+μ-loop index recipes directory entries heads chain count tables some out₀ files place₀ at₀ number₀ out place at number = files - number
 
 -- the file that the walk is at lies in the recipes
-room : (c : tie.After-file-at Inv-loop μ-loop) → c .before .before .loop .at + 4 + length (now (c .file-at .result)) ≤ length (now (c .before .before .before .before .before .before .before .before .before .args .recipes))
+room : (c : tie.After-file-at Inv-loop μ-loop) → let p = c .before .before in let s = p .before .before .before .before .before .before .before .before in
+    p .loop .at + 4 + length (now (c .file-at .result)) ≤ length (now (s .args .recipes))
 room c =
-    let at = c .before .before in
-    let s = at .before .before .before .before .before .before .before in
-    file-next (now (s .args .index)) (now (s .args .recipes)) (s .pre .0 .passed) (at .loop .number) (at .loop .at) (at .loop .inv .1 .walk) (omega arith) (now (c .file-at .result)) (c .file-at .ensures) .within
+    let p = c .before .before in
+    let s = p .before .before .before .before .before .before .before .before in
+    file-next (now (s .args .index)) (now (s .args .recipes)) (p .loop .number) (p .loop .at) (p .loop .inv .1 .walk) (omega arith) (now (c .file-at .result)) (c .file-at .ensures) .within
 
 count-at-requires : tie.Need-count-at-requires Inv-loop μ-loop
 count-at-requires c κs =
-    let s = c .before .before .before .before .before in
-    omega (arith, accepted (now (s .args .recipes)) (passes (now (s .args .index)) (now (s .args .recipes)) (s .pre .0 .passed) .named) .header)
+    let s = c .before .before .before .before .before .before in
+    omega (arith, accepted (now (s .args .recipes)) (s .pre .0 .named) .header)
 
 loop-holds : tie.Need-loop-holds Inv-loop μ-loop
 loop-holds c =
-    let s = c .before .before .before .before .before .before in
-    (c .count-at .ensures, listing-start (now (s .args .index)) (now (s .args .recipes)) (s .pre .0 .passed) (now (s .args .out)))
+    let s = c .before .before .before .before .before .before .before in
+    (c .count-at .ensures, listing-start (now (s .args .index)) (now (s .args .recipes)) (s .pre .0 .named) (now (s .args .out)))
 
 file-at-requires : tie.Need-file-at-requires Inv-loop μ-loop
 file-at-requires c κs =
-    let at = c .before in
-    let recipes = now (at .before .before .before .before .before .before .before .args .recipes) in
-    walk-file recipes (at .loop .number) (at .loop .at) (fieldAt recipes (at .loop .at) 4) (at .loop .inv .1 .walk) (omega arith) refl .room
+    let p = c .before in
+    let recipes = now (p .before .before .before .before .before .before .before .before .args .recipes) in
+    walk-file recipes (p .loop .number) (p .loop .at) (fieldAt recipes (p .loop .at) 4) (p .loop .inv .1 .walk) (omega arith) refl .room
 
-list-file-requires : tie.Need-list-file-requires Inv-loop μ-loop
-list-file-requires c κs =
-    let at = c .before .before .before in
-    let s = at .before .before .before .before .before .before .before in
+shared-slice-read-list-marked : tie.Need-shared-slice-read-list-marked Inv-loop μ-loop
+shared-slice-read-list-marked c =
+    let p = c .before .before .before in
+    omega (arith, p .loop .inv .0, p .before .before .before .before .before .before .before .before .pre .1 .0 .1 .long)
+
+list-marked-requires : tie.Need-list-marked-requires Inv-loop μ-loop
+list-marked-requires c κs =
+    let r = c .before .before in
+    let p = r .before .before in
+    let s = p .before .before .before .before .before .before .before .before in
     let index = now (s .args .index) in
     let recipes = now (s .args .recipes) in
-    let r = c .before .file-at in (
-      s .pre .0 .looked,
+    let file = now (r .file-at .result) in
+    let w = p .loop .inv .1 .walk in
+    let k = p .loop .number in (
+      (λ z. sym (list-is index recipes k (p .loop .at) w (omega arith) file (r .file-at .ensures)) ∙ s .pre .1 .0 .1 .none k (omega arith) z),
       (
-        file-walks index recipes (s .pre .0 .passed) (at .loop .number) (at .loop .at) (at .loop .inv .1 .walk) (omega arith) (now (r .result)) (r .ensures),
+        s .pre .0 .looked,
         (
-          s .pre .0 .keyed,
-          listing-room index recipes (s .pre .0 .passed) (at .loop .number) (at .loop .at) (omega arith) (now (r .result)) (r .ensures) (now (s .args .out)) (at .loop .out) (at .loop .place) (at .loop .inv .1) (s .pre .1),
+          file-walks index recipes k (p .loop .at) w (omega arith) file (r .file-at .ensures) [] (file-passes index recipes k (p .loop .at) w (omega arith) file (r .file-at .ensures) (s .pre .1 .0 .0)) (no-slots (indexKeys index) (named file)),
+          (
+            s .pre .0 .keyed,
+            listing-room index recipes k (p .loop .at) (omega arith) file (r .file-at .ensures) (now (s .args .out)) (p .loop .out) (p .loop .place) (p .loop .inv .1) (s .pre .1 .1),
+          ),
         ),
       ),
     )
 
 add-at : tie.Need-add-at Inv-loop μ-loop
-add-at c = omega (arith, room (c .before .before .before .before))
+add-at c = omega (arith, room (c .before .before .before .before .before))
 
 add-at-2 : tie.Need-add-at-2 Inv-loop μ-loop
-add-at-2 c = omega (arith, room (c .before .before .before .before))
+add-at-2 c = omega (arith, room (c .before .before .before .before .before))
 
 add-number : tie.Need-add-number Inv-loop μ-loop
 add-number c = omega arith
@@ -72,20 +88,20 @@ loop-less c = omega arith
 
 loop-again : tie.Need-loop-again Inv-loop μ-loop
 loop-again c =
-    let at = c .before .before .before .before .before .before in
-    let s = at .before .before .before .before .before .before .before in
-    let r = c .before .before .before .before .file-at in
-    let w = c .before .before .list-file in
-    (at .loop .inv .0, listing-on (now (s .args .index)) (now (s .args .recipes)) (s .pre .0 .passed) (at .loop .number) (at .loop .at) (omega arith) (now (r .result)) (r .ensures) (now (s .args .out)) (at .loop .out) (at .loop .place) (at .loop .inv .1) (s .pre .1) (w .last .1 .1 .1 .1 .1 .1 .1 .1 .1 .0) (w .result) (w .ensures))
+    let w = c .before .before .list-marked in
+    let r = c .before .before .before .before .before in
+    let p = r .before .before in
+    let s = p .before .before .before .before .before .before .before .before in
+    (p .loop .inv .0, listing-on (now (s .args .index)) (now (s .args .recipes)) (p .loop .number) (p .loop .at) (omega arith) (now (r .file-at .result)) (r .file-at .ensures) (now (s .args .out)) (p .loop .out) (p .loop .place) (p .loop .inv .1) (s .pre .1 .1) (w .last .1 .1 .1 .1 .1 .1 .1 .1 .1 .1 .0) (w .result) (w .ensures))
 
 same-length : tie.Need-same-length Inv-loop μ-loop
 same-length c = c .before .loop .inv .1 .going .same
 
 returns : tie.Need-returns Inv-loop μ-loop
 returns c =
-    let at = c .before in
-    let s = at .before .before .before .before .before .before .before in
-    listing-end (now (s .args .index)) (now (s .args .recipes)) (now (s .args .out)) (at .loop .out) (at .loop .number) (at .loop .at) (at .loop .place) (at .loop .inv .1) (omega arith)
+    let p = c .before in
+    let s = p .before .before .before .before .before .before .before .before in
+    listing-end (now (s .args .index)) (now (s .args .recipes)) (now (s .args .out)) (p .loop .out) (p .loop .number) (p .loop .at) (p .loop .place) (p .loop .inv .1) (omega arith)
 
 pub list-files-spec : {M : Type 1} → statement M
 list-files-spec =
@@ -96,7 +112,8 @@ list-files-spec =
     count-at-requires
     loop-holds
     file-at-requires
-    list-file-requires
+    shared-slice-read-list-marked
+    list-marked-requires
     add-at
     add-at-2
     add-number

@@ -1,0 +1,28 @@
+-- `list_marked` meets its contract.
+use denote.Ref.{now}
+use Rattle.join.proofs.Turns.{listed-none}
+use borrow.Author.Needs.{needs}
+use Rattle.join.proofs.list_marked.Statement.{statement}
+use Rattle.join.proofs.list_marked.Tie as tie
+
+returns : tie.Need-returns
+returns c =
+    let s = c .before .before .before .before .before .before in
+    let a = s .args in
+    listed-none (now (a .index)) (now (a .file)) (a .number) (now (a .out)) (a .place) (s .pre .0 (c .if1 .taken))
+
+slice-aggregate-list-file : tie.Need-slice-aggregate-list-file
+slice-aggregate-list-file c = search needs
+
+list-file-requires : tie.Need-list-file-requires
+list-file-requires c κs = search needs
+
+same-length : tie.Need-same-length
+same-length c = search needs
+
+returns-2 : tie.Need-returns-2
+returns-2 c = search needs
+
+pub list-marked-spec : {M : Type 1} → statement M
+list-marked-spec =
+    tie.close (tie.spec returns slice-aggregate-list-file list-file-requires same-length returns-2)

@@ -1,0 +1,177 @@
+-- `survey_files` meets its contract: the walk along the files (Turns).
+use mathlib.Core.Path.{_≡_, refl, sym, _∙_}
+use Prim.Native.Nat.{_+_, _-_, _≤_}
+use native.Mathlib.Omega.{arith}
+use lib.ListN.{length, length-set}
+use denote.Ref.{now}
+use Rattle.spec.specs.Bytes.{fieldAt}
+use Rattle.spec.specs.Directory.{sizeAt}
+use Rattle.spec.specs.Records.{form1}
+use Rattle.spec.specs.Index.{listIn, indexLayout, indexKeys}
+use Rattle.spec.specs.Recipes.{fileCount}
+use Rattle.spec.specs.Join.{due}
+use Rattle.recipes.proofs.Files.{walk-file, accepted}
+use Rattle.files.specs.Measures.{named, Tested}
+use Rattle.walk.proofs.Entries.{lies}
+use Rattle.join.proofs.FileLaws.{file-walks, file-next}
+use Rattle.join.proofs.Turns.{tested-in, Surveying, survey-start, survey-refused, survey-on, survey-end}
+use borrow.Author.Needs.{needs}
+use Rattle.join.proofs.survey_files.Statement.{statement}
+use Rattle.join.proofs.survey_files.Tie as tie
+
+abbrev Inv-loop : tie.InvT-loop
+Inv-loop index recipes directory entries heads chain count tables least slots₀ some₀ files total₀ at₀ k₀ slots some total at k =
+    (files ≡ fileCount recipes) × (length slots ≡ length slots₀) × (length some ≡ length some₀) × Surveying index recipes some k at total
+
+abbrev μ-loop : tie.MeasureT-loop
+μ-loop index recipes directory entries heads chain count tables least slots₀ some₀ files total₀ at₀ k₀ slots some total at k = files - k
+
+-- the file that the walk is at lies in the recipes
+room : (c : tie.After-file-at Inv-loop μ-loop) → let p = c .before .before in let s = p .before .before .before .before .before .before .before .before in
+    p .loop .at + 4 + length (now (c .file-at .result)) ≤ length (now (s .args .recipes))
+room c =
+    let p = c .before .before in
+    let s = p .before .before .before .before .before .before .before .before in
+    file-next (now (s .args .index)) (now (s .args .recipes)) (p .loop .k) (p .loop .at) (p .loop .inv .3 .walk) (omega arith) (now (c .file-at .result)) (c .file-at .ensures) .within
+
+-- what its test says
+test : (c : tie.After-file-code Inv-loop μ-loop) → let f = c .before .before in let s = f .before .before .before .before .before .before .before .before .before .before in let index = now (s .args .index) in
+    Tested (indexKeys index) (sizeAt (indexLayout index) index) (due form1 (listIn index)) (named (now (f .file-at .result))) (c .file-code .last .1 .1 .1 .1 .1 .1 .1 .0) (c .file-code .result)
+test c =
+    let f = c .before .before in
+    let s = f .before .before .before .before .before .before .before .before .before .before in
+    let a = s .args in
+    tested-in (now (a .index)) (a .directory) (a .entries) (now (a .heads)) (now (a .chain)) (a .least) (named (now (f .file-at .result))) (c .file-code .last .1 .1 .1 .1 .1 .1 .1 .0) (c .file-code .result) (s .pre .0 .looked) (s .pre .1 .0) (c .file-code .ensures)
+
+count-at-requires : tie.Need-count-at-requires Inv-loop μ-loop
+count-at-requires c κs =
+    let s = c .before .before .before .before .before .before in
+    omega (arith, accepted (now (s .args .recipes)) (s .pre .0 .named) .header)
+
+loop-holds : tie.Need-loop-holds Inv-loop μ-loop
+loop-holds c =
+    let s = c .before .before .before .before .before .before .before in
+    (c .count-at .ensures, refl, refl, survey-start (now (s .args .index)) (now (s .args .recipes)) (s .pre .0 .named) (now (s .args .some)))
+
+file-at-requires : tie.Need-file-at-requires Inv-loop μ-loop
+file-at-requires c κs =
+    let p = c .before in
+    let recipes = now (p .before .before .before .before .before .before .before .before .args .recipes) in
+    walk-file recipes (p .loop .k) (p .loop .at) (fieldAt recipes (p .loop .at) 4) (p .loop .inv .3 .walk) (omega arith) refl .room
+
+file-code-requires : tie.Need-file-code-requires Inv-loop μ-loop
+file-code-requires c κs =
+    let s = c .before .before .before .before .before .before .before .before .before .before .before in
+    let a = s .args in
+    let d = s .pre .0 .looked in
+    (lies (now (a .index)) (a .directory) (a .entries) (now (a .heads)) (now (a .chain)) d, d .chained)
+
+same-length : tie.Need-same-length Inv-loop μ-loop
+same-length c = let f = c .before .before .before in f .file-code .kept .1 .1 .1 .1 .1 .1 .1 .0 ∙ f .before .before .before .before .loop .inv .1
+
+same-length-2 : tie.Need-same-length-2 Inv-loop μ-loop
+same-length-2 c = c .before .before .before .before .before .before .before .loop .inv .2
+
+returns : tie.Need-returns Inv-loop μ-loop
+returns c =
+    let t = c .before .before .before in
+    let f = t .before .before in
+    let p = f .before .before in
+    let a = p .before .before .before .before .before .before .before .before .args in
+    survey-refused (now (a .index)) (now (a .recipes)) (p .loop .k) (p .loop .at) (omega arith) (now (f .file-at .result)) (f .file-at .ensures) (p .loop .some) (p .loop .total) (p .loop .inv .3) (t .file-code .result) (test t .number) (c .if1 .taken)
+
+count-file-requires : tie.Need-count-file-requires Inv-loop μ-loop
+count-file-requires c κs =
+    let e = c .before in
+    let t = e .before .before .before in
+    let f = t .before .before in
+    let p = f .before .before in
+    let s = p .before .before .before .before .before .before .before .before in
+    let a = s .args in
+    let z = e .if1 .left in (
+      s .pre .0 .looked,
+      (
+        file-walks (now (a .index)) (now (a .recipes)) (p .loop .k) (p .loop .at) (p .loop .inv .3 .walk) (omega arith) (now (f .file-at .result)) (f .file-at .ensures) (t .file-code .last .1 .1 .1 .1 .1 .1 .1 .0) (sym (test t .number) ∙ z) (test t .slotted z),
+        s .pre .0 .keyed,
+      ),
+    )
+
+mark-of-requires : tie.Need-mark-of-requires Inv-loop μ-loop
+mark-of-requires c κs = search needs
+
+slice-write-some : tie.Need-slice-write-some Inv-loop μ-loop
+slice-write-some c =
+    let p = c .before .before .before .before .before .before .before .before .before .before in
+    omega (arith, p .loop .inv .0, p .loop .inv .2, p .loop .inv .3 .few, p .before .before .before .before .before .before .before .before .pre .1 .1)
+
+add-total : tie.Need-add-total Inv-loop μ-loop
+add-total c =
+    let p = c .before .before .before .before .before .before .before .before .before .before in
+    omega (arith, p .loop .inv .3 .small, p .loop .inv .3 .few, c .before .count-file .ensures .few)
+
+add-at : tie.Need-add-at Inv-loop μ-loop
+add-at c = omega (arith, room (c .before .before .before .before .before .before .before .before), c .before .before .before .before .before .before .before .before .before .before .before .before .before .before .before .before .before .before)
+
+add-at-2 : tie.Need-add-at-2 Inv-loop μ-loop
+add-at-2 c = omega (arith, room (c .before .before .before .before .before .before .before .before), c .before .before .before .before .before .before .before .before .before .before .before .before .before .before .before .before .before .before)
+
+add-k : tie.Need-add-k Inv-loop μ-loop
+add-k c = omega arith
+
+loop-less : tie.Need-loop-less Inv-loop μ-loop
+loop-less c = omega arith
+
+loop-again : tie.Need-loop-again Inv-loop μ-loop
+loop-again c =
+    let n = c .before .count-file in
+    let e = c .before .before .before in
+    let t = e .before .before .before in
+    let f = t .before .before in
+    let p = f .before .before in
+    let s = p .before .before .before .before .before .before .before .before in
+    let a = s .args in
+    let l = p .loop in (
+      l .inv .0,
+      t .file-code .kept .1 .1 .1 .1 .1 .1 .1 .0 ∙ l .inv .1,
+      length-set (l .some) (l .k) (c .mark-of .result) ∙ l .inv .2,
+      survey-on (now (a .index)) (now (a .recipes)) (l .k) (l .at) (omega arith) (now (f .file-at .result)) (f .file-at .ensures) (l .some) (l .total) (l .inv .3) (t .file-code .result) (test t .number) (e .if1 .left)
+          (n .result) (c .mark-of .result) (n .ensures) (c .mark-of .ensures) (omega (arith, l .inv .0, l .inv .2, l .inv .3 .few, s .pre .1 .1)),
+    )
+
+same-length-3 : tie.Need-same-length-3 Inv-loop μ-loop
+same-length-3 c = c .before .loop .inv .1
+
+same-length-4 : tie.Need-same-length-4 Inv-loop μ-loop
+same-length-4 c = c .before .loop .inv .2
+
+returns-2 : tie.Need-returns-2 Inv-loop μ-loop
+returns-2 c =
+    let p = c .before in
+    let s = p .before .before .before .before .before .before .before .before in
+    survey-end (now (s .args .index)) (now (s .args .recipes)) (p .loop .some) (p .loop .k) (p .loop .at) (p .loop .total) (p .loop .inv .3) (omega arith) (omega (arith, p .loop .inv .2, s .pre .1 .1))
+
+pub survey-files-spec : {M : Type 1} → statement M
+survey-files-spec =
+    tie.close
+    (tie.spec
+    Inv-loop
+    μ-loop
+    count-at-requires
+    loop-holds
+    file-at-requires
+    file-code-requires
+    same-length
+    same-length-2
+    returns
+    count-file-requires
+    mark-of-requires
+    slice-write-some
+    add-total
+    add-at
+    add-at-2
+    add-k
+    loop-less
+    loop-again
+    same-length-3
+    same-length-4
+    returns-2)
