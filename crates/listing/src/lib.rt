@@ -21,7 +21,7 @@ const FROM: usize = 3;
 const SET: usize = 4;
 
 // The stream whose next offset is taken off what is unread.
-pub fn pull(index: &[u8], width: usize, size: usize, stream: [usize; 5]) -> [usize; 5]
+fn pull(index: &[u8], width: usize, size: usize, stream: [usize; 5]) -> [usize; 5]
     requires { ⌜ (width ≤ 8) × Readable (now index) width size stream ⌝ }
     ensures { λ r. ⌜ Pulled (now (index .entry)) width size stream r ⌝ }
 {
@@ -42,7 +42,7 @@ pub fn pull(index: &[u8], width: usize, size: usize, stream: [usize; 5]) -> [usi
 }
 
 // The first of the streams whose next offsets are least.
-pub fn least(streams: &[[usize; 5]; 16], count: usize) -> usize
+fn least(streams: &[[usize; 5]; 16], count: usize) -> usize
     requires { ⌜ (0 < count) × (count ≤ 16) ⌝ }
     ensures { λ r. ⌜ Least (now (streams .entry)) count r ⌝ }
 {

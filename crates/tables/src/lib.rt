@@ -9,7 +9,7 @@ ghost use Rattle.keywords.specs.Parsed.{Parsed};
 ghost use Rattle.tables.specs.Tabled.{cellSet, RowOf, TableOf, Tabled};
 
 // Whether the keyword starts at s in its first i bytes followed by its last j.
-pub fn in_cell(flag: u8, keyword: &[u8], i: usize, j: usize, s: usize) -> bool
+fn in_cell(flag: u8, keyword: &[u8], i: usize, j: usize, s: usize) -> bool
     requires { ⌜ (i < length (now keyword)) × (j < length (now keyword)) × (s < i) ⌝ }
     ensures { λ r. ⌜ r ≡ inCell (folded flag (now (keyword .entry))) i j s ⌝ }
 {
@@ -22,7 +22,7 @@ pub fn in_cell(flag: u8, keyword: &[u8], i: usize, j: usize, s: usize) -> bool
 }
 
 // The cell for i and j. The keyword has room for i + j - n + 1 starts only.
-pub fn cell_of(flag: u8, keyword: &[u8], i: usize, j: usize) -> u32
+fn cell_of(flag: u8, keyword: &[u8], i: usize, j: usize) -> u32
     requires { ⌜ (i < length (now keyword)) × (j < length (now keyword)) × (length (now keyword) ≤ 32) ⌝ }
     ensures { λ r. ⌜ r ≡ cellSet (folded flag (now (keyword .entry))) i j ⌝ }
 {
@@ -43,7 +43,7 @@ pub fn cell_of(flag: u8, keyword: &[u8], i: usize, j: usize) -> u32
 }
 
 // The cells for i, by j.
-pub fn row_of(flag: u8, keyword: &[u8], i: usize) -> [u32; 32]
+fn row_of(flag: u8, keyword: &[u8], i: usize) -> [u32; 32]
     requires { ⌜ (i < length (now keyword)) × (length (now keyword) ≤ 32) ⌝ }
     ensures { λ r. ⌜ RowOf (folded flag (now (keyword .entry))) i r ⌝ }
 {
@@ -57,7 +57,7 @@ pub fn row_of(flag: u8, keyword: &[u8], i: usize) -> [u32; 32]
 }
 
 // The table of one keyword.
-pub fn table_of(flag: u8, keyword: &[u8]) -> [[u32; 32]; 32]
+fn table_of(flag: u8, keyword: &[u8]) -> [[u32; 32]; 32]
     requires { ⌜ length (now keyword) ≤ 32 ⌝ }
     ensures { λ r. ⌜ TableOf (folded flag (now (keyword .entry))) r ⌝ }
 {
