@@ -17,7 +17,7 @@ use Rattle.spec.specs.declared.Outcome.{Outcome}
 use Rattle.spec.specs.declared.Outcome.the-variants.{Done, Refused}
 use Rattle.spec.specs.Outcome.{answer}
 use Rattle.spec.specs.Lookup.{findBody, bodyStart, bodyLength, bodyOf}
-use Rattle.spec.proofs.LookupLaws.{refuses, finds, lookup-refused, lookup-length, lookup-none, lookup-found, lookup-passed, start-found, length-found, start-refused, length-refused}
+use Rattle.spec.proofs.LookupLaws.{refuses, finds, done-code, refused-number, lookup-refused, lookup-length, lookup-none, lookup-found, lookup-passed, start-found, length-found, start-refused, length-refused}
 use Rattle.spec.proofs.KeywordLaws.{accepted}
 use Rattle.spec.proofs.IndexChecks.{index-good, length-indexKeys}
 use Rattle.directory.specs.Chains.{keysFrom, Lies}
@@ -73,6 +73,13 @@ module _ (index fp : List ℕ) where
   pub refused-length : indexCode form1 index ≡ 0 → length fp ≢ 20 → Refused 19 ≡ located
   unfolding findBody
   refused-length z d = refuses 19 _ _ (lookup-length (indexCode form1 index) (indexKeys index) fp z d) (λ e. omega arith)
+
+  -- what an answer says
+  pub told-done : (k : ℕ) → Done k ≡ located → (findBody form1 index fp ≡ 0) × (k ≡ positionOf fp (indexKeys index))
+  told-done k e = done-code k (findBody form1 index fp) (positionOf fp (indexKeys index)) e
+
+  pub told-refused : (n : ℕ) → Refused n ≡ located → (n ≡ findBody form1 index fp) × (findBody form1 index fp ≢ 0)
+  told-refused n e = refused-number n (findBody form1 index fp) (positionOf fp (indexKeys index)) e
 
   -- the fingerprint's place among c
   module _ (z : indexCode form1 index ≡ 0) (l : length fp ≡ 20) (c : ℕ) (e : c ≡ chunkCount index) (k : ℕ) (q : k ≡ positionOf fp (indexKeys index)) where

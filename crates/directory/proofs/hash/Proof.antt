@@ -8,20 +8,31 @@ use borrow.Author.Needs.{needs}
 use Rattle.directory.proofs.hash.Statement.{statement}
 use Rattle.directory.proofs.hash.Tie as tie
 
+-- each field is below 2^32
 small-1 : (c : tie.After-read) → c .read .result < 4294967296
-small-1 c = read-lt (now (c .before .before .args .key)) 0 (c .read .result) (λ i. c .before .shared-slice-known .given i .fits) (c .read .ensures)
+small-1 c =
+    let known = c .before in
+    read-lt (now (known .before .args .key)) 0 (c .read .result) (λ i. known .shared-slice-known .given i .fits) (c .read .ensures)
 
 small-2 : (c : tie.After-read2) → c .read2 .result < 4294967296
-small-2 c = read-lt (now (c .before .before .before .args .key)) 4 (c .read2 .result) (λ i. c .before .before .shared-slice-known .given i .fits) (c .read2 .ensures)
+small-2 c =
+    let known = c .before .before in
+    read-lt (now (known .before .args .key)) 4 (c .read2 .result) (λ i. known .shared-slice-known .given i .fits) (c .read2 .ensures)
 
 small-3 : (c : tie.After-read3) → c .read3 .result < 4294967296
-small-3 c = read-lt (now (c .before .before .before .before .args .key)) 8 (c .read3 .result) (λ i. c .before .before .before .shared-slice-known .given i .fits) (c .read3 .ensures)
+small-3 c =
+    let known = c .before .before .before in
+    read-lt (now (known .before .args .key)) 8 (c .read3 .result) (λ i. known .shared-slice-known .given i .fits) (c .read3 .ensures)
 
 small-4 : (c : tie.After-read4) → c .read4 .result < 4294967296
-small-4 c = read-lt (now (c .before .before .before .before .before .args .key)) 12 (c .read4 .result) (λ i. c .before .before .before .before .shared-slice-known .given i .fits) (c .read4 .ensures)
+small-4 c =
+    let known = c .before .before .before .before in
+    read-lt (now (known .before .args .key)) 12 (c .read4 .result) (λ i. known .shared-slice-known .given i .fits) (c .read4 .ensures)
 
 small-5 : (c : tie.After-read5) → c .read5 .result < 4294967296
-small-5 c = read-lt (now (c .before .before .before .before .before .before .args .key)) 16 (c .read5 .result) (λ i. c .before .before .before .before .before .shared-slice-known .given i .fits) (c .read5 .ensures)
+small-5 c =
+    let known = c .before .before .before .before .before in
+    read-lt (now (known .before .args .key)) 16 (c .read5 .result) (λ i. known .shared-slice-known .given i .fits) (c .read5 .ensures)
 
 read-requires : tie.Need-read-requires
 read-requires c κs = search needs

@@ -1,6 +1,7 @@
-use mathlib.Core.Path.{_≡_, refl, sym, ap, _∙_}
-use mathlib.Core.List.{List, [], _∷_}
-use Prim.Native.Nat.{ℕ, suc, _+_, _-_, _≤_, _<_}
+-- `copy` meets its contract: the bytes that are left, written from at + i on, give the whole run written.
+use mathlib.Core.Path.{_≡_, refl, sym, _∙_}
+use mathlib.Core.List.{List}
+use Prim.Native.Nat.{ℕ, _+_, _-_, _≤_, _<_}
 use native.Mathlib.Nat.{add-zero}
 use native.Mathlib.Numerals.{add-one}
 use native.Mathlib.Omega.{arith}
@@ -11,8 +12,6 @@ use Rattle.spec.proofs.Splices.{splice-nil, splice-cons}
 use borrow.Author.Needs.{needs}
 use Rattle.field.proofs.copy.Statement.{statement}
 use Rattle.field.proofs.copy.Tie as tie
-use Rattle.field.proofs.copy.Reads as reads
-use Rattle.field.proofs.copy.Lts as lts
 
 abbrev Inv-loop : tie.InvT-loop
 Inv-loop out₀ at s i₀ out i = (i ≤ length s) × (length out ≡ length out₀) × (splice out (at + i) (drop i s) ≡ splice out₀ at s)

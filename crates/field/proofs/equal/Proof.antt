@@ -1,19 +1,17 @@
+-- `equal` meets its contract: the bytes before i are equal, so the comparison of the rest is that of the whole.
 use mathlib.Core.Path.{_≡_, refl, sym, ap, _∙_}
-use mathlib.Core.Bool.{Bool, true, false}
-use Prim.Native.Nat.{ℕ, _+_, _-_, _≤_, _<_}
+use mathlib.Core.Bool.{Bool, true, false, _&&_}
+use Prim.Native.Nat.{_+_, _-_, _≤_}
 use native.Mathlib.Omega.{arith}
 use borrow.Author.Tests.{eq-eqb, ne-eqb}
 use lib.Dec.{eqb}
 use lib.ListN.{length, getD, drop}
 use denote.Ref.{now}
-use mathlib.Core.Bool.{_&&_}
 use Rattle.spec.specs.Bytes.{same}
 use Rattle.spec.proofs.Same.{same-lengths, same-turn, same-end}
 use borrow.Author.Needs.{needs}
 use Rattle.field.proofs.equal.Statement.{statement}
 use Rattle.field.proofs.equal.Tie as tie
-use Rattle.field.proofs.equal.Reads as reads
-use Rattle.field.proofs.equal.Lts as lts
 
 abbrev Inv-loop : tie.InvT-loop
 Inv-loop a b i₀ i = (length a ≡ length b) × (i ≤ length a) × (same (drop i a) (drop i b) ≡ same a b)

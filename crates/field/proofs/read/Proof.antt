@@ -1,21 +1,16 @@
+-- `read` meets its contract: from the highest byte down, what was read is the value of the field's bytes from k on.
+use mathlib.Core.Path.{_≡_, sym, ap, _∙_}
+use mathlib.Core.List.{List}
+use Prim.Native.Nat.{ℕ, suc, _+_, _*_, _-_, _^_, _≤_, _<_}
 use native.Mathlib.Nat.{sub-self, pow-le-pow-right, min-le-left}
-use lib.ListN.{drop-of-length-le}
-use mathlib.Core.Path.{_≡_, refl, sym, ap, _∙_, subst}
-use mathlib.Core.List.{List, [], _∷_}
-use Prim.Native.Nat.{ℕ, zero, suc, _+_, _*_, _/_, _%_, _-_, _^_, _≤_, _<_}
-use native.Mathlib.Numerals.{add-one}
 use native.Mathlib.Omega.{arith}
-use lib.ListN.{length, getD, set, take, drop, length-set, length-take, length-drop}
-use lib.Seq.{drop-cons, getD-take, getD-drop, drop-length}
-use denote.Ref.{now}
-use Rattle.spec.specs.Bytes.{leValue, leBytes, splice}
-use Rattle.spec.proofs.Fields.{length-leBytes, leValue-lt}
-use Rattle.spec.proofs.Splices.{splice-nil, splice-cons}
+use lib.ListN.{length, getD, take, drop, length-take, length-drop, drop-of-length-le}
+use lib.Seq.{drop-cons, getD-take, getD-drop}
+use Rattle.spec.specs.Bytes.{leValue}
+use Rattle.spec.proofs.Fields.{leValue-lt}
 use borrow.Author.Needs.{needs}
 use Rattle.field.proofs.read.Statement.{statement}
 use Rattle.field.proofs.read.Tie as tie
-use Rattle.field.proofs.read.Reads as reads
-use Rattle.field.proofs.read.Lts as lts
 
 abbrev Inv-loop : tie.InvT-loop
 Inv-loop bytes at width v₀ k₀ v k = (k ≤ width) × (width ≤ 8) × (v ≡ leValue (drop k (take width (drop at bytes)))) × (v < 256 ^ (width - k))
@@ -51,7 +46,7 @@ fits : (c : tie.After-shared-slice-known Inv-loop μ-loop)
 fits c =
     let at = c .before .before in
     let start = at .before .args in
-    next (start .width) (at .loop .k) (at .loop .v) (getD (start .bytes .now) (start .at + (at .loop .k - 1)) 0) (c .before .loop-test .taken) (at .loop .inv .0)
+    next (start .width) (at .loop .k) (at .loop .v) (getD (start .bytes .now) (start .at + (at .loop .k - 1)) 0) (omega arith) (at .loop .inv .0)
     (omega (arith, c .shared-slice-known .given (start .at + (at .loop .k - 1)))) (at .loop .inv .3)
 
 loop-holds : tie.Need-loop-holds Inv-loop μ-loop
@@ -62,7 +57,10 @@ sub-k : tie.Need-sub-k Inv-loop μ-loop
 sub-k c = search needs
 
 mul-v : tie.Need-mul-v Inv-loop μ-loop
-mul-v c = omega (arith, small (c .before .before .args .width) (c .before .loop .k - 1) (c .before .loop .v * 256 + 0) (c .before .loop .inv .1) (next (c .before .before .args .width) (c .before .loop .k) (c .before .loop .v) 0 (c .loop-test .taken) (c .before .loop .inv .0) (omega arith) (c .before .loop .inv .3)))
+mul-v c =
+    let at = c .before in
+    let w = at .before .args .width in
+    omega (arith, small w (at .loop .k - 1) (at .loop .v * 256 + 0) (at .loop .inv .1) (next w (at .loop .k) (at .loop .v) 0 (omega arith) (at .loop .inv .0) (omega arith) (at .loop .inv .3)))
 
 add-v : tie.Need-add-v Inv-loop μ-loop
 add-v c = omega arith
@@ -94,8 +92,10 @@ loop-again c =
 
 returns : tie.Need-returns Inv-loop μ-loop
 returns c =
-    let z : c .before .loop .k ≡ 0 = omega arith in
-    c .before .loop .inv .2 ∙ ap (λ (k : ℕ). leValue (drop k (take (c .before .before .args .width) (drop (c .before .before .args .at) (c .before .before .args .bytes .now))))) z
+    let at = c .before in
+    let a = at .before .args in
+    let z : at .loop .k ≡ 0 = omega arith in
+    at .loop .inv .2 ∙ ap (λ (k : ℕ). leValue (drop k (take (a .width) (drop (a .at) (a .bytes .now))))) z
 
 pub read-spec : {M : Type 1} → statement M
 read-spec =

@@ -1,20 +1,15 @@
+-- `write` meets its contract: the bytes that are left, written from at + k on, give the whole field written.
+use mathlib.Core.Path.{_≡_, refl, sym, ap, _∙_}
+use mathlib.Core.List.{List}
+use Prim.Native.Nat.{ℕ, suc, _+_, _/_, _%_, _-_, _≤_, _<_}
 use native.Mathlib.Nat.{add-zero, sub-zero}
-use mathlib.Core.Path.{_≡_, refl, sym, ap, _∙_, subst}
-use mathlib.Core.List.{List, [], _∷_}
-use Prim.Native.Nat.{ℕ, zero, suc, _+_, _*_, _/_, _%_, _-_, _^_, _≤_, _<_}
-use native.Mathlib.Numerals.{add-one}
 use native.Mathlib.Omega.{arith}
-use lib.ListN.{length, getD, set, take, drop, length-set, length-take, length-drop}
-use lib.Seq.{drop-cons, getD-take, getD-drop, drop-length}
-use denote.Ref.{now}
-use Rattle.spec.specs.Bytes.{leValue, leBytes, splice}
-use Rattle.spec.proofs.Fields.{length-leBytes, leValue-lt}
+use lib.ListN.{length, set, length-set}
+use Rattle.spec.specs.Bytes.{leBytes, splice}
 use Rattle.spec.proofs.Splices.{splice-nil, splice-cons}
 use borrow.Author.Needs.{needs}
 use Rattle.field.proofs.write.Statement.{statement}
 use Rattle.field.proofs.write.Tie as tie
-use Rattle.field.proofs.write.Reads as reads
-use Rattle.field.proofs.write.Lts as lts
 
 abbrev Inv-loop : tie.InvT-loop
 Inv-loop out₀ at width v rest₀ k₀ out rest k = (k ≤ width) × (length out ≡ length out₀) × (splice out (at + k) (leBytes (width - k) rest) ≡ splice out₀ at (leBytes width v))
@@ -67,8 +62,10 @@ returns : tie.Need-returns Inv-loop μ-loop
 unfolding leBytes
 returns c =
     let at = c .before in
-    let z : at .before .args .width - at .loop .k ≡ 0 = omega arith in
-    sym (splice-nil (at .loop .out) (at .before .args .at + at .loop .k)) ∙ ap (λ (x : ℕ). splice (at .loop .out) (at .before .args .at + at .loop .k) (leBytes x (at .loop .rest))) (sym z) ∙ at .loop .inv .2
+    let a = at .before .args in
+    let i = a .at + at .loop .k in
+    let z : a .width - at .loop .k ≡ 0 = omega arith in
+    sym (splice-nil (at .loop .out) i) ∙ ap (λ (x : ℕ). splice (at .loop .out) i (leBytes x (at .loop .rest))) (sym z) ∙ at .loop .inv .2
 
 pub write-spec : {M : Type 1} → statement M
 write-spec =

@@ -39,8 +39,9 @@ loop-less c = search needs
 
 loop-again : tie.Need-loop-again Inv-loop μ-loop
 loop-again c =
-    let s = c .before .before .before .before .before .before in
-    (omega arith, below-more (λ (k : ℕ). goodAt form1 (now (s .args .index)) k ≡ true) (c .before .before .before .loop .e) (c .before .before .before .loop .inv .1) (sym (c .before .entry-good .ensures) ∙ not-false _ (c .if1 .left)))
+    let at = c .before .before .before in
+    let index = now (at .before .before .before .args .index) in
+    (omega arith, below-more (λ (k : ℕ). goodAt form1 index k ≡ true) (at .loop .e) (at .loop .inv .1) (sym (c .before .entry-good .ensures) ∙ not-false _ (c .if1 .left)))
 
 returns-2 : tie.Need-returns-2 Inv-loop μ-loop
 returns-2 c =

@@ -7,8 +7,7 @@ use Rattle.spec.specs.Bytes.{positionOf}
 use Rattle.spec.specs.Records.{form1}
 use Rattle.spec.specs.Index.{indexKeys}
 use Rattle.spec.specs.Lookup.{findBody}
-use Rattle.spec.proofs.LookupLaws.{done-code, refused-number}
-use Rattle.index.proofs.LookupLaws.{found-entry, slice-there, slice-none, start-none}
+use Rattle.index.proofs.LookupLaws.{told-done, told-refused, found-entry, slice-there, slice-none, start-none}
 use borrow.Author.Needs.{needs}
 use Rattle.index.proofs.body.Statement.{statement}
 use Rattle.index.proofs.body.Tie as tie
@@ -20,7 +19,7 @@ told : (c : tie.After-known-told)
 told c =
     let called = c .before .before .before in
     let a = called .before .before .before .args in
-    done-code (c .before .k .given .0 .0) (findBody form1 (now (a .index)) (now (a .fp))) (positionOf (now (a .fp)) (indexKeys (now (a .index)))) (sym (c .before .k .given .1) ∙ called .locate .ensures)
+    told-done (now (a .index)) (now (a .fp)) (c .before .k .given .0 .0) (sym (c .before .k .given .1) ∙ called .locate .ensures)
 
 locate-requires : tie.Need-locate-requires
 locate-requires c κs = search needs
@@ -50,7 +49,7 @@ returns-2 : tie.Need-returns-2
 returns-2 c =
     let called = c .before .before .before in
     let a = called .before .before .before .args in
-    let d = refused-number (c .before .enum-told .given .0 .0) (findBody form1 (now (a .index)) (now (a .fp))) (positionOf (now (a .fp)) (indexKeys (now (a .index)))) (sym (c .before .enum-told .given .1) ∙ called .locate .ensures) .1 in
+    let d = told-refused (now (a .index)) (now (a .fp)) (c .before .enum-told .given .0 .0) (sym (c .before .enum-told .given .1) ∙ called .locate .ensures) .1 in
     record {
       holds = slice-none (now (a .index)) (now (a .fp)) d;
       block = refl;

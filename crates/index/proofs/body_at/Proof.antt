@@ -1,12 +1,20 @@
 -- `body_at` meets its contract: the bodies of a checked index lie in it.
 use mathlib.Core.Path.{refl, ap}
-use Prim.Native.Nat.{ℕ, _+_}
+use Prim.Native.Nat.{ℕ, _+_, _≤_}
 use native.Mathlib.Omega.{arith}
+use lib.ListN.{length}
 use denote.Ref.{now}
 use borrow.Author.Needs.{needs}
 use Rattle.index.proofs.LookupLaws.{body-room, body-slice, offset-found}
 use Rattle.index.proofs.body_at.Statement.{statement}
 use Rattle.index.proofs.body_at.Tie as tie
+
+-- the body lies in the index
+room : (c : tie.After-entry-field2) → c .before .entry-field .result + c .entry-field2 .result ≤ length (now (c .before .before .before .args .index))
+room c =
+    let first = c .before in
+    let s = first .before .before in
+    body-room (now (s .args .index)) (s .args .k) (s .pre) (first .entry-field .result) (c .entry-field2 .result) (first .entry-field .ensures) (c .entry-field2 .ensures)
 
 entry-field-requires : tie.Need-entry-field-requires
 entry-field-requires c κs = search needs
@@ -15,7 +23,7 @@ entry-field-requires-2 : tie.Need-entry-field-requires-2
 entry-field-requires-2 c κs = search needs
 
 add-result : tie.Need-add-result
-add-result c = let r = body-room (now (c .before .before .before .args .index)) (c .before .before .before .args .k) (c .before .before .before .pre) (c .before .entry-field .result) (c .entry-field2 .result) (c .before .entry-field .ensures) (c .entry-field2 .ensures) in record { fits = omega arith }
+add-result c = let r = room c in record { fits = omega arith }
 
 sub-result : tie.Need-sub-result
 sub-result c = search needs
@@ -24,10 +32,21 @@ part-result-start : tie.Need-part-result-start
 part-result-start c = search needs
 
 part-result-end : tie.Need-part-result-end
-part-result-end c = body-room (now (c .before .before .before .args .index)) (c .before .before .before .args .k) (c .before .before .before .pre) (c .before .entry-field .result) (c .entry-field2 .result) (c .before .entry-field .ensures) (c .entry-field2 .ensures)
+part-result-end c = room c
 
 returns : tie.Need-returns
-returns c = record { holds = body-slice (now (c .before .before .before .before .args .index)) (c .before .before .before .before .args .k) (c .before .before .before .before .pre) (c .before .before .entry-field .result) (c .before .entry-field2 .result) (c .before .before .entry-field .ensures) (c .before .entry-field2 .ensures); block = refl; place = ap (λ (n : ℕ). n + c .before .before .before .before .args .index .ptr .1) (offset-found (now (c .before .before .before .before .args .index)) (c .before .before .before .before .args .k) (c .before .before .before .before .pre) (c .before .before .entry-field .result) (c .before .entry-field2 .result) (c .before .before .entry-field .ensures) (c .before .entry-field2 .ensures)) }
+returns c =
+    let both = c .before in
+    let first = both .before in
+    let s = first .before .before in
+    let index = now (s .args .index) in
+    let at = first .entry-field .result in
+    let n = both .entry-field2 .result in
+    record {
+      holds = body-slice index (s .args .k) (s .pre) at n (first .entry-field .ensures) (both .entry-field2 .ensures);
+      block = refl;
+      place = ap (λ (x : ℕ). x + s .args .index .ptr .1) (offset-found index (s .args .k) (s .pre) at n (first .entry-field .ensures) (both .entry-field2 .ensures));
+    }
 
 pub body-at-spec : {M : Type 1} → statement M
 body-at-spec =

@@ -31,7 +31,10 @@ returns-3 : tie.Need-returns-3
 returns-3 c = header-many (now (c .before .before .before .before .before .before .before .before .args .index)) (omega arith)
 
 returns-4 : tie.Need-returns-4
-returns-4 c = header-good (now (c .before .before .before .before .before .before .before .before .args .index)) (omega arith) (sym (c .before .before .before .equal .ensures) ∙ not-false _ (c .before .before .if2 .left)) (omega arith)
+returns-4 c =
+    let compared = c .before .before in
+    let index = now (compared .before .before .before .before .before .before .args .index) in
+    header-good index (omega arith) (sym (compared .before .equal .ensures) ∙ not-false _ (compared .if2 .left)) (omega arith)
 
 pub header-spec : {M : Type 1} → statement M
 header-spec =
