@@ -1,11 +1,18 @@
-// The model written in document 01's formats. Each function returns the length written, or the place behind what it wrote.
+// The model written as a case: the inputs in document 01's formats. Functions that write one thing after the other return the place behind.
 use crate::bytes::copy;
 use crate::bytes::get;
+use crate::bytes::less;
 use crate::bytes::num;
 use crate::bytes::plus;
 use crate::bytes::put;
 use crate::bytes::put_2;
 use crate::bytes::put_4;
+use crate::case::INDEX;
+use crate::case::LIST;
+use crate::case::RECIPES;
+use crate::case::STORE;
+use crate::case::put_length;
+use crate::case::store_entry;
 use crate::model::chunk_at;
 use crate::model::chunk_of;
 use crate::model::chunk_size;
@@ -18,22 +25,29 @@ use crate::model::keyword_size;
 use crate::model::keywords;
 use crate::model::mark_at;
 use crate::model::partial_at;
+use crate::plain::alike_code;
+use crate::plain::recipes_code;
 
-// The keyword list.
-pub fn put_list(out: &mut [u8], m: &[u8]) -> usize {
-    put(out, 0, (keywords(m) % 256) as u8);
-    put(out, 1, (flag(m) % 256) as u8);
-    put_keywords(out, m, keywords(m))
+// The keyword list, from `at` on; the place behind it.
+fn put_list_at(out: &mut [u8], at: usize, m: &[u8]) -> usize {
+    put(out, at, (keywords(m) % 256) as u8);
+    put(out, plus(at, 1), (flag(m) % 256) as u8);
+    put_keywords(out, plus(at, 2), m, keywords(m))
 }
 
-fn put_keywords(out: &mut [u8], m: &[u8], n: usize) -> usize {
-    let mut at: usize = 2;
+fn put_keywords(out: &mut [u8], start: usize, m: &[u8], n: usize) -> usize {
+    let mut at = start;
     for k in 0..n {
         let size = plus(keyword_size(m, k), 1);
         copy(out, at, m, keyword_at(k), size);
         at = plus(at, size);
     }
     at
+}
+
+fn put_list(out: &mut [u8], m: &[u8]) {
+    let end = put_list_at(out, LIST, m);
+    put_length(out, 0, end);
 }
 
 // The fingerprint of chunk c: 20 bytes that differ between chunks in the first or the last byte only.
@@ -43,18 +57,20 @@ pub fn put_key(out: &mut [u8], at: usize, c: usize) {
     put(out, plus(at, 19), (c / 2 % 256) as u8);
 }
 
-pub fn put_mark(out: &mut [u8], a: u8, n: usize) {
-    copy(out, 0, b"D.1\n", 0, 4);
-    put(out, 1, a);
-    put_4(out, 4, n);
+// The 8 bytes that a store (0x56) and an index (0x4D) start with.
+pub fn put_mark(out: &mut [u8], at: usize, a: u8, n: usize) {
+    copy(out, at, b"D.1\n", 0, 4);
+    put(out, plus(at, 1), a);
+    put_4(out, plus(at, 4), n);
 }
 
-// The store.
-pub fn put_store(out: &mut [u8], m: &[u8]) -> usize {
-    put_mark(out, 0x56, chunks(m));
-    put_chunks(out, m, chunks(m))
+fn put_store(out: &mut [u8], m: &[u8]) {
+    put_mark(out, STORE, 0x56, chunks(m));
+    let end = put_chunks(out, m, chunks(m));
+    put_length(out, 1, plus(STORE, end));
 }
 
+// Entries and chunks; the offset behind the last chunk.
 fn put_chunks(out: &mut [u8], m: &[u8], n: usize) -> usize {
     let mut at = 8 + 28 * (n % 16);
     for c in 0..n {
@@ -64,11 +80,11 @@ fn put_chunks(out: &mut [u8], m: &[u8], n: usize) -> usize {
 }
 
 fn put_chunk(out: &mut [u8], at: usize, m: &[u8], c: usize, size: usize) -> usize {
-    let entry = 8 + 28 * (c % 16);
+    let entry = store_entry(c);
     put_key(out, entry, c);
     put_4(out, plus(entry, 20), at);
     put_4(out, plus(entry, 24), size);
-    copy(out, at, m, chunk_at(c), size);
+    copy(out, plus(STORE, at), m, chunk_at(c), size);
     plus(at, size)
 }
 
@@ -90,7 +106,7 @@ fn put_offsets(out: &mut [u8], at: usize, m: &[u8], c: usize, k: usize, size: us
     a
 }
 
-fn count_of(m: &[u8], c: usize, k: usize, size: usize) -> usize {
+pub fn count_of(m: &[u8], c: usize, k: usize, size: usize) -> usize {
     let mut n: usize = 0;
     for p in 0..size {
         n = plus(n, num(m, mark_at(c, k, p)));
@@ -186,11 +202,11 @@ fn put_body(out: &mut [u8], at: usize, m: &[u8], c: usize, n: usize) -> usize {
 fn put_entry(out: &mut [u8], entry: usize, c: usize, size: usize, at: usize, end: usize) {
     put_key(out, entry, c);
     put_4(out, plus(entry, 20), size);
-    put_4(out, plus(entry, 24), at);
-    put_4(out, plus(entry, 28), std::num::wrapping_sub_usize(end, at));
+    put_4(out, plus(entry, 24), less(at, INDEX));
+    put_4(out, plus(entry, 28), less(end, at));
 }
 
-// Entries from `start` on and bodies behind them.
+// Entries from `start` on and bodies behind them; the place behind the last body.
 fn put_bodies(out: &mut [u8], start: usize, m: &[u8], n: usize, words: usize) -> usize {
     let mut at = plus(start, 32 * (n % 16));
     for c in 0..n {
@@ -208,12 +224,11 @@ fn put_bodies(out: &mut [u8], start: usize, m: &[u8], n: usize, words: usize) ->
     at
 }
 
-// The index over a keyword list.
-pub fn put_index(out: &mut [u8], list: &[u8], m: &[u8]) -> usize {
-    let w = list.len();
-    put_mark(out, 0x4D, chunks(m));
-    copy(out, 8, list, 0, w);
-    put_bodies(out, plus(8, w), m, chunks(m), keywords(m))
+fn put_index(out: &mut [u8], m: &[u8]) {
+    put_mark(out, INDEX, 0x4D, chunks(m));
+    let start = put_list_at(out, INDEX + 8, m);
+    let end = put_bodies(out, start, m, chunks(m), keywords(m));
+    put_length(out, 2, end);
 }
 
 // ---- recipes
@@ -229,12 +244,32 @@ fn put_file(out: &mut [u8], at: usize, m: &[u8], f: usize) -> usize {
     a
 }
 
-pub fn put_recipes(out: &mut [u8], m: &[u8]) -> usize {
-    let n = files(m);
-    put_4(out, 0, n);
-    let mut at: usize = 4;
+fn put_files(out: &mut [u8], start: usize, m: &[u8], n: usize) -> usize {
+    let mut at = start;
     for f in 0..n {
         at = put_file(out, at, m, f);
     }
     at
+}
+
+fn put_recipes(out: &mut [u8], m: &[u8]) {
+    put_4(out, RECIPES, files(m));
+    let end = put_files(out, RECIPES + 4, m, files(m));
+    put_length(out, 3, end);
+}
+
+// The case of a model: the four inputs, and the number that each gives by itself.
+pub fn encode(out: &mut [u8], m: &[u8]) {
+    put_list(out, m);
+    put_store(out, m);
+    put_index(out, m);
+    put_recipes(out, m);
+    put_codes(out, alike_code(m), recipes_code(m));
+}
+
+fn put_codes(out: &mut [u8], list: u8, recipes: u8) {
+    put(out, 0, list);
+    put(out, 1, 0);
+    put(out, 2, list);
+    put(out, 3, recipes);
 }

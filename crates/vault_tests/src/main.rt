@@ -1,77 +1,38 @@
 // Generated vaults and damaged inputs, run through the library and compared with plain computations. What it prints says how many cases
-// of each kind it ran, which numbers it reached and how often something was not as expected: never.
+// of each kind it ran, how many calls of each operation it compared, which numbers they answered, and how often something was not as
+// expected: never.
 mod bytes;
+mod case;
 mod cases;
 mod damaged;
 mod encode;
 mod faults;
+mod kinds;
 mod limits;
+mod lookups;
 mod model;
 mod plain;
 mod report;
 mod runs;
+mod tally;
 
 const SCANNED: usize = 2400;
 
 const INVENTED: usize = 1200;
 
-// Counters: by number 0 to 19; 20 failures; 21 the cases of a kind.
-fn bump(counts: &mut [u64], i: usize) {
-    if i < counts.len() {
-        counts[i] = std::num::wrapping_add_u64(counts[i], 1);
-    }
-}
+const PAIRS: usize = 3600;
 
-// Counts a case by the number that it reached.
-fn tally(counts: &mut [u64], code: u8) {
-    bump(counts, 21);
-    if code == cases::FAILED {
-        return bump(counts, 20);
-    }
-    if code == cases::FOUND {
-        bump(counts, 18);
-        return bump(counts, 0);
-    }
-    bump(counts, code as usize);
-}
-
-// An accepted vault was also scanned into a buffer one byte short, and strange fingerprints were looked up in it.
-fn tally_scanned(counts: &mut [u64], code: u8) {
-    tally(counts, code);
-    if is_accepted(code) {
-        tally_accepted(counts);
-    }
-}
-
-fn is_accepted(code: u8) -> bool {
-    if code == 0 {
-        return true;
-    }
-    code == cases::FOUND
-}
-
-fn tally_accepted(counts: &mut [u64]) {
-    bump(counts, 9);
-    bump(counts, 15);
-    bump(counts, 19);
-}
-
-// Generated vaults, scanned, joined and searched.
+// Vault number i, scanned, joined and searched.
 fn run_scanned(
     counts: &mut [u64],
     m: &mut [u8],
-    list: &mut [u8],
-    store: &mut [u8],
-    recipes: &mut [u8],
-    due: &mut [u8],
-    rows: &mut [u8],
-    index: &mut [u8],
+    f: &mut [u8],
+    other: &mut [u8],
     buffer: &mut [u8],
 ) {
     let n = SCANNED;
     for i in 0..n {
-        let code = cases::scanned(i, m, list, store, recipes, due, rows, index, buffer);
-        tally_scanned(counts, code);
+        cases::scanned(counts, i, m, f, other, buffer);
     }
 }
 
@@ -79,105 +40,101 @@ fn run_scanned(
 fn run_invented(
     counts: &mut [u64],
     m: &mut [u8],
-    list: &mut [u8],
-    store: &mut [u8],
-    recipes: &mut [u8],
-    due: &mut [u8],
-    rows: &mut [u8],
+    f: &mut [u8],
+    other: &mut [u8],
     buffer: &mut [u8],
 ) {
     let n = INVENTED;
     for i in 0..n {
-        let code = cases::invented(i, m, list, store, recipes, due, rows, buffer);
-        tally(counts, code);
+        cases::invented(counts, i, m, f, other, buffer);
     }
 }
 
-fn run_pair(counts: &mut [u64], i: usize, j: usize, good: &[u8], buffer: &mut [u8]) {
-    if damaged::together(i, j) {
-        tally(counts, damaged::run(i, j, good, buffer));
-    }
-}
-
-// Fault i with every fault.
-fn run_fault(counts: &mut [u64], i: usize, good: &[u8], buffer: &mut [u8]) {
-    let n = faults::ROWS;
-    for j in 0..n {
-        run_pair(counts, i, j, good, buffer);
-    }
-}
-
-// Every two faults of the inputs of one operation, and every fault alone.
-fn run_faults(counts: &mut [u64], good: &[u8], buffer: &mut [u8]) {
-    let n = faults::ROWS;
+// Stores of vaults, torn.
+fn run_torn(counts: &mut [u64], m: &mut [u8], f: &mut [u8], other: &mut [u8], buffer: &mut [u8]) {
+    let n = SCANNED;
     for i in 0..n {
-        run_fault(counts, i, good, buffer);
+        cases::torn(counts, i, m, f, other, buffer);
+    }
+}
+
+// Every two faults, and every fault alone: pair number t is of faults t / 60 and t % 60.
+fn run_faults(counts: &mut [u64], m: &[u8], f: &mut [u8], other: &mut [u8], buffer: &mut [u8]) {
+    let n = PAIRS;
+    for t in 0..n {
+        damaged::pair(counts, t / 60, t % 60, m, f, other, buffer);
     }
 }
 
 // The number of cases since the last line, under a name.
-fn report_kind(name: &[u8], counts: &mut [u64]) {
-    if 21 < counts.len() {
-        report::line(name, counts[21]);
-        counts[21] = 0;
+fn report_cases(name: &[u8], counts: &mut [u64]) {
+    if tally::CASES < counts.len() {
+        report::line(name, counts[tally::CASES]);
+        counts[tally::CASES] = 0;
     }
 }
 
-fn vaults(counts: &mut [u64]) {
-    let mut m = [0u8; 66600];
-    let mut list = [0u8; 640];
-    let mut store = [0u8; 8192];
-    let mut recipes = [0u8; 8192];
-    let mut due = [0u8; 65536];
-    let mut rows = [0u8; 65536];
-    let mut index = [0u8; 65536];
-    let mut buffer = [0u8; 65536];
-    run_scanned(
-        counts,
-        &mut m,
-        &mut list,
-        &mut store,
-        &mut recipes,
-        &mut due,
-        &mut rows,
-        &mut index,
-        &mut buffer,
-    );
-    report_kind(b"vaults scanned, joined and searched", counts);
-    run_invented(
-        counts,
-        &mut m,
-        &mut list,
-        &mut store,
-        &mut recipes,
-        &mut due,
-        &mut rows,
-        &mut buffer,
-    );
-    report_kind(b"indexes of made-up records joined", counts);
+// The kinds of the cases since the last such report.
+fn report_kinds(counts: &mut [u64]) {
+    report::kinds(counts);
+    tally::clear(counts, tally::KINDS, kinds::ALL);
 }
 
-fn faulty(counts: &mut [u64]) {
-    let mut m = [0u8; 66600];
-    let mut good = [0u8; 400];
-    let mut buffer = [0u8; 400];
-    damaged::inputs(&mut m, &mut good);
-    run_faults(counts, &good, &mut buffer);
-    report_kind(b"pairs of faults", counts);
+fn generated(counts: &mut [u64], m: &mut [u8], f: &mut [u8], other: &mut [u8], buffer: &mut [u8]) {
+    run_scanned(counts, m, f, other, buffer);
+    report_cases(b"vaults scanned, joined and searched", counts);
+    report_kinds(counts);
+    run_invented(counts, m, f, other, buffer);
+    report_cases(b"indexes of made-up records joined", counts);
+    report_kinds(counts);
+}
+
+fn torn(counts: &mut [u64], m: &mut [u8], f: &mut [u8], other: &mut [u8], buffer: &mut [u8]) {
+    run_torn(counts, m, f, other, buffer);
+    report_cases(b"torn stores checked and scanned", counts);
+    report::torn(counts);
+}
+
+// The small vault, made first.
+fn small(counts: &mut [u64], m: &mut [u8], f: &mut [u8], other: &mut [u8], buffer: &mut [u8]) {
+    damaged::small(m);
+    cases::run_scanned(counts, 0, m, f, other, buffer);
+    report_cases(b"the small vault", counts);
+}
+
+fn faulty(counts: &mut [u64], m: &mut [u8], f: &mut [u8], other: &mut [u8], buffer: &mut [u8]) {
+    small(counts, m, f, other, buffer);
+    run_faults(counts, m, f, other, buffer);
+    report_cases(b"pairs of faults in it", counts);
+}
+
+fn all(counts: &mut [u64], m: &mut [u8], f: &mut [u8], other: &mut [u8], buffer: &mut [u8]) {
+    generated(counts, m, f, other, buffer);
+    torn(counts, m, f, other, buffer);
+    faulty(counts, m, f, other, buffer);
+}
+
+fn vaults(counts: &mut [u64]) {
+    let mut m = case::room();
+    let mut f = case::room();
+    let mut buffer = case::room();
+    let mut other = [0u8; 6000];
+    all(counts, &mut m, &mut f, &mut other, &mut buffer);
 }
 
 fn longest(counts: &mut [u64]) {
     let mut recipes = limits::room();
-    tally(counts, limits::long_file(65537, 0, &mut recipes));
-    tally(counts, limits::long_file(65538, 16, &mut recipes));
-    report_kind(b"files at the longest length", counts);
+    limits::long_file(counts, &mut recipes, 65537, 0, 0);
+    limits::long_file(counts, &mut recipes, 65538, 0, 16);
+    limits::long_file(counts, &mut recipes, 65539, 1, 16);
+    limits::long_file(counts, &mut recipes, 65537, 1, 17);
+    limits::long_file(counts, &mut recipes, 65538, 2, 15);
+    report_cases(b"files at the longest length", counts);
 }
 
 fn main() {
-    let mut counts = [0u64; 22];
+    let mut counts = [0u64; 80];
     vaults(&mut counts);
-    faulty(&mut counts);
     longest(&mut counts);
-    report::codes(&counts);
-    report::line(b"not as expected", counts[20]);
+    report::totals(&counts);
 }

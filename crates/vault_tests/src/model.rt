@@ -167,15 +167,30 @@ fn make_file(m: &mut [u8], f: usize, n: usize, chunks: usize, seed: u64) -> u64 
     s
 }
 
-// Files of at most 9 chunks, some of them empty; all are where there is no chunk to name.
-fn make_files(m: &mut [u8], n: usize, chunks: usize, seed: u64) -> u64 {
+// Files of less than `most` chunks, some of them empty.
+fn make_files(m: &mut [u8], n: usize, most: usize, chunks: usize, seed: u64) -> u64 {
     let mut s = seed;
     for f in 0..n {
         s = next(s);
-        let size = if chunks == 0 { 0 } else { pick(s, 10) };
-        s = make_file(m, f, size, chunks, s);
+        s = make_file(m, f, pick(s, most), chunks, s);
     }
     s
+}
+
+// A file has at most 9 chunks, at most 3 where one is long, and none where there is none to name.
+fn most_of(kind: usize, chunks: usize) -> usize {
+    if chunks == 0 {
+        return 1;
+    }
+    if kind == 7 { 4 } else { 10 }
+}
+
+// How many chunks the files name: in some vaults one more than the store has.
+fn named(n: usize, chunks: usize) -> usize {
+    if n % 13 == 5 {
+        return plus(chunks, 1);
+    }
+    chunks
 }
 
 fn alphabet_of(kind: usize, seed: u64) -> usize {
@@ -212,12 +227,18 @@ pub fn make(m: &mut [u8], n: usize) {
     let alphabet = alphabet_of(kind, next(a));
     let b = make_keywords(m, keywords(m), kind, alphabet, a);
     let c = make_chunks(m, chunks(m), kind, alphabet, b);
-    make_files(m, files(m), chunks(m), c);
+    make_files(
+        m,
+        files(m),
+        most_of(kind, chunks(m)),
+        named(n, chunks(m)),
+        c,
+    );
 }
 
 // ---- made-up records
 
-// 1 for an offset at which a keyword of length n fits, in `often` of 4 cases.
+// 1 for an offset at which a keyword of length n fits, in `often` of 4 cases, always where `often` is 4.
 fn fits_often(p: usize, n: usize, size: usize, often: usize, seed: u64) -> u8 {
     if size < plus(p, n) {
         return 0;
@@ -251,7 +272,7 @@ fn invent_record(m: &mut [u8], c: usize, k: usize, seed: u64) -> u64 {
     let reach = plus(least(less(n, 1), size), 1);
     put(m, partial_at(c, k), (pick(a, reach) % 256) as u8);
     put(m, plus(partial_at(c, k), 1), (pick(b, reach) % 256) as u8);
-    invent_marks(m, c, k, n, size, pick(next(b), 4), b)
+    invent_marks(m, c, k, n, size, pick(next(b), 5), b)
 }
 
 fn invent_chunk(m: &mut [u8], c: usize, n: usize, seed: u64) -> u64 {

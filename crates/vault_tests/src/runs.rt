@@ -1,13 +1,24 @@
-// Runs of the library's operations, each compared with what the plain computations expect: the number, the value, every byte of the
-// buffer. Buffers are filled with a pattern first; exact buffers and ones a byte short are tried too.
+// Runs of the library's operations on a case, each compared with what the plain computations expect: the number, the value, every byte of
+// the buffer. Buffers are filled with a pattern first; long ones, exact ones and ones a byte short are tried.
 use crate::bytes::all;
 use crate::bytes::fill;
 use crate::bytes::less;
+use crate::bytes::plus;
 use crate::bytes::same;
+use crate::case;
+use crate::case::check_code;
+use crate::case::first;
+use crate::case::is_run;
+use crate::tally;
+use crate::tally::compared;
+use crate::tally::saw;
 use spec::Outcome;
 use spec::Searched;
 
 const PATTERN: u8 = 0xE5;
+
+// A search with the buffer that is tried as its index buffer.
+const SEARCH_INDEX: usize = 10;
 
 pub fn code_of(o: Outcome) -> u8 {
     match o {
@@ -16,31 +27,31 @@ pub fn code_of(o: Outcome) -> u8 {
     }
 }
 
-pub fn value_of(o: Outcome) -> usize {
+fn value_of(o: Outcome) -> usize {
     match o {
         Outcome::Done(n) => n,
         Outcome::Refused(_) => 0,
     }
 }
 
-// The answer is the number `code` or, where that is 0, the value.
-fn answers(o: Outcome, code: u8, value: usize) -> bool {
-    if code_of(o) != code {
-        return false;
-    }
+// A value is the one due; on a refusal there is none.
+fn value_as_due(value: usize, code: u8, due: usize) -> bool {
     if code != 0 {
-        return true;
+        return value == 0;
     }
-    value_of(o) == value
+    value == due
 }
 
-// A buffer holds the `n` bytes that were due and the pattern behind them; on a refusal the pattern alone.
-fn holds(buffer: &[u8], code: u8, due: &[u8], n: usize) -> bool {
+// A buffer holds the bytes that were due and the pattern behind them; on a refusal the pattern alone.
+fn holds(buffer: &[u8], code: u8, due: &[u8]) -> bool {
     if code != 0 {
         return all(buffer, 0, PATTERN);
     }
-    if same(buffer, 0, due, 0, n) {
-        return all(buffer, n, PATTERN);
+    if buffer.len() < due.len() {
+        return false;
+    }
+    if same(buffer, 0, due, 0, due.len()) {
+        return all(buffer, due.len(), PATTERN);
     }
     false
 }
@@ -53,113 +64,83 @@ fn late(code: u8, n: usize, room: usize, late: u8) -> u8 {
     if room < n { late } else { 0 }
 }
 
-// One scan into a buffer, expected to give `n` bytes of `due` or the refusal `code`.
-fn scan_into(list: &[u8], store: &[u8], buffer: &mut [u8], code: u8, due: &[u8], n: usize) -> bool {
+// ---- checks and sizes
+
+pub fn checks(counts: &mut [u64], f: &[u8]) {
+    let list = keywords::check(case::list(f));
+    compared(counts, tally::KEYWORD_CHECK, list, check_code(f, 0), true);
+    let store = store::check(case::store(f));
+    compared(counts, tally::STORE_CHECK, store, check_code(f, 1), true);
+    let index = index::check(case::index(f));
+    compared(counts, tally::INDEX_CHECK, index, check_code(f, 2), true);
+}
+
+fn size_run(counts: &mut [u64], f: &[u8]) {
+    let c = case::scan_code(f);
+    if is_run(f, c) {
+        let o = scan::size(case::list(f), case::store(f));
+        let ok = value_as_due(value_of(o), c, case::length_of(f, 2));
+        compared(counts, tally::SIZE, code_of(o), c, ok);
+    }
+}
+
+fn count_run(counts: &mut [u64], f: &[u8]) {
+    let c = case::join_code(f);
+    if is_run(f, c) {
+        let o = join::count(case::index(f), case::recipes(f));
+        let ok = value_as_due(value_of(o), c, case::count(f));
+        compared(counts, tally::COUNT, code_of(o), c, ok);
+    }
+}
+
+// ---- runs into a buffer
+
+// Exact buffers that were filled, and refused ones a byte short; for scan, join, and a search's list and index.
+fn saw_buffer(counts: &mut [u64], kind: usize, code: u8, n: usize, room: usize) {
+    if n == 0 {
+        return;
+    }
+    if code == 0 {
+        return saw(counts, tally::BUFFERS + kind % 4, room == n);
+    }
+    if code == 9 {
+        return saw(counts, tally::BUFFERS + kind % 4 + 4, plus(room, 1) == n);
+    }
+    if code == 18 {
+        saw(counts, tally::BUFFERS + kind % 4 + 4, plus(room, 1) == n);
+    }
+}
+
+fn scan_into(counts: &mut [u64], f: &[u8], buffer: &mut [u8]) {
+    let due = case::index(f);
     fill(buffer, PATTERN);
-    let c = late(code, n, buffer.len(), 9);
-    let o = scan::scan(list, store, buffer);
-    if answers(o, c, n) {
-        return holds(buffer, c, due, n);
+    let c = scan_late(f, buffer.len());
+    let o = scan::scan(case::list(f), case::store(f), buffer);
+    let ok = as_due(value_of(o), c, due.len(), buffer, due);
+    compared(counts, tally::SCAN, code_of(o), c, ok);
+    saw_buffer(counts, 0, c, due.len(), buffer.len());
+}
+
+fn join_into(counts: &mut [u64], f: &[u8], buffer: &mut [u8]) {
+    let due = case::rows(f);
+    fill(buffer, PATTERN);
+    let c = late(case::join_code(f), due.len(), buffer.len(), 18);
+    let o = join::join(case::index(f), case::recipes(f), buffer);
+    let ok = as_due(value_of(o), c, case::count(f), buffer, due);
+    compared(counts, tally::JOIN, code_of(o), c, ok);
+    saw_buffer(counts, 1, c, due.len(), buffer.len());
+}
+
+fn as_due(value: usize, code: u8, n: usize, buffer: &[u8], due: &[u8]) -> bool {
+    if value_as_due(value, code, n) {
+        return holds(buffer, code, due);
     }
     false
-}
-
-// A scan into the whole buffer, into exactly enough of it, and into one byte less; and its size.
-pub fn scan_runs(
-    list: &[u8],
-    store: &[u8],
-    buffer: &mut [u8],
-    code: u8,
-    due: &[u8],
-    n: usize,
-) -> bool {
-    if !answers(scan::size(list, store), code, n) {
-        return false;
-    }
-    if !scan_into(list, store, buffer, code, due, n) {
-        return false;
-    }
-    if !scan_front(list, store, buffer, less(n, 1), code, due, n) {
-        return false;
-    }
-    scan_front(list, store, buffer, n, code, due, n)
-}
-
-// The same into the first `room` bytes of the buffer.
-fn scan_front(
-    list: &[u8],
-    store: &[u8],
-    buffer: &mut [u8],
-    room: usize,
-    code: u8,
-    due: &[u8],
-    n: usize,
-) -> bool {
-    if room <= buffer.len() {
-        return scan_into(list, store, &mut buffer[..room], code, due, n);
-    }
-    true
-}
-
-// One join into a buffer, expected to list `count` rows of `due` or the refusal `code`.
-fn join_into(
-    index: &[u8],
-    recipes: &[u8],
-    buffer: &mut [u8],
-    code: u8,
-    due: &[u8],
-    count: usize,
-) -> bool {
-    fill(buffer, PATTERN);
-    let n = 9 * (count % 1000000);
-    let c = late(code, n, buffer.len(), 18);
-    let o = join::join(index, recipes, buffer);
-    if answers(o, c, count) {
-        return holds(buffer, c, due, n);
-    }
-    false
-}
-
-pub fn join_runs(
-    index: &[u8],
-    recipes: &[u8],
-    buffer: &mut [u8],
-    code: u8,
-    due: &[u8],
-    count: usize,
-) -> bool {
-    if !answers(join::count(index, recipes), code, count) {
-        return false;
-    }
-    if !join_into(index, recipes, buffer, code, due, count) {
-        return false;
-    }
-    let n = 9 * (count % 1000000);
-    if !join_front(index, recipes, buffer, less(n, 1), code, due, count) {
-        return false;
-    }
-    join_front(index, recipes, buffer, n, code, due, count)
-}
-
-// The same into the first `room` bytes of the buffer.
-fn join_front(
-    index: &[u8],
-    recipes: &[u8],
-    buffer: &mut [u8],
-    room: usize,
-    code: u8,
-    due: &[u8],
-    count: usize,
-) -> bool {
-    if room <= buffer.len() {
-        return join_into(index, recipes, &mut buffer[..room], code, due, count);
-    }
-    true
 }
 
 // ---- the search whole
 
-fn search_code(s: Searched) -> u8 {
+fn searched_code(s: Searched) -> u8 {
     match s {
         Searched::ScanRefused(code) => code,
         Searched::JoinRefused(_, code) => code,
@@ -167,7 +148,15 @@ fn search_code(s: Searched) -> u8 {
     }
 }
 
-fn search_count(s: Searched) -> usize {
+fn searched_index(s: Searched) -> usize {
+    match s {
+        Searched::ScanRefused(_) => 0,
+        Searched::JoinRefused(n, _) => n,
+        Searched::Found(n, _) => n,
+    }
+}
+
+fn searched_count(s: Searched) -> usize {
     match s {
         Searched::ScanRefused(_) => 0,
         Searched::JoinRefused(_, _) => 0,
@@ -175,28 +164,164 @@ fn search_count(s: Searched) -> usize {
     }
 }
 
-// A search, expected to list `count` rows of `due` or the refusal `code`.
-pub fn search_runs(
-    list: &[u8],
-    store: &[u8],
-    recipes: &[u8],
+// A search's index and list, where its scan must answer `scan` and it itself `code`.
+fn both_as_due(s: Searched, scan: u8, code: u8, f: &[u8], index: &[u8], buffer: &[u8]) -> bool {
+    let due = case::index(f);
+    if as_due(searched_index(s), scan, due.len(), index, due) {
+        return as_due(
+            searched_count(s),
+            code,
+            case::count(f),
+            buffer,
+            case::rows(f),
+        );
+    }
+    false
+}
+
+fn scan_late(f: &[u8], room: usize) -> u8 {
+    late(case::scan_code(f), case::length_of(f, 2), room, 9)
+}
+
+// The search's own number: its scan's, the recipes', the list's.
+fn search_late(scan: u8, f: &[u8], room: usize) -> u8 {
+    late(
+        first(scan, case::search_code(f)),
+        case::rows(f).len(),
+        room,
+        18,
+    )
+}
+
+fn fill_both(index: &mut [u8], buffer: &mut [u8]) {
+    fill(index, PATTERN);
+    fill(buffer, PATTERN);
+}
+
+fn saw_search(counts: &mut [u64], f: &[u8], scan: u8, code: u8, index: usize, list: usize) {
+    saw_buffer(counts, 2, code, case::rows(f).len(), list);
+    saw_buffer(counts, 3, scan, case::length_of(f, 2), index);
+}
+
+// One search, where its scan must answer `scan` and it itself `code`.
+fn search_as(
+    counts: &mut [u64],
+    f: &[u8],
     index: &mut [u8],
     buffer: &mut [u8],
+    scan: u8,
     code: u8,
-    due: &[u8],
-    count: usize,
-) -> bool {
-    fill(buffer, PATTERN);
-    let n = 9 * (count % 1000000);
-    let c = late(code, n, buffer.len(), 18);
-    let s = search::search(list, store, recipes, index, buffer);
-    if search_code(s) != c {
-        return false;
+) {
+    let s = search::search(
+        case::list(f),
+        case::store(f),
+        case::recipes(f),
+        index,
+        buffer,
+    );
+    let ok = both_as_due(s, scan, code, f, index, buffer);
+    compared(counts, tally::SEARCH, searched_code(s), code, ok);
+}
+
+fn search_into(counts: &mut [u64], f: &[u8], index: &mut [u8], buffer: &mut [u8]) {
+    fill_both(index, buffer);
+    let scan = scan_late(f, index.len());
+    let c = search_late(scan, f, buffer.len());
+    search_as(counts, f, index, buffer, scan, c);
+    saw_search(counts, f, scan, c, index.len(), buffer.len());
+}
+
+// ---- the buffers tried
+
+// The length of what an operation must write to the buffer that is tried.
+fn due_length(f: &[u8], operation: usize) -> usize {
+    if operation == tally::SCAN {
+        return case::length_of(f, 2);
     }
-    if c == 0 {
-        if search_count(s) != count {
-            return false;
-        }
+    if operation == SEARCH_INDEX {
+        return case::length_of(f, 2);
     }
-    holds(buffer, c, due, n)
+    case::rows(f).len()
+}
+
+// What it must answer before the test of the buffer.
+fn early_code(f: &[u8], operation: usize) -> u8 {
+    if operation == tally::SCAN {
+        return case::scan_code(f);
+    }
+    if operation == tally::JOIN {
+        return case::join_code(f);
+    }
+    case::search_code(f)
+}
+
+fn run_into(counts: &mut [u64], operation: usize, f: &[u8], other: &mut [u8], buffer: &mut [u8]) {
+    if operation == tally::SCAN {
+        return scan_into(counts, f, buffer);
+    }
+    if operation == tally::JOIN {
+        return join_into(counts, f, buffer);
+    }
+    if operation == tally::SEARCH {
+        return search_into(counts, f, other, buffer);
+    }
+    search_into(counts, f, buffer, other);
+}
+
+// Into the first `room` bytes of the buffer.
+fn run_front(
+    counts: &mut [u64],
+    operation: usize,
+    f: &[u8],
+    other: &mut [u8],
+    buffer: &mut [u8],
+    room: usize,
+) {
+    if room <= buffer.len() {
+        run_into(counts, operation, f, other, &mut buffer[..room]);
+    }
+}
+
+// Into a long buffer, an exact one, and one a byte short.
+fn run_rooms(
+    counts: &mut [u64],
+    operation: usize,
+    f: &[u8],
+    other: &mut [u8],
+    buffer: &mut [u8],
+    n: usize,
+) {
+    run_front(counts, operation, f, other, buffer, plus(n, 40));
+    run_front(counts, operation, f, other, buffer, n);
+    run_front(counts, operation, f, other, buffer, less(n, 1));
+}
+
+fn run(counts: &mut [u64], operation: usize, f: &[u8], other: &mut [u8], buffer: &mut [u8]) {
+    if is_run(f, early_code(f, operation)) {
+        run_rooms(
+            counts,
+            operation,
+            f,
+            other,
+            buffer,
+            due_length(f, operation),
+        );
+    }
+}
+
+// The join of a case, and its count.
+pub fn join_runs(counts: &mut [u64], f: &[u8], other: &mut [u8], buffer: &mut [u8]) {
+    count_run(counts, f);
+    run(counts, tally::JOIN, f, other, buffer);
+}
+
+// The scan of a case, and its size.
+pub fn scan_runs(counts: &mut [u64], f: &[u8], other: &mut [u8], buffer: &mut [u8]) {
+    size_run(counts, f);
+    run(counts, tally::SCAN, f, other, buffer);
+}
+
+pub fn search_runs(counts: &mut [u64], f: &[u8], other: &mut [u8], buffer: &mut [u8]) {
+    run(counts, tally::SEARCH, f, other, buffer);
+    run(counts, SEARCH_INDEX, f, other, buffer);
 }

@@ -8,19 +8,21 @@ use Rattle.vault_tests.proofs.run_faults.Statement.{statement}
 use Rattle.vault_tests.proofs.run_faults.Tie as tie
 
 abbrev Inv-loop : tie.InvT-loop
-Inv-loop counts₀ good buffer₀ n i₀ counts buffer i = (i ≤ n) × (length counts ≡ length counts₀) × (length buffer ≡ length buffer₀)
+Inv-loop counts₀ m f₀ other₀ buffer₀ n t₀ counts f other buffer t =
+    (t ≤ n) × (length counts ≡ length counts₀) × (length f ≡ length f₀) × (length other ≡ length other₀) × (length buffer ≡ length buffer₀)
 
 abbrev μ-loop : tie.MeasureT-loop
-μ-loop counts₀ good buffer₀ n i₀ counts buffer i = n - i
+μ-loop counts₀ m f₀ other₀ buffer₀ n t₀ counts f other buffer t =
+    n - t
 
 loop-holds : tie.Need-loop-holds Inv-loop μ-loop
 loop-holds c = search needs
 
-run-fault-requires : tie.Need-run-fault-requires Inv-loop μ-loop
-run-fault-requires c κs = search needs
+pair-requires : tie.Need-pair-requires Inv-loop μ-loop
+pair-requires c κs = search needs
 
-add-i : tie.Need-add-i Inv-loop μ-loop
-add-i c = search needs
+add-t : tie.Need-add-t Inv-loop μ-loop
+add-t c = search needs
 
 loop-less : tie.Need-loop-less Inv-loop μ-loop
 loop-less c = search needs
@@ -34,6 +36,12 @@ same-length c = search needs
 same-length-2 : tie.Need-same-length-2 Inv-loop μ-loop
 same-length-2 c = search needs
 
+same-length-3 : tie.Need-same-length-3 Inv-loop μ-loop
+same-length-3 c = search needs
+
+same-length-4 : tie.Need-same-length-4 Inv-loop μ-loop
+same-length-4 c = search needs
+
 returns : tie.Need-returns Inv-loop μ-loop
 returns c = search needs
 
@@ -44,10 +52,12 @@ run-faults-spec =
     Inv-loop
     μ-loop
     loop-holds
-    run-fault-requires
-    add-i
+    pair-requires
+    add-t
     loop-less
     loop-again
     same-length
     same-length-2
+    same-length-3
+    same-length-4
     returns)

@@ -8,10 +8,12 @@ use Rattle.vault_tests.proofs.encode.put_file.Statement.{statement}
 use Rattle.vault_tests.proofs.encode.put_file.Tie as tie
 
 abbrev Inv-loop : tie.InvT-loop
-Inv-loop out₀ at m f n a₀ i₀ out a i = (i ≤ n) × (length out ≡ length out₀)
+Inv-loop out₀ at m f n a₀ i₀ out a i =
+    (i ≤ n) × (length out ≡ length out₀)
 
 abbrev μ-loop : tie.MeasureT-loop
-μ-loop out₀ at m f n a₀ i₀ out a i = n - i
+μ-loop out₀ at m f n a₀ i₀ out a i =
+    n - i
 
 file-size-requires : tie.Need-file-size-requires Inv-loop μ-loop
 file-size-requires c κs = search needs

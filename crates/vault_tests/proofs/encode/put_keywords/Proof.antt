@@ -8,10 +8,12 @@ use Rattle.vault_tests.proofs.encode.put_keywords.Statement.{statement}
 use Rattle.vault_tests.proofs.encode.put_keywords.Tie as tie
 
 abbrev Inv-loop : tie.InvT-loop
-Inv-loop out₀ m n at₀ k₀ out at k = (k ≤ n) × (length out ≡ length out₀)
+Inv-loop out₀ start m n at₀ k₀ out at k =
+    (k ≤ n) × (length out ≡ length out₀)
 
 abbrev μ-loop : tie.MeasureT-loop
-μ-loop out₀ m n at₀ k₀ out at k = n - k
+μ-loop out₀ start m n at₀ k₀ out at k =
+    n - k
 
 loop-holds : tie.Need-loop-holds Inv-loop μ-loop
 loop-holds c = search needs

@@ -8,10 +8,12 @@ use Rattle.vault_tests.proofs.model.make_files.Statement.{statement}
 use Rattle.vault_tests.proofs.model.make_files.Tie as tie
 
 abbrev Inv-loop : tie.InvT-loop
-Inv-loop m₀ n chunks seed s₀ f₀ m s f = (f ≤ n) × (length m ≡ length m₀)
+Inv-loop m₀ n most chunks seed s₀ f₀ m s f =
+    (f ≤ n) × (length m ≡ length m₀)
 
 abbrev μ-loop : tie.MeasureT-loop
-μ-loop m₀ n chunks seed s₀ f₀ m s f = n - f
+μ-loop m₀ n most chunks seed s₀ f₀ m s f =
+    n - f
 
 loop-holds : tie.Need-loop-holds Inv-loop μ-loop
 loop-holds c = search needs

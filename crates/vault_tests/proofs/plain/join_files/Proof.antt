@@ -8,10 +8,12 @@ use Rattle.vault_tests.proofs.plain.join_files.Statement.{statement}
 use Rattle.vault_tests.proofs.plain.join_files.Tie as tie
 
 abbrev Inv-loop : tie.InvT-loop
-Inv-loop m out₀ n row₀ f₀ out row f = (f ≤ n) × (length out ≡ length out₀)
+Inv-loop m out₀ n row₀ f₀ out row f =
+    (f ≤ n) × (length out ≡ length out₀)
 
 abbrev μ-loop : tie.MeasureT-loop
-μ-loop m out₀ n row₀ f₀ out row f = n - f
+μ-loop m out₀ n row₀ f₀ out row f =
+    n - f
 
 files-requires : tie.Need-files-requires Inv-loop μ-loop
 files-requires c κs = search needs

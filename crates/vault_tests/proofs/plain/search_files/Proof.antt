@@ -8,10 +8,12 @@ use Rattle.vault_tests.proofs.plain.search_files.Statement.{statement}
 use Rattle.vault_tests.proofs.plain.search_files.Tie as tie
 
 abbrev Inv-loop : tie.InvT-loop
-Inv-loop m whole₀ out₀ n row₀ f₀ whole out row f = (f ≤ n) × (length whole ≡ length whole₀) × (length out ≡ length out₀)
+Inv-loop m whole₀ out₀ n row₀ f₀ whole out row f =
+    (f ≤ n) × (length whole ≡ length whole₀) × (length out ≡ length out₀)
 
 abbrev μ-loop : tie.MeasureT-loop
-μ-loop m whole₀ out₀ n row₀ f₀ whole out row f = n - f
+μ-loop m whole₀ out₀ n row₀ f₀ whole out row f =
+    n - f
 
 files-requires : tie.Need-files-requires Inv-loop μ-loop
 files-requires c κs = search needs

@@ -1,17 +1,19 @@
--- `inner_code` is safe and ends. Assumes nothing.
+-- `recipes_code` is safe and ends. Assumes nothing.
 use borrow.Author.Needs.{needs}
 use mathlib.Core.Path.{_≡_}
 use mathlib.Core.Logic.{_⊎_}
 use Prim.Native.Nat.{_≤_, _-_}
 use lib.ListN.{length}
-use Rattle.vault_tests.proofs.plain.inner_code.Statement.{statement}
-use Rattle.vault_tests.proofs.plain.inner_code.Tie as tie
+use Rattle.vault_tests.proofs.plain.recipes_code.Statement.{statement}
+use Rattle.vault_tests.proofs.plain.recipes_code.Tie as tie
 
 abbrev Inv-loop : tie.InvT-loop
-Inv-loop m n due f₀ f = (f ≤ n)
+Inv-loop m n due f₀ f =
+    (f ≤ n)
 
 abbrev μ-loop : tie.MeasureT-loop
-μ-loop m n due f₀ f = n - f
+μ-loop m n due f₀ f =
+    n - f
 
 files-requires : tie.Need-files-requires Inv-loop μ-loop
 files-requires c κs = search needs
@@ -25,8 +27,8 @@ less-requires c κs = search needs
 loop-holds : tie.Need-loop-holds Inv-loop μ-loop
 loop-holds c = search needs
 
-short-inside-requires : tie.Need-short-inside-requires Inv-loop μ-loop
-short-inside-requires c κs = search needs
+file-code-requires : tie.Need-file-code-requires Inv-loop μ-loop
+file-code-requires c κs = search needs
 
 returns : tie.Need-returns Inv-loop μ-loop
 returns c = search needs
@@ -43,8 +45,8 @@ loop-again c = search needs
 returns-2 : tie.Need-returns-2 Inv-loop μ-loop
 returns-2 c = search needs
 
-pub inner-code-spec : {M : Type 1} → statement M
-inner-code-spec =
+pub recipes-code-spec : {M : Type 1} → statement M
+recipes-code-spec =
     tie.close
     (tie.spec
     Inv-loop
@@ -53,7 +55,7 @@ inner-code-spec =
     longest-requires
     less-requires
     loop-holds
-    short-inside-requires
+    file-code-requires
     returns
     add-f
     loop-less

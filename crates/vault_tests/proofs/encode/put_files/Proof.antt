@@ -1,23 +1,19 @@
--- `put_recipes` is safe and ends. Assumes nothing.
+-- `put_files` is safe and ends. Assumes nothing.
 use borrow.Author.Needs.{needs}
 use mathlib.Core.Path.{_≡_}
 use mathlib.Core.Logic.{_⊎_}
 use Prim.Native.Nat.{_≤_, _-_}
 use lib.ListN.{length}
-use Rattle.vault_tests.proofs.encode.put_recipes.Statement.{statement}
-use Rattle.vault_tests.proofs.encode.put_recipes.Tie as tie
+use Rattle.vault_tests.proofs.encode.put_files.Statement.{statement}
+use Rattle.vault_tests.proofs.encode.put_files.Tie as tie
 
 abbrev Inv-loop : tie.InvT-loop
-Inv-loop out₀ m n at₀ f₀ out at f = (f ≤ n) × (length out ≡ length out₀)
+Inv-loop out₀ start m n at₀ f₀ out at f =
+    (f ≤ n) × (length out ≡ length out₀)
 
 abbrev μ-loop : tie.MeasureT-loop
-μ-loop out₀ m n at₀ f₀ out at f = n - f
-
-files-requires : tie.Need-files-requires Inv-loop μ-loop
-files-requires c κs = search needs
-
-put-4-requires : tie.Need-put-4-requires Inv-loop μ-loop
-put-4-requires c κs = search needs
+μ-loop out₀ start m n at₀ f₀ out at f =
+    n - f
 
 loop-holds : tie.Need-loop-holds Inv-loop μ-loop
 loop-holds c = search needs
@@ -40,14 +36,12 @@ same-length c = search needs
 returns : tie.Need-returns Inv-loop μ-loop
 returns c = search needs
 
-pub put-recipes-spec : {M : Type 1} → statement M
-put-recipes-spec =
+pub put-files-spec : {M : Type 1} → statement M
+put-files-spec =
     tie.close
     (tie.spec
     Inv-loop
     μ-loop
-    files-requires
-    put-4-requires
     loop-holds
     put-file-requires
     add-f
