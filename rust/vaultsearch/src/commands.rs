@@ -261,7 +261,9 @@ impl Session<'_> {
         if paths.is_empty() {
             return Err(Failure::Usage("make-vault wants files or folders".into()));
         }
-        make_vault::make(self.progress, &paths, folder, make_vault::cut_of(a.cut.as_deref(), a.size)?)
+        let list = self.given_keywords()?;
+        make_vault::make(self.progress, &paths, folder, make_vault::cut_of(a.cut.as_deref(), a.size)?)?;
+        list.map_or(Ok(()), |list| files::write(Some(&folder.join("words.bin")), |out| out.write_all(&list)))
     }
 }
 

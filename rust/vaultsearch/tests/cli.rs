@@ -215,5 +215,9 @@ fn a_vault_of_plain_files() {
         let found = "file\toffset\tkeyword\ttext\tname\n0\t3000\t0\tthe keyword\tin/a\n2\t0\t0\tthe keyword\tin/sub/b\n";
         folder.write("list.txt", b"the keyword\n");
         folder.prints("search v/store.bin v/recipes.bin --list list.txt --names v/names.txt --format tsv", found);
+        let (status, _, err) = folder.run(&format!("make-vault -o v --cut {cut} --list list.txt --fold in"));
+        assert_eq!(status, 0, "{err}");
+        assert_eq!(fs::read(folder.0.join("v/words.bin")).unwrap(), b"\x01\x01\x0bthe keyword");
+        folder.prints("search v/store.bin v/recipes.bin --words v/words.bin --names v/names.txt --format tsv", found);
     }
 }
