@@ -1,18 +1,23 @@
 -- How many occurrences a place gives: as many as its streams have numbers. Assumes nothing.
 use mathlib.Core.Path.{_≡_, refl, sym, ap, ap₂, _∙_}
+use mathlib.Core.Logic.{_⊎_, inl, inr}
 use mathlib.Core.Bool.{Bool, true, false, _&&_}
 use mathlib.Core.List.{List, [], _∷_}
 use Prim.Native.Nat.{ℕ, zero, suc, _+_, _*_, _^_, _≤_, _<_}
 use native.Mathlib.Nat.{zero-add, add-zero, add-mul, one-mul}
 use native.Mathlib.Numerals.{add-one}
 use native.Mathlib.Omega.{arith}
-use lib.ListN.{length, getD, drop, length-append}
+use borrow.Author.Tests.{le-ltb}
+use lib.ListN.{length, getD, set, drop, length-append}
+use lib.Seq.{getD-set-same, getD-set-other}
 use lib.Dec.{ltb}
 use Rattle.spec.specs.Bytes.{fieldsOf, each, keep, member, rising, sum}
 use Rattle.spec.specs.Join.{hits}
+use Rattle.spec.proofs.Tests.{le-or-lt}
+use Rattle.spec.proofs.RecordLaws.{no-offsets}
 use Rattle.spec.proofs.FieldLists.{length-fieldsOf}
 use Rattle.spec.proofs.Rising.{allBelow, passing-member}
-use Rattle.listing.specs.Streams.{below, unread, streamOf, unreadAt, occurrences, numbers, total, Ready, small}
+use Rattle.listing.specs.Streams.{below, unread, stream, streamOf, unreadAt, streamAt, occurrences, numbers, total, Ready, Fresh, Opened}
 use Rattle.listing.proofs.Digits.{bits-length}
 
 pub below-same : (n : ℕ) (xs : List ℕ) → allBelow n xs ≡ below n xs
@@ -108,10 +113,37 @@ module _ (index : List ℕ) (width size count : ℕ) (streams : List (List ℕ))
   pub total-le : total streams count ≤ count * size
   total-le = sum-most (λ k. numbers (streamOf streams k)) size 0 count (λ k u v. numbers-le k (omega arith))
 
-  pub all-small : size < 2 ^ 32 → (k : ℕ) → k < count → small (streamOf streams k)
-  all-small l k h = record { left = omega (arith, numbers-le k h); set = ready .each k h .set }
+-- ---- filling one stream after the other
 
--- ---- one stream more is counted
+pub total-set : (streams : List (List ℕ)) (k : ℕ) (new : List ℕ) → k < length streams → total (set streams k new) (k + 1) ≡ total streams k + numbers new
+total-set streams k new h =
+    rw add-one (sum-last (λ j. numbers (streamOf (set streams k new) j)) 0 k ∙ rw zero-add)
+    ∙ ap₂ (λ (x y : ℕ). x + y)
+    (sum-same _ _ 0 k (λ p u v. ap (λ (s : List ℕ). numbers s) (getD-set-other streams k p new [] (λ q. omega arith))))
+    (ap (λ (s : List ℕ). numbers s) (getD-set-same streams k new [] h))
 
-pub total-more : (streams : List (List ℕ)) (k : ℕ) → total streams (k + 1) ≡ total streams k + numbers (streamOf streams k)
-total-more streams k = rw add-one (sum-last (λ j. numbers (streamOf streams j)) 0 k ∙ rw zero-add)
+-- ---- streams without numbers are open as they are
+
+sum-zero : (f : ℕ → ℕ) (a n : ℕ) → sumUp f a n ≡ 0 → (p : ℕ) → a ≤ p → p < a + n → f p ≡ 0
+sum-zero f a zero e p u v = let z : ⊥ = omega arith in absurd z
+sum-zero f a (suc n) e p u v = go (λ h. sum-zero f (suc a) n (omega arith) p h (omega arith)) (le-or-lt p a)
+  where
+    go : (a < p → f p ≡ 0) → (p ≤ a) ⊎ (a < p) → f p ≡ 0
+    go rest (inl h) = let q : p ≡ a = omega arith in omega (arith, ap f q)
+    go rest (inr h) = rest h
+
+module _ (index : List ℕ) (width size count : ℕ) (streams : List (List ℕ)) (many : ℕ) (ready : Ready index width size count streams) (fresh : Fresh size count streams many) where
+  pub opened-none : many ≡ 0 → Opened index width size count streams streams
+  unfolding stream
+  opened-none z =
+      let empty : (k : ℕ) → k < count → unreadAt index width streams k ≡ [] = λ k h.
+      no-offsets (unreadAt index width streams k) (unread-length index width (streamOf streams k) (ready .each k h .set)
+      ∙ sum-zero (λ j. numbers (streamOf streams j)) 0 count (sym (fresh .all) ∙ z) k (omega arith) (omega arith)) in
+      let none : (k : ℕ) → k < count → streamAt index width size streams k ≡ [] = λ k h. rw (fresh .heads k h, le-ltb size size (omega arith)) in
+      record {
+        held = record {
+          long = ready .long;
+          each = λ k h. record { up = ap rising (none k h); under = ap (below size) (none k h); inside = ready .each k h .inside; set = ready .each k h .set };
+        };
+        same = λ k h. none k h ∙ sym (empty k h);
+      }

@@ -79,6 +79,15 @@ pub record Ready (index : List ℕ) (width size count : ℕ) (streams : List (Li
   pub long : count ≤ length streams
   pub each : (k : ℕ) → k < count → Readable index width size (streamOf streams k)
 
+-- How many numbers are unread of the streams below `count`.
+abbrev pub total : List (List ℕ) → ℕ → ℕ
+total streams count = sum (each (λ k. numbers (streamOf streams k) ∷ []) 0 count)
+
+-- Streams that are not open yet: their heads are the size, and `many` numbers are unread.
+pub record Fresh (size count : ℕ) (streams : List (List ℕ)) (many : ℕ) : Type 0 where
+  pub heads : (k : ℕ) → k < count → getD (streamOf streams k) 0 0 ≡ size
+  pub all : many ≡ total streams count
+
 pub record Held (index : List ℕ) (width size count : ℕ) (streams : List (List ℕ)) : Type 0 where
   pub long : count ≤ length streams
   pub each : (k : ℕ) → k < count → Open index width size (streamOf streams k)
@@ -102,7 +111,3 @@ pub record NextTaken (index : List ℕ) (width size count : ℕ) (streams stream
   pub found : offset < size → (file base : ℕ) → occurrences file count base size (streamAt index width size streams)
       ≡ record { file = file; offset = base + offset; keyword = keyword } ∷ occurrences file count base size (streamAt index width size streams′)
   pub ended : size ≤ offset → (file base : ℕ) → occurrences file count base size (streamAt index width size streams) ≡ []
-
--- How many numbers are unread of the streams below `count`.
-abbrev pub total : List (List ℕ) → ℕ → ℕ
-total streams count = sum (each (λ k. numbers (streamOf streams k) ∷ []) 0 count)

@@ -1,12 +1,11 @@
 // The occurrences at one place of a file, one after the other. Each keyword has a stream of offsets in the place's chunk: first its
 // offsets inside the chunk, as the index holds them, then its starts that cross into the next chunk, as a set. The streams are merged.
 ghost use mathlib.Core.Path.{_≡_};
-ghost use mathlib.Core.List.{List};
-ghost use Prim.Native.Nat.{ℕ, _+_, _*_, _^_, _≤_, _<_};
-ghost use lib.ListN.{length, getD};
+ghost use Prim.Native.Nat.{_+_, _≤_, _<_};
+ghost use lib.ListN.{length};
 ghost use Rattle.spec.specs.Bytes.{splice};
 ghost use Rattle.spec.specs.Join.{occurrenceBytes};
-ghost use Rattle.listing.specs.Streams.{Readable, Ready, Pulled, Least, Held, Opened, NextTaken, numbers, small, streamOf, total};
+ghost use Rattle.listing.specs.Streams.{Readable, Ready, Fresh, Pulled, Least, Held, Opened, NextTaken, numbers, small};
 
 // A stream is five numbers: its next offset (the chunk's size where it has ended); where the index has the offsets behind that, and how
 // many; where the starts are counted from, and the set of those that are left.
@@ -92,11 +91,21 @@ pub fn next(
     }
 }
 
-// Opens the streams of a place: each has its first offset ready.
-pub fn open(index: &[u8], width: usize, size: usize, count: usize, streams: &mut [[usize; 5]; 16])
-    requires { ⌜ (count ≤ 16) × (width ≤ 8) × Ready (now index) width size count (now streams) ⌝ }
+// Opens the streams of a place, which have `many` offsets: each has its first offset ready. Streams without offsets are open as they are.
+pub fn open(
+    index: &[u8],
+    width: usize,
+    size: usize,
+    count: usize,
+    many: usize,
+    streams: &mut [[usize; 5]; 16],
+)
+    requires { ⌜ (count ≤ 16) × (width ≤ 8) × Ready (now index) width size count (now streams) × Fresh size count (now streams) many ⌝ }
     ensures { λ _. ⌜ Opened (now (index .entry)) width size count (now (streams .entry)) (now (streams .exit)) ⌝ }
 {
+    if many == 0 {
+        return;
+    }
     let mut k: usize = 0;
     while k < count {
         let s = streams[k];
@@ -106,28 +115,13 @@ pub fn open(index: &[u8], width: usize, size: usize, count: usize, streams: &mut
 }
 
 // How many offsets a stream that is not open yet has.
-fn offsets_in(stream: [usize; 5]) -> usize
+pub fn offsets_in(stream: [usize; 5]) -> usize
     requires { ⌜ small stream ⌝ }
     ensures { λ r. ⌜ r ≡ numbers stream ⌝ }
 {
     let left = stream[LEFT];
     let set = stream[SET];
     left + u32::count_ones(set as u32) as usize
-}
-
-// How many occurrences a place gives whose streams are not open yet.
-pub fn count_all(streams: &[[usize; 5]; 16], count: usize) -> usize
-    requires { ⌜ (count ≤ 16) × ((k : ℕ) → k < count → small (streamOf (now streams) k)) ⌝ }
-    ensures { λ r. ⌜ r ≡ total (now (streams .entry)) count ⌝ }
-{
-    let mut sum: usize = 0;
-    let mut k: usize = 0;
-    while k < count {
-        let s = streams[k];
-        sum += offsets_in(s);
-        k += 1;
-    }
-    sum
 }
 
 // Writes an occurrence's 9 bytes.

@@ -12,8 +12,8 @@ use Rattle.spec.specs.Records.{ChunkRecords}
 use Rattle.spec.specs.Index.{listIn}
 use Rattle.spec.specs.Join.{Occurrence, hits, listed, joinFrom, joinFile, occurrenceBytes, listBytes}
 use Rattle.spec.proofs.Writing.{Going, going-start, going-room, going-on, going-end, going-place}
-use Rattle.listing.specs.Streams.{small, streamOf, unreadAt, occurrences, total, Ready}
-use Rattle.listing.proofs.Totals.{total-is, total-le, all-small}
+use Rattle.listing.specs.Streams.{streamOf, unreadAt, occurrences, total, Ready}
+use Rattle.listing.proofs.Totals.{total-is, total-le}
 use Rattle.listing.proofs.Writes.{length-occurrence, length-list, list-cons, list-nil}
 use Rattle.walk.specs.Walking.{chunksIn, sizeOf, Directory, File, Keyed, Walkable, LoadedAt, Crossed, AtPlace, coming, Counted}
 use Rattle.walk.proofs.Places.{AllGood, place-ready, place-join}
@@ -70,9 +70,6 @@ module _ (index : List ℕ) (count : ℕ) (tables : List (List (List ℕ))) (chu
 
   rest-size : sizeOf (drop n chunks) ≡ size + sizeOf (drop (n + 1) chunks)
   rest-size = size-next index count chunks n rows size h l
-
-  pub streams-small : sizeOf chunks < 2 ^ 32 → (k : ℕ) → k < count → small (streamOf streams k)
-  streams-small s = all-small index 2 size count streams ready (omega (arith, rest-size, at .most))
 
   rest-count : length (joinFrom 0 keywords 0 (drop n chunks)) ≡ total streams count + length (joinFrom 0 keywords 0 (drop (n + 1) chunks))
   rest-count =

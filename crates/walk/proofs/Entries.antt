@@ -82,6 +82,10 @@ module _ (index : List ℕ) (good : indexCode form1 index ≡ 0) where
     size-most : sizeAt (indexLayout index) index e ≤ 65535
     size-most = checked .entries .sized e (omega arith) (omega arith) .1
 
+    pub size-small : indexRecords form1 index e .size ≤ 65535
+    unfolding indexRecords
+    size-small = size-most
+
     pub body-inside : offsetAt (indexLayout index) index e + lengthAt (indexLayout index) index e ≤ length index
     body-inside = checked .entries .within e (omega arith) (omega arith) .1
 

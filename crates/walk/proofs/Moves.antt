@@ -12,9 +12,9 @@ use Rattle.spec.specs.Records.{ChunkRecords, recordAt, inRange}
 use Rattle.spec.specs.Index.{listIn}
 use Rattle.spec.specs.Join.{Occurrence, keywordAt, joinFrom, joinFile}
 use Rattle.spec.proofs.Tests.{leb-false}
-use Rattle.listing.specs.Streams.{stream, streamOf, streamAt, occurrences, Held, Ready, Opened, NextTaken}
+use Rattle.listing.specs.Streams.{stream, streamOf, streamAt, occurrences, total, Held, Ready, Fresh, Opened, NextTaken}
 use Rattle.walk.specs.Walking.{noChunk, chunksIn, sizeOf, Keyed, Walkable, LoadedAt, Crossable, Crossed, AtPlace, coming, Moved, NextOf}
-use Rattle.walk.proofs.Entries.{chunks-length, chunk-at, proper, records-good}
+use Rattle.walk.proofs.Entries.{chunks-length, chunk-at, proper, records-good, size-small}
 use Rattle.walk.proofs.Places.{AllGood, crossable, place-ready, place-join, occurrences-same}
 
 -- ---- what the check of the index says of a file's chunks
@@ -28,6 +28,9 @@ all-good index directory entries heads chain tables file slots count w =
           let m : n < length file / 20 = rw (chunks-length index file) at h in
           subst (λ (c : ChunkRecords). inRange (length (keywordAt (foldedKeywords (listIn index)) k)) (c .size) (recordAt c k) ≡ true) (sym (chunk-at index file n m))
           (records-good index (w .known .good) _ (w .whole .found n m) k u);
+      sizes = λ n h.
+          let m : n < length file / 20 = rw (chunks-length index file) at h in
+          subst (λ (c : ChunkRecords). c .size ≤ 65535) (sym (chunk-at index file n m)) (size-small index (w .known .good) _ (w .whole .found n m));
     }
 
 -- ---- the four numbers after a move
@@ -88,6 +91,9 @@ module _ (index : List ℕ) (count : ℕ) (tables : List (List (List ℕ))) (chu
     module _ (crossed : List (List ℕ)) (c : Crossed (getD here 3 0) count tables rows rows′ crossed) where
       pub moved-ready : Ready index 2 (getD here 3 0) count crossed
       moved-ready = place-ready index count tables chunks keyed good n rows rows′ (getD here 3 0) size′ more (f .ahead) l′ crossed c
+
+      pub moved-fresh : (many : ℕ) → many ≡ total crossed count → Fresh (getD here 3 0) count crossed many
+      moved-fresh many e = record { heads = λ k u. ap (λ (s : List ℕ). getD s 0 0) (c .each k u); all = e }
 
       abbrev here′ : List ℕ
       here′ = set (set (set (set here 1 (getD here 1 0 + getD here 2 0)) 2 (getD here 3 0)) 0 (n + 1)) 3 size′

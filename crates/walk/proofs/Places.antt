@@ -1,5 +1,5 @@
 -- The streams of a place give what the definition lists there. Assumes nothing.
-use mathlib.Core.Path.{_≡_, refl, sym, ap, _∙_}
+use mathlib.Core.Path.{_≡_, refl, sym, ap, ap₂, _∙_}
 use mathlib.Core.Bool.{Bool, true, and-false}
 use mathlib.Core.List.{List, [], _∷_, _++_}
 use Prim.Native.Nat.{ℕ, suc, _+_, _-_, _≤_, _<_}
@@ -24,30 +24,34 @@ use Rattle.spec.proofs.Rising.{allBelow}
 use Rattle.spec.proofs.Sets.{set-lt}
 use Rattle.spec.proofs.Stream.{atPlace, stream, cell-no-suffix}
 use Rattle.spec.proofs.RecordRanges.{passing-rises, passing-every}
-use Rattle.spec.proofs.RecordLaws.{prefix-in, suffix-in, offsets-rise, offsets-in}
+use Rattle.spec.proofs.RecordLaws.{prefix-in, suffix-in, offsets-rise, offsets-in, offsets-count}
 use Rattle.tables.specs.Tabled.{cellSet, cellAt}
-use Rattle.listing.specs.Streams.{below, bits, unread, streamOf, unreadAt, occurrences, Ready}
+use Rattle.listing.specs.Streams.{below, bits, unread, streamOf, unreadAt, occurrences, numbers, total, Ready}
 use Rattle.listing.proofs.Digits.{bits-set}
+use Rattle.listing.proofs.Totals.{total-set}
 use Rattle.loader.specs.Loaded.{rowOf}
-use Rattle.walk.specs.Walking.{noChunk, chunkIn, firstSuffix, Keyed, LoadedAt, Crossable, Crossed}
+use Rattle.walk.specs.Walking.{noChunk, chunkIn, firstSuffix, Keyed, LoadedAt, Crossable, Crossed, Filled}
 
 -- ---- filling the streams, one after the other
 
-pub record Crossing (size count : ℕ) (tables : List (List (List ℕ))) (here next streams : List (List ℕ)) (k : ℕ) : Type 0 where
+pub record Crossing (size count : ℕ) (tables : List (List (List ℕ))) (here next streams : List (List ℕ)) (k many : ℕ) : Type 0 where
   pub long : count ≤ length streams
+  pub all : many ≡ total streams k
   pub done : (m : ℕ) → m < k → streamOf streams m
       ≡ size ∷ getD (rowOf here m) 2 0 ∷ getD (rowOf here m) 3 0 ∷ (size - getD (rowOf here m) 0 0) ∷ cellAt tables m (getD (rowOf here m) 0 0) (getD (rowOf next m) 1 0) ∷ []
 
 module _ (size count : ℕ) (tables : List (List (List ℕ))) (here next : List (List ℕ)) where
-  pub crossing-start : (streams : List (List ℕ)) → count ≤ length streams → Crossing size count tables here next streams 0
-  crossing-start streams l = record { long = l; done = λ m h. let z : ⊥ = omega arith in absurd z }
+  pub crossing-start : (streams : List (List ℕ)) → count ≤ length streams → Crossing size count tables here next streams 0 0
+  crossing-start streams l = record { long = l; all = refl; done = λ m h. let z : ⊥ = omega arith in absurd z }
 
-  pub crossing-on : (streams : List (List ℕ)) (k x : ℕ) → Crossing size count tables here next streams k → k < count → x ≡ cellAt tables k (getD (rowOf here k) 0 0) (getD (rowOf next k) 1 0)
-      → Crossing size count tables here next (set streams k (size ∷ getD (rowOf here k) 2 0 ∷ getD (rowOf here k) 3 0 ∷ (size - getD (rowOf here k) 0 0) ∷ x ∷ [])) (k + 1)
-  crossing-on streams k x g h e =
+  pub crossing-on : (streams : List (List ℕ)) (k x many m : ℕ) → Crossing size count tables here next streams k many → k < count → x ≡ cellAt tables k (getD (rowOf here k) 0 0) (getD (rowOf next k) 1 0)
+      → m ≡ numbers (size ∷ getD (rowOf here k) 2 0 ∷ getD (rowOf here k) 3 0 ∷ (size - getD (rowOf here k) 0 0) ∷ x ∷ [])
+      → Crossing size count tables here next (set streams k (size ∷ getD (rowOf here k) 2 0 ∷ getD (rowOf here k) 3 0 ∷ (size - getD (rowOf here k) 0 0) ∷ x ∷ [])) (k + 1) (many + m)
+  crossing-on streams k x many m g h e q =
       let new : List ℕ = size ∷ getD (rowOf here k) 2 0 ∷ getD (rowOf here k) 3 0 ∷ (size - getD (rowOf here k) 0 0) ∷ x ∷ [] in
       record {
         long = rw length-set (g .long);
+        all = ap₂ (λ (y z : ℕ). y + z) (g .all) q ∙ sym (total-set streams k new (omega (arith, g .long)));
         done = below-more (λ (m : ℕ). streamOf (set streams k new) m
             ≡ size ∷ getD (rowOf here m) 2 0 ∷ getD (rowOf here m) 3 0 ∷ (size - getD (rowOf here m) 0 0) ∷ cellAt tables m (getD (rowOf here m) 0 0) (getD (rowOf next m) 1 0) ∷ []) k
             (λ m l. getD-set-other streams k m new [] (λ q. omega arith) ∙ g .done m l)
@@ -55,8 +59,8 @@ module _ (size count : ℕ) (tables : List (List (List ℕ))) (here next : List 
             ∙ ap {B = List ℕ} (λ (y : ℕ). size ∷ getD (rowOf here k) 2 0 ∷ getD (rowOf here k) 3 0 ∷ (size - getD (rowOf here k) 0 0) ∷ y ∷ []) e);
       }
 
-  pub crossing-end : (streams : List (List ℕ)) (k : ℕ) → Crossing size count tables here next streams k → count ≤ k → Crossed size count tables here next streams
-  crossing-end streams k g h = record { long = g .long; each = λ m l. g .done m (omega arith) }
+  pub crossing-end : (streams : List (List ℕ)) (k many : ℕ) → Crossing size count tables here next streams k many → k ≡ count → Filled size count tables here next streams many
+  crossing-end streams k many g h = record { crossed = record { long = g .long; each = λ m l. g .done m (omega arith) }; all = g .all ∙ ap (total streams) h }
 
 -- ---- lists in range
 
@@ -96,6 +100,7 @@ occurrences-are file count base size s t h =
 -- every chunk's records are in range, for keywords of 1 to 32 bytes
 pub record AllGood (keywords : List (List ℕ)) (chunks : List ChunkRecords) : Type 0 where
   pub proper : (k : ℕ) → k < length keywords → (1 ≤ length (keywordAt keywords k)) × (length (keywordAt keywords k) ≤ 32)
+  pub sizes : (n : ℕ) → n < length chunks → chunkIn chunks n .size ≤ 65535
   pub ranges : (n : ℕ) → n < length chunks → (k : ℕ) → k < length keywords → inRange (length (keywordAt keywords k)) (chunkIn chunks n .size) (recordAt (chunkIn chunks n) k) ≡ true
 
 module _ (keywords : List (List ℕ)) (chunks : List ChunkRecords) (good : AllGood keywords chunks) where
@@ -114,6 +119,13 @@ module _ (keywords : List (List ℕ)) (chunks : List ChunkRecords) (good : AllGo
   unfolding reach
   suffix-one n h k u =
       omega (arith, suffix-in (length (keywordAt keywords k)) (chunkIn chunks n .size) (recordAt (chunkIn chunks n) k) (good .ranges n h k u), good .proper k u .0)
+
+  offsets-few : (n : ℕ) → n < length chunks → (k : ℕ) → k < length keywords → length (recordAt (chunkIn chunks n) k .offsets) ≤ chunkIn chunks n .size
+  offsets-few n h k u =
+      let w : ℕ = length (keywordAt keywords k) in
+      let g = good .ranges n h k u in
+      offsets-count w (chunkIn chunks n .size) (recordAt (chunkIn chunks n) k .offsets) (good .proper k u .0) (offsets-rise w (chunkIn chunks n .size) (recordAt (chunkIn chunks n) k) g)
+      (offsets-in w (chunkIn chunks n .size) (recordAt (chunkIn chunks n) k) g)
 
   suffix-small : (n k : ℕ) → k < length keywords → firstSuffix (drop n chunks) k < length (keywordAt keywords k)
   suffix-small n k u = go (drop n chunks) refl
@@ -145,6 +157,7 @@ module _ (index : List ℕ) (count : ℕ) (tables : List (List (List ℕ))) (chu
         short = λ k u. omega (arith, l .each k u h .prefix, l .sized h, prefix-short keywords chunks good n h k (in-keywords k u));
         row = λ k u. omega (arith, l .each k u h .prefix, prefix-small keywords chunks good n h k (in-keywords k u), good .proper k (in-keywords k u) .1);
         column = λ k u. omega (arith, l′ .suffix k u, suffix-small keywords chunks good (n + 1) k (in-keywords k u), good .proper k (in-keywords k u) .1);
+        few = λ k u. omega (arith, l .each k u h .many, offsets-few keywords chunks good n h k (in-keywords k u), good .sizes n h);
       }
 
   abbrev test : ℕ → ℕ → Bool

@@ -14,7 +14,7 @@ use Rattle.directory.specs.Chains.{keysFrom, Chained}
 use Rattle.files.specs.Measures.{named, Slotted}
 use Rattle.loader.specs.Loaded.{Row, rowOf}
 use Rattle.tables.specs.Tabled.{cellAt, Tabled}
-use Rattle.listing.specs.Streams.{Held, streamOf, streamAt, occurrences}
+use Rattle.listing.specs.Streams.{Held, streamOf, streamAt, occurrences, total}
 
 -- ---- a file's chunks
 
@@ -74,17 +74,23 @@ pub record LoadedAt (index : List ℕ) (count : ℕ) (chunks : List ChunkRecords
   pub each : (k : ℕ) → k < count → n < length chunks → Row index 2 (rowOf rows k) (recordAt (chunkIn chunks n) k)
   pub suffix : (k : ℕ) → k < count → getD (rowOf rows k) 1 0 ≡ firstSuffix (drop n chunks) k
 
--- Prefix and suffix are a cell's lengths, and the prefix is no longer than the chunk.
+-- Prefix and suffix are a cell's lengths, the prefix is no longer than the chunk, and offsets are no more than a chunk has bytes.
 pub record Crossable (size count : ℕ) (here next : List (List ℕ)) : Type 0 where
   pub short : (k : ℕ) → k < count → getD (rowOf here k) 0 0 ≤ size
   pub row : (k : ℕ) → k < count → getD (rowOf here k) 0 0 < 32
   pub column : (k : ℕ) → k < count → getD (rowOf next k) 1 0 < 32
+  pub few : (k : ℕ) → k < count → getD (rowOf here k) 3 0 < 2 ^ 32
 
 -- The streams of a place that are not open yet: its own offsets, and the starts that cross into the next place.
 pub record Crossed (size count : ℕ) (tables : List (List (List ℕ))) (here next streams : List (List ℕ)) : Type 0 where
   pub long : count ≤ length streams
   pub each : (k : ℕ) → k < count → streamOf streams k
       ≡ size ∷ getD (rowOf here k) 2 0 ∷ getD (rowOf here k) 3 0 ∷ (size - getD (rowOf here k) 0 0) ∷ cellAt tables k (getD (rowOf here k) 0 0) (getD (rowOf next k) 1 0) ∷ []
+
+-- The same, and how many offsets they have.
+pub record Filled (size count : ℕ) (tables : List (List (List ℕ))) (here next streams : List (List ℕ)) (many : ℕ) : Type 0 where
+  pub crossed : Crossed size count tables here next streams
+  pub all : many ≡ total streams count
 
 -- ---- the state: `here` has the number of the next place to open, where the open place starts, its size, and the next place's size
 

@@ -8,7 +8,7 @@ ghost use Rattle.spec.specs.Records.{form1};
 ghost use Rattle.spec.specs.Keywords.{foldedKeywords};
 ghost use Rattle.spec.specs.Index.{listIn, indexKeys};
 ghost use Rattle.spec.specs.Join.{joinFile};
-ghost use Rattle.walk.specs.Walking.{chunksIn, Directory, File, Keyed, Walkable, LoadedAt, Crossable, Crossed, AtPlace, Moved, NextOf, Counted, Listed};
+ghost use Rattle.walk.specs.Walking.{chunksIn, Directory, File, Keyed, Walkable, LoadedAt, Crossable, Filled, AtPlace, Moved, NextOf, Counted, Listed};
 
 // Bytes of an offset.
 const WIDTH: usize = 2;
@@ -85,12 +85,13 @@ fn load(
 
 // A set as a number.
 fn wide(set: u32) -> usize
-    ensures { λ r. ⌜ r ≡ set ⌝ }
+    ensures { λ r. ⌜ (r ≡ set) × (r < 2 ^ 32) ⌝ }
 {
     set as usize
 }
 
-// Fills the streams of a place, before they are opened: its own offsets, and its starts that cross into the next place.
+// Fills the streams of a place, before they are opened: its own offsets, and its starts that cross into the next place. It returns how many
+// occurrences that is.
 fn cross(
     size: usize,
     count: usize,
@@ -98,10 +99,11 @@ fn cross(
     here: &[[usize; 4]; 16],
     next: &[[usize; 4]; 16],
     streams: &mut [[usize; 5]; 16],
-)
+) -> usize
     requires { ⌜ (count ≤ 16) × (count ≤ length (now streams)) × Crossable size count (now here) (now next) ⌝ }
-    ensures { λ _. ⌜ Crossed size count (now (tables .entry)) (now (here .entry)) (now (next .entry)) (now (streams .exit)) ⌝ }
+    ensures { λ r. ⌜ Filled size count (now (tables .entry)) (now (here .entry)) (now (next .entry)) (now (streams .exit)) r ⌝ }
 {
+    let mut many: usize = 0;
     let mut k: usize = 0;
     while k < count {
         let i = here[k][PREFIX];
@@ -111,8 +113,10 @@ fn cross(
         let left = here[k][LEFT];
         let s = [size, at, left, size - i, set];
         streams[k] = s;
+        many += listing::offsets_in(s);
         k += 1;
     }
+    many
 }
 
 // Opens the next place. `here` has the number of the next place to open, where the open place starts, its size, and the next place's size.
@@ -153,8 +157,8 @@ fn move_on(
         count,
         rows,
     );
-    cross(size, count, tables, &first, rows, streams);
-    listing::open(index, WIDTH, size, count, streams);
+    let many = cross(size, count, tables, &first, rows, streams);
+    listing::open(index, WIDTH, size, count, many, streams);
 }
 
 // The next occurrence of a file: its keyword, and its offset in the file. The keyword is `count` where there is none.
@@ -256,8 +260,7 @@ pub fn count_file(
             count,
             &mut rows,
         );
-        cross(size, count, tables, &first, &rows, &mut streams);
-        sum += listing::count_all(&streams, count);
+        sum += cross(size, count, tables, &first, &rows, &mut streams);
         size = after;
         n += 1;
     }

@@ -2,6 +2,7 @@
 use Prim.Native.Nat.{_-_, _≤_}
 use native.Mathlib.Omega.{arith}
 use Rattle.listing.proofs.Stepping.{Opening, opening-start, opening-next, opening-on, opening-end}
+use Rattle.listing.proofs.Totals.{opened-none}
 use Rattle.listing.proofs.open.Statement.{statement}
 use Rattle.listing.proofs.open.Tie as tie
 use Rattle.listing.proofs.open.Reads as reads
@@ -9,13 +10,18 @@ use Rattle.listing.proofs.open.Lts as lts
 use Rattle.listing.proofs.pull.Reads as pull-reads
 
 abbrev Inv-loop : tie.InvT-loop
-Inv-loop index width size count streams₀ k₀ streams k = (k ≤ count) × Opening index width size count streams₀ streams k
+Inv-loop index width size count many streams₀ k₀ streams k = (k ≤ count) × Opening index width size count streams₀ streams k
 
 abbrev μ-loop : tie.MeasureT-loop
-μ-loop index width size count streams₀ k₀ streams k = count - k
+μ-loop index width size count many streams₀ k₀ streams k = count - k
+
+returns : tie.Need-returns Inv-loop μ-loop
+returns c = let s = c .before .before in
+    let a = s .args in
+    opened-none (a .index .now) (a .width) (a .size) (a .count) (a .streams .now) (a .many) (s .pre .2) (s .pre .3) (c .if1 .taken)
 
 loop-holds : tie.Need-loop-holds Inv-loop μ-loop
-loop-holds c = let s = c .before in
+loop-holds c = let s = c .before .before in
     let a = s .args in
     (omega arith, opening-start (a .index .now) (a .width) (a .size) (a .count) (a .streams .now) (s .pre .2))
 
@@ -27,12 +33,12 @@ element-copy-out-s c = omega arith
 
 pull-requires : tie.Need-pull-requires Inv-loop μ-loop
 pull-requires c κs = let p = c .before .before in
-    let s = p .before .before in
+    let s = p .before .before .before in
     let a = s .args in
     (s .pre .1, opening-next (a .index .now) (a .width) (a .size) (a .count) (a .streams .now) (s .pre .2) (p .loop .streams) (p .loop .k) (p .loop .inv .1) (c .before .loop-test .taken))
 
-mul-t9 : tie.Need-mul-t9 Inv-loop μ-loop
-mul-t9 c = omega arith
+mul-t11 : tie.Need-mul-t11 Inv-loop μ-loop
+mul-t11 c = omega arith
 
 element-set-from-streams : tie.Need-element-set-from-streams Inv-loop μ-loop
 element-set-from-streams c = omega arith
@@ -45,13 +51,13 @@ loop-less c = omega arith
 
 loop-again : tie.Need-loop-again Inv-loop μ-loop
 loop-again c = let p = c .before .before .before in
-    let s = p .before .before in
+    let s = p .before .before .before in
     let a = s .args in
     (omega arith, opening-on (a .index .now) (a .width) (a .size) (a .count) (a .streams .now) (s .pre .2) (p .loop .streams) (p .loop .k) (p .loop .inv .1) (c .pull .result) (c .before .before .loop-test .taken) (c .pull .ensures))
 
-returns : tie.Need-returns Inv-loop μ-loop
-returns c = let p = c .before in
-    let s = p .before .before in
+returns-2 : tie.Need-returns-2 Inv-loop μ-loop
+returns-2 c = let p = c .before in
+    let s = p .before .before .before in
     let a = s .args in
     opening-end (a .index .now) (a .width) (a .size) (a .count) (a .streams .now) (s .pre .2) (p .loop .streams) (p .loop .k) (p .loop .inv .1) (omega arith)
 
@@ -61,13 +67,14 @@ open-spec =
     (tie.spec
     Inv-loop
     μ-loop
+    returns
     loop-holds
     mul-s
     element-copy-out-s
     pull-requires
-    mul-t9
+    mul-t11
     element-set-from-streams
     add-k
     loop-less
     loop-again
-    returns)
+    returns-2)

@@ -6,12 +6,11 @@ use Rattle.walk.specs.Walking.{chunksIn, LoadedAt}
 use Rattle.walk.proofs.Entries.{in-chunks, out-chunks}
 use Rattle.walk.proofs.Places.{crossable}
 use Rattle.walk.proofs.Moves.{all-good}
-use Rattle.walk.proofs.Counts.{walkable, Counting, counting-start, streams-small, counting-on, counting-end}
+use Rattle.walk.proofs.Counts.{walkable, Counting, counting-start, counting-on, counting-end}
 use Rattle.walk.proofs.count_file.Statement.{statement}
 use Rattle.walk.proofs.count_file.Tie as tie
 use Rattle.walk.proofs.count_file.Reads as reads
 use Rattle.walk.proofs.count_file.Lts as lts
-use Rattle.listing.proofs.count_all.Reads as count-all-reads
 use Rattle.walk.proofs.cross.Reads as cross-reads
 use Rattle.walk.proofs.load.Reads as load-reads
 
@@ -23,16 +22,21 @@ abbrev μ-loop : tie.MeasureT-loop
 μ-loop index directory entries heads chain file slots count tables rows₀ streams₀ size₀ sum₀ n₀ rows streams size sum n =
     length file / 20 - n
 
-turn : (c : tie.After-count-all Inv-loop μ-loop) → let p = c .before .before .before .before .before .before .before .before .before in let a = p .before .before .before .before .before .before .before .before .args in
-    Counting (a .index .now) (chunksIn (a .index .now) (a .file .now)) (p .loop .n + 1) (p .loop .sum + c .count-all .result)
+-- one more place is counted
+turn : (c : tie.After-cross Inv-loop μ-loop) → let p = c .before .before .before .before .before .before .before in let a = p .before .before .before .before .before .before .before .before .args in
+    Counting (a .index .now) (chunksIn (a .index .now) (a .file .now)) (p .loop .n + 1) (p .loop .sum + c .cross .result)
 turn c =
-    let p = c .before .before .before .before .before .before .before .before .before in
+    let p = c .before .before .before .before .before .before .before in
     let s = p .before .before .before .before .before .before .before .before in
     let a = s .args in
     let chunks = chunksIn (a .index .now) (a .file .now) in
-    let t = c .before .before .before .before .before .before .load2 in
-    let x = c .before .before .cross in
-    counting-on (a .index .now) (a .count) (a .tables .now) chunks (s .pre .1 .1) (all-good (a .index .now) (a .directory) (a .entries) (a .heads .now) (a .chain .now) (a .tables .now) (a .file .now) (a .slots .now) (a .count) (walkable (a .index .now) (a .directory) (a .entries) (a .heads .now) (a .chain .now) (a .tables .now) (a .file .now) (a .slots .now) (a .count) (s .pre .0) (s .pre .1 .0) (s .pre .1 .1))) (p .loop .n) (p .loop .rows) (t .last .1 .1 .1 .1 .1 .1 .1 .1 .1 .0) (p .loop .size) (t .result) (in-chunks (a .index .now) (a .file .now) (p .loop .n) (c .before .before .before .before .before .before .before .before .loop-test .taken)) (p .loop .inv .2) (t .ensures) (x .last .1 .1 .1 .1 .1 .0) (x .ensures) (p .loop .sum) (p .loop .inv .3) (c .count-all .result) (c .count-all .ensures)
+    let t = c .before .before .before .before .load2 in
+    let x = c .cross in
+    let good = all-good (a .index .now) (a .directory) (a .entries) (a .heads .now) (a .chain .now) (a .tables .now) (a .file .now) (a .slots .now) (a .count)
+    (walkable (a .index .now) (a .directory) (a .entries) (a .heads .now) (a .chain .now) (a .tables .now) (a .file .now) (a .slots .now) (a .count) (s .pre .0) (s .pre .1 .0) (s .pre .1 .1)) in
+    counting-on (a .index .now) (a .count) (a .tables .now) chunks (s .pre .1 .1) good (p .loop .n) (p .loop .rows) (t .last .1 .1 .1 .1 .1 .1 .1 .1 .1 .0) (p .loop .size) (t .result)
+    (in-chunks (a .index .now) (a .file .now) (p .loop .n) (c .before .before .before .before .before .before .loop-test .taken)) (p .loop .inv .2) (t .ensures)
+    (x .last .1 .1 .1 .1 .1 .0) (x .ensures .crossed) (p .loop .sum) (p .loop .inv .3) (x .result) (x .ensures .all)
 
 load-requires : tie.Need-load-requires Inv-loop μ-loop
 load-requires c κs = let s = c .before .before .before .before .before .before in
@@ -51,33 +55,31 @@ load-requires-2 c κs = let p = c .before .before in
     (s .pre .0, (s .pre .1 .0, (s .pre .1 .1 .counts, s .pre .1 .1 .few, p .loop .inv .2 .long)))
 
 cross-requires : tie.Need-cross-requires Inv-loop μ-loop
-cross-requires c κs = let p = c .before .before .before .before .before .before in
+cross-requires c κs =
+    let p = c .before .before .before .before .before .before in
     let s = p .before .before .before .before .before .before .before .before in
     let a = s .args in
     let chunks = chunksIn (a .index .now) (a .file .now) in
     let t = c .before .before .before .load2 in
-    (s .pre .1 .1 .few, p .loop .inv .1, crossable (a .index .now) (a .count) (a .tables .now) chunks (s .pre .1 .1) (all-good (a .index .now) (a .directory) (a .entries) (a .heads .now) (a .chain .now) (a .tables .now) (a .file .now) (a .slots .now) (a .count) (walkable (a .index .now) (a .directory) (a .entries) (a .heads .now) (a .chain .now) (a .tables .now) (a .file .now) (a .slots .now) (a .count) (s .pre .0) (s .pre .1 .0) (s .pre .1 .1))) (p .loop .n) (p .loop .rows) (t .last .1 .1 .1 .1 .1 .1 .1 .1 .1 .0) (p .loop .size) (t .result) (in-chunks (a .index .now) (a .file .now) (p .loop .n) (c .before .before .before .before .before .loop-test .taken)) (p .loop .inv .2) (t .ensures))
-
-count-all-requires : tie.Need-count-all-requires Inv-loop μ-loop
-count-all-requires c κs = let p = c .before .before .before .before .before .before .before .before in
-    let s = p .before .before .before .before .before .before .before .before in
-    let a = s .args in
-    let chunks = chunksIn (a .index .now) (a .file .now) in
-    let t = c .before .before .before .before .before .load2 in
-    let x = c .before .cross in
-    (s .pre .1 .1 .few, streams-small (a .index .now) (a .count) (a .tables .now) chunks (s .pre .1 .1) (all-good (a .index .now) (a .directory) (a .entries) (a .heads .now) (a .chain .now) (a .tables .now) (a .file .now) (a .slots .now) (a .count) (walkable (a .index .now) (a .directory) (a .entries) (a .heads .now) (a .chain .now) (a .tables .now) (a .file .now) (a .slots .now) (a .count) (s .pre .0) (s .pre .1 .0) (s .pre .1 .1))) (p .loop .n) (p .loop .rows) (t .last .1 .1 .1 .1 .1 .1 .1 .1 .1 .0) (p .loop .size) (t .result) (in-chunks (a .index .now) (a .file .now) (p .loop .n) (c .before .before .before .before .before .before .before .loop-test .taken)) (p .loop .inv .2) (t .ensures) (x .last .1 .1 .1 .1 .1 .0) (x .ensures) (p .loop .sum) (p .loop .inv .3) (s .pre .1 .0 .small))
+    let good = all-good (a .index .now) (a .directory) (a .entries) (a .heads .now) (a .chain .now) (a .tables .now) (a .file .now) (a .slots .now) (a .count)
+    (walkable (a .index .now) (a .directory) (a .entries) (a .heads .now) (a .chain .now) (a .tables .now) (a .file .now) (a .slots .now) (a .count) (s .pre .0) (s .pre .1 .0) (s .pre .1 .1)) in (
+      s .pre .1 .1 .few,
+      p .loop .inv .1,
+      crossable (a .index .now) (a .count) (a .tables .now) chunks (s .pre .1 .1) good (p .loop .n) (p .loop .rows) (t .last .1 .1 .1 .1 .1 .1 .1 .1 .1 .0) (p .loop .size) (t .result)
+          (in-chunks (a .index .now) (a .file .now) (p .loop .n) (c .before .before .before .before .before .loop-test .taken)) (p .loop .inv .2) (t .ensures),
+    )
 
 add-sum : tie.Need-add-sum Inv-loop μ-loop
-add-sum c = omega (arith, turn c .most, c .before .before .before .before .before .before .before .before .before .before .before .before .before .before .before .before .before .pre .1 .0 .small)
+add-sum c = omega (arith, turn c .most, c .before .before .before .before .before .before .before .before .before .before .before .before .before .before .before .pre .1 .0 .small)
 
 add-n : tie.Need-add-n Inv-loop μ-loop
-add-n c = omega (arith, c .before .before .before .before .before .before .before .before .loop-test .taken, c .before .before .before .before .before .before .before .before .before .before .before .before .before .before .before .before .before)
+add-n c = omega (arith, c .before .before .before .before .before .before .loop-test .taken, c .before .before .before .before .before .before .before .before .before .before .before .before .before .before .before)
 
 loop-less : tie.Need-loop-less Inv-loop μ-loop
-loop-less c = omega (arith, c .before .before .before .before .before .before .before .before .loop-test .taken)
+loop-less c = omega (arith, c .before .before .before .before .before .before .loop-test .taken)
 
 loop-again : tie.Need-loop-again Inv-loop μ-loop
-loop-again c = (omega (arith, c .before .before .before .before .before .before .before .before .loop-test .taken), c .before .before .cross .ensures .long, c .before .before .before .before .before .before .load2 .ensures, turn c)
+loop-again c = (omega (arith, c .before .before .before .before .before .before .loop-test .taken), c .cross .ensures .crossed .long, c .before .before .before .before .load2 .ensures, turn c)
 
 returns : tie.Need-returns Inv-loop μ-loop
 returns c = let p = c .before in
@@ -96,7 +98,6 @@ count-file-spec =
     add-load
     load-requires-2
     cross-requires
-    count-all-requires
     add-sum
     add-n
     loop-less

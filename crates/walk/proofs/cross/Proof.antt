@@ -1,6 +1,7 @@
 -- `walk::cross` meets its contract.
-use Prim.Native.Nat.{_-_, _≤_}
+use Prim.Native.Nat.{_-_, _*_, _^_, _≤_}
 use native.Mathlib.Omega.{arith}
+use lib.Count.{ones-le}
 use Rattle.walk.proofs.Places.{Crossing, crossing-start, crossing-on, crossing-end}
 use borrow.Author.Needs.{needs}
 use Rattle.walk.proofs.cross.Statement.{statement}
@@ -8,16 +9,25 @@ use Rattle.walk.proofs.cross.Tie as tie
 use Rattle.walk.proofs.cross.Reads as reads
 use Rattle.walk.proofs.cross.Lts as lts
 use Rattle.walk.proofs.wide.Reads as wide-reads
+use Rattle.listing.proofs.offsets_in.Reads as offsets-in-reads
 
 abbrev Inv-loop : tie.InvT-loop
-Inv-loop size count tables here next streams₀ k₀ streams k = (k ≤ count) × Crossing size count tables here next streams k
+Inv-loop size count tables here next streams₀ many₀ k₀ streams many k = (k ≤ count) × Crossing size count tables here next streams k many × (many ≤ k * 2 ^ 33)
 
 abbrev μ-loop : tie.MeasureT-loop
-μ-loop size count tables here next streams₀ k₀ streams k = count - k
+μ-loop size count tables here next streams₀ many₀ k₀ streams many k = count - k
+
+-- a stream has no more offsets than a chunk has bytes
+few : (c : tie.After-offsets-in Inv-loop μ-loop) → c .offsets-in .result ≤ 2 ^ 33
+few c =
+    let l = c .before in
+    let p = l .before .before .before .before .before .before .before in
+    let w = l .before .before .wide in
+    omega (arith, c .offsets-in .ensures, p .before .pre .2 .few (p .loop .k) (l .before .before .before .before .before .before .loop-test .taken), ones-le 32 (w .result) (w .ensures .1))
 
 loop-holds : tie.Need-loop-holds Inv-loop μ-loop
 loop-holds c = let a = c .args in
-    (omega arith, crossing-start (a .size) (a .count) (a .tables .now) (a .here .now) (a .next .now) (a .streams .now) (c .pre .1))
+    (omega arith, crossing-start (a .size) (a .count) (a .tables .now) (a .here .now) (a .next .now) (a .streams .now) (c .pre .1), omega arith)
 
 mul-i : tie.Need-mul-i Inv-loop μ-loop
 mul-i c = omega arith
@@ -76,14 +86,22 @@ index-1-left c = omega arith
 index-2-left : tie.Need-index-2-left Inv-loop μ-loop
 index-2-left c = omega arith
 
-sub-t15 : tie.Need-sub-t15 Inv-loop μ-loop
-sub-t15 c = c .before .before .before .before .before .before .before .before .pre .2 .short (c .before .before .before .before .before .before .before .loop .k) (c .before .before .before .before .before .before .loop-test .taken)
+sub-many : tie.Need-sub-many Inv-loop μ-loop
+sub-many c = c .before .before .before .before .before .before .before .before .pre .2 .short (c .before .before .before .before .before .before .before .loop .k) (c .before .before .before .before .before .before .loop-test .taken)
 
 mul-s : tie.Need-mul-s Inv-loop μ-loop
 mul-s c = omega arith
 
 element-set-from-s : tie.Need-element-set-from-s Inv-loop μ-loop
 element-set-from-s c = omega arith
+
+offsets-in-requires : tie.Need-offsets-in-requires Inv-loop μ-loop
+offsets-in-requires c κs =
+    let p = c .before .before .before .before .before .before .before in
+    record { left = p .before .pre .2 .few (p .loop .k) (c .before .before .before .before .before .before .loop-test .taken); set = c .before .before .wide .ensures .1 }
+
+add-many : tie.Need-add-many Inv-loop μ-loop
+add-many c = omega (arith, few c, c .before .before .before .before .before .before .before .before .loop .inv .2, c .before .before .before .before .before .before .before .before .before .pre .0)
 
 add-k : tie.Need-add-k Inv-loop μ-loop
 add-k c = omega arith
@@ -92,14 +110,21 @@ loop-less : tie.Need-loop-less Inv-loop μ-loop
 loop-less c = omega arith
 
 loop-again : tie.Need-loop-again Inv-loop μ-loop
-loop-again c = let p = c .before .before .before .before .before .before .before in
+loop-again c =
+    let l = c .before in
+    let p = l .before .before .before .before .before .before .before in
     let a = p .before .args in
-    (omega (arith, c .before .before .before .before .before .before .loop-test .taken), crossing-on (a .size) (a .count) (a .tables .now) (a .here .now) (a .next .now) (p .loop .streams) (p .loop .k) (c .before .before .wide .result) (p .loop .inv .1) (c .before .before .before .before .before .before .loop-test .taken) (c .before .before .wide .ensures))
+    let t = l .before .before .before .before .before .before .loop-test .taken in
+    let w = l .before .before .wide in (
+      omega (arith, t),
+      crossing-on (a .size) (a .count) (a .tables .now) (a .here .now) (a .next .now) (p .loop .streams) (p .loop .k) (w .result) (p .loop .many) (c .offsets-in .result) (p .loop .inv .1) t (w .ensures .0) (c .offsets-in .ensures),
+      omega (arith, few c, p .loop .inv .2),
+    )
 
 returns : tie.Need-returns Inv-loop μ-loop
 returns c = let p = c .before in
     let a = p .before .args in
-    crossing-end (a .size) (a .count) (a .tables .now) (a .here .now) (a .next .now) (p .loop .streams) (p .loop .k) (p .loop .inv .1) (omega arith)
+    crossing-end (a .size) (a .count) (a .tables .now) (a .here .now) (a .next .now) (p .loop .streams) (p .loop .k) (p .loop .many) (p .loop .inv .1) (omega arith)
 
 pub cross-spec : {M : Type 1} → statement M
 cross-spec =
@@ -127,9 +152,11 @@ cross-spec =
     mul-left
     index-1-left
     index-2-left
-    sub-t15
+    sub-many
     mul-s
     element-set-from-s
+    offsets-in-requires
+    add-many
     add-k
     loop-less
     loop-again
