@@ -5,21 +5,18 @@ use mathlib.Core.List.{List}
 use Prim.Native.Nat.{ℕ, _-_, _≤_, _<_}
 use native.Mathlib.Omega.{arith}
 use lib.ListN.{length}
-use lib.Dec.{eqb, leb, leb→le}
+use lib.Dec.{eqb, leb}
 use Rattle.spec.specs.Keywords.{folded}
 use Rattle.spec.specs.Records.{MatchRecord, form1, reach, isEmpty, isTiny, tinyBytes, fullBytes, recordBytes}
-use Rattle.spec.proofs.Tests.{and-left, and-right, T-of}
+use Rattle.spec.proofs.Tests.{and-left, and-right}
 use Rattle.spec.proofs.Folding.{folded-length}
 use Rattle.spec.proofs.Splices.{splice-nil}
-use Rattle.spec.proofs.RecordLaws.{prefix-in, suffix-in, written-empty, written-tiny, written-full}
+use Rattle.spec.proofs.RecordLaws.{le-of, prefix-in, suffix-in, written-empty, written-tiny, written-full}
 use Rattle.spec.proofs.RecordRanges.{record-in-range}
 use Rattle.matcher.specs.declared.Summary.{Summary}
 use Rattle.matcher.specs.Summaries.{summaryOf, Wrote}
 use Rattle.matcher.proofs.Shapes.{at-prefix, at-suffix}
 use Rattle.matcher.proofs.Summing.{recorded}
-
-le-of : (m n : ℕ) → leb m n ≡ true → m ≤ n
-le-of m n e = leb→le m n (T-of (leb m n) e)
 
 module _ (flag : ℕ) (keyword chunk : List ℕ) (s : Summary) (e : s ≡ summaryOf (recorded flag keyword chunk)) where
   abbrev pub m : MatchRecord

@@ -13,16 +13,9 @@ use lib.ListN.{length, getD, take, drop, length-take, length-drop}
 use lib.Seq.{drop-drop}
 use Rattle.spec.specs.Bytes.{part, same, contains, twice, positionOf, each, sum}
 use Rattle.spec.specs.Directory.{Layout, keysOf, keysIn, directoryEnd, sizeAt, offsetAt, lengthAt, entriesCode}
-use Rattle.spec.proofs.Tests.{bool-cases, le-or-lt}
+use Rattle.spec.proofs.Tests.{bool-cases, le-or-lt, ltb-suc}
 use Rattle.spec.proofs.Codes.{last-whole, or-left, or-right}
 use Rattle.spec.proofs.Same.{same-eq, same-refl, same-not}
-
-ltb-suc : (m n : ℕ) → ltb (suc m) (suc n) ≡ ltb m n
-ltb-suc m n = go (le-or-lt n m)
-  where
-    go : (n ≤ m) ⊎ (m < n) → ltb (suc m) (suc n) ≡ ltb m n
-    go (inl h) = rw (le-ltb m n h, le-ltb (suc m) (suc n) (omega arith))
-    go (inr h) = rw (lt-ltb m n h, lt-ltb (suc m) (suc n) (omega arith))
 
 -- what holds of the first of a range, and of those after it
 range-cons : (P : ℕ → Type 0) (k n : ℕ) → P k → ((e : ℕ) → suc k ≤ e → e < suc k + n → P e) → (e : ℕ) → k ≤ e → e < k + suc n → P e

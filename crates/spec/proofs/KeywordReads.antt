@@ -13,6 +13,7 @@ use lib.Seq.{take-append-le, drop-append-le, take-add, drop-at, length-take-le}
 use Rattle.spec.specs.Bytes.{twice}
 use Rattle.spec.specs.Keywords.{foldedAll, countOf, flagOf, readKeywords, keywordsSize, keywordsOf, listSize, foldedKeywords, readCode, headerWrong, keywordCode, keywordFrontCode}
 use Rattle.spec.proofs.Codes.{passed}
+use Rattle.spec.proofs.Splices.{drop-take}
 use Rattle.spec.proofs.KeywordLaws.{read-step, read-absent, read-room, accepted, keyword-front}
 
 -- ---- the reading
@@ -45,9 +46,6 @@ module _ (rest : List ℕ) where
       (rw (drop-append-le n bytes rest (s .room)) (code-front count (drop n bytes) (s .rest)))
 
 -- a take across a place, from there on
-drop-take : (n m : ℕ) (l : List ℕ) → n ≤ length l → drop n (take (n + m) l) ≡ take m (drop n l)
-drop-take n m l h = rw take-add (drop-at (take n l) (take m (drop n l)) n (length-take-le n l h))
-
 -- the keywords' own bytes are accepted
 pub code-taken : (count : ℕ) (bytes : List ℕ) → readCode count bytes ≡ 0 → readCode count (take (keywordsSize count bytes) bytes) ≡ 0
 code-taken zero bytes e = refl
@@ -57,7 +55,7 @@ code-taken (suc count) (n ∷ bytes) e =
     let r : n ≤ length bytes = s .room in
     let l : n ≤ length (take (n + keywordsSize count (drop n bytes)) bytes) = rw length-take (omega arith) in
     rw suc-add (step-passes count n (take (n + keywordsSize count (drop n bytes)) bytes) (s .some) (s .most) l
-    (rw (drop-take n (keywordsSize count (drop n bytes)) bytes r) (code-taken count (drop n bytes) (s .rest))))
+    (rw (drop-take n (keywordsSize count (drop n bytes)) bytes) (code-taken count (drop n bytes) (s .rest))))
 
 pub size-taken : (count : ℕ) (bytes : List ℕ) → readCode count bytes ≡ 0 → keywordsSize count (take (keywordsSize count bytes) bytes) ≡ keywordsSize count bytes
 size-taken count bytes e =

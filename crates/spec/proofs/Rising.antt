@@ -7,9 +7,9 @@ use Prim.Native.Nat.{ℕ, zero, suc, _+_, _-_, _≤_, _<_}
 use native.Mathlib.Nat.{zero-add, eq-or-lt-of-le, zero-lt-suc, not-suc-le-zero, le-of-suc-le-suc}
 use native.Mathlib.Omega.{arith}
 use lib.ListN.{length, getD}
-use lib.Dec.{eqb, ltb, ltb→lt}
-use Rattle.spec.specs.Bytes.{each, keep, member, rising}
-use Rattle.spec.proofs.Tests.{eqb-ne, eqb-same, T-of, and-left, and-right, le-of-and}
+use lib.Dec.{leb, eqb, ltb, ltb→lt}
+use Rattle.spec.specs.Bytes.{each, keep, every, member, rising}
+use Rattle.spec.proofs.Tests.{leb-true, eqb-ne, eqb-same, T-of, and-left, and-right, le-of-and}
 use Rattle.spec.proofs.Each.{each-match, each-none, passing}
 
 pub rising-tail : (x : ℕ) (xs : List ℕ) → rising (x ∷ xs) ≡ true → rising xs ≡ true
@@ -41,6 +41,13 @@ rising-head x y xs e = ltb→lt x y (T-of (ltb x y) (and-left (ltb x y) (rising 
 pub rising-next : (x : ℕ) (xs : List ℕ) → rising (x ∷ xs) ≡ true → 0 < length xs → x < getD xs 0 0
 rising-next x [] e l = let z : ⊥ = omega arith in absurd z
 rising-next x (y ∷ xs) e l = rising-head x y xs e
+
+-- offsets that leave room for a keyword of n bytes stay below a shorter prefix at the end
+pub below-prefix : (n size i : ℕ) (xs : List ℕ) → i < n → every (λ at. leb (at + n) size) xs ≡ true → allBelow (size - i) xs ≡ true
+below-prefix n size i [] h e = refl
+below-prefix n size i (x ∷ xs) h e =
+    let l : x + n ≤ size = le-of-and (x + n) size (every (λ at. leb (at + n) size) xs) e in
+    rw (leb-true (suc x) (size - i) (omega arith)) (below-prefix n size i xs h (and-right (leb (x + n) size) (every (λ at. leb (at + n) size) xs) e))
 
 -- the numbers of a range that are in a rising list: the list
 pub passing-member : (n a : ℕ) (xs : List ℕ) → rising xs ≡ true → allBelow (a + n) xs ≡ true → (0 < length xs → a ≤ getD xs 0 0)

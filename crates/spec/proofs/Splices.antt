@@ -1,13 +1,18 @@
--- Laws of `splice`. Assumes nothing.
+-- Laws of parts of a list and of `splice`. Assumes nothing.
 use mathlib.Core.Path.{_≡_, refl, sym, ap, _∙_}
 use mathlib.Core.List.{List, [], _∷_, _++_, append-assoc, append-nil}
-use Prim.Native.Nat.{ℕ, suc, _+_, _-_, _≤_, _<_}
-use native.Mathlib.Nat.{add-assoc, add-zero}
+use Prim.Native.Nat.{ℕ, zero, suc, _+_, _-_, _≤_, _<_}
+use native.Mathlib.Nat.{add-assoc, add-zero, zero-add, suc-add}
 use native.Mathlib.Omega.{arith}
 use lib.ListN.{getD, length, take, drop, set, length-append, length-take, length-drop, take-append-drop}
-use lib.Seq.{set-at, drop-cons, length-take-le, take-at, drop-at, drop-drop, take-add, take-append-le, drop-append-le, sets, sets-eq}
+use lib.Seq.{set-at, drop-cons, length-take-le, take-nil, take-at, drop-at, drop-drop, take-add, take-append-le, drop-append-le, sets, sets-eq}
 use borrow.Rule.Slice.PartMut.{midOf, postOf, putMid}
 use Rattle.spec.specs.Bytes.{splice}
+
+pub drop-take : (i m : ℕ) (l : List ℕ) → drop i (take (i + m) l) ≡ take m (drop i l)
+drop-take zero m l = rw (zero-add m)
+drop-take (suc i) m [] = rw (take-nil (suc i + m), take-nil m)
+drop-take (suc i) m (x ∷ l) = rw (suc-add i m) (drop-take i m l)
 
 pub splice-nil : (l : List ℕ) (at : ℕ) → splice l at [] ≡ l
 unfolding splice

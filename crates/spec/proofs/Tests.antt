@@ -6,7 +6,7 @@ use Prim.Native.Nat.{ℕ, zero, suc, _+_, _-_, _≤_, _<_}
 use native.Mathlib.Nat.{lt-of-not-le}
 use native.Mathlib.Decide.{decLe}
 use native.Mathlib.Omega.{arith}
-use lib.Dec.{T, leb, leb→le, le→leb, eqb, eqb→eq, eqb-refl}
+use lib.Dec.{T, leb, leb→le, le→leb, ltb, eqb, eqb→eq, eqb-refl}
 
 pub le-or-lt : (a b : ℕ) → (a ≤ b) ⊎ (b < a)
 le-or-lt a b = go (decLe a b)
@@ -35,6 +35,13 @@ leb-true m n h = of-T (leb m n) (le→leb m n h)
 
 pub leb-false : (m n : ℕ) → n < m → leb m n ≡ false
 leb-false m n h = false-of (leb m n) (λ e. let l : m ≤ n = leb→le m n (T-of (leb m n) e) in omega arith)
+
+pub ltb-suc : (m n : ℕ) → ltb (suc m) (suc n) ≡ ltb m n
+ltb-suc m n = go (le-or-lt n m)
+  where
+    go : (n ≤ m) ⊎ (m < n) → ltb (suc m) (suc n) ≡ ltb m n
+    go (inl h) = rw (leb-false (suc m) n (omega arith), leb-false (suc (suc m)) (suc n) (omega arith))
+    go (inr h) = rw (leb-true (suc m) n h, leb-true (suc (suc m)) (suc n) (omega arith))
 
 pub eqb-same : (n : ℕ) → eqb n n ≡ true
 eqb-same n = of-T (eqb n n) (eqb-refl n)

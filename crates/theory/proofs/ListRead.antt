@@ -19,6 +19,7 @@ use Rattle.spec.specs.Join.{Occurrence, keywordAt, occurrenceBytes, listBytes, 
 use Rattle.spec.specs.Search.{chunkNamed, restored, directSearch}
 use Rattle.spec.proofs.Tests.{and-left, and-right}
 use Rattle.spec.proofs.Codes.{passed, passed-code}
+use Rattle.spec.proofs.FileLaws.{FileAccepted, files-accepted}
 use Rattle.spec.proofs.Folding.{folded-length}
 use Rattle.spec.proofs.JoinIsSearch.{getD-map}
 use Rattle.spec.proofs.KeywordLaws.{Accepted, accepted, keyword-front, folded-count}
@@ -27,7 +28,7 @@ use Rattle.spec.proofs.Seams.{field-seam, next-field}
 use Rattle.theory.specs.SearchList.{isIn}
 use Rattle.theory.specs.Demand3.{restoredFiles, readList}
 use Rattle.theory.proofs.SearchList.{same-self, direct-search-list}
-use Rattle.theory.proofs.ScanThenJoin.{FileGood, file-good, file-lengths}
+use Rattle.theory.proofs.ScanThenJoin.{file-lengths}
 
 -- ---- written and read
 
@@ -84,24 +85,18 @@ few-files recipes e =
     let b = passed (ltb mostFiles (fileCount recipes)) 14 _ (omega arith) (a .1) in
     omega (arith, ltb-false mostFiles (fileCount recipes) (b .0), length-files (fileCount recipes) (drop 4 recipes))
 
-files-at : (keys : List (List ℕ)) (sizeOf : ℕ → ℕ) (m : ℕ) (files : List (List (List ℕ))) (n : ℕ) → filesCode keys sizeOf m files ≡ 0 → n < length files → fileCode keys sizeOf m (getD files n []) ≡ 0
-unfolding filesCode
-files-at keys sizeOf m [] n e l = absurd (not-suc-le-zero l)
-files-at keys sizeOf m (file ∷ files) zero e l = passed-code (fileCode keys sizeOf m file) (map (fileCode keys sizeOf m) files) e .0
-files-at keys sizeOf m (file ∷ files) (suc n) e l = files-at keys sizeOf m files n (passed-code (fileCode keys sizeOf m file) (map (fileCode keys sizeOf m) files) e .1) (omega arith)
-
 module _ (f : Form) (plain : f .sets ≡ false) (list store index recipes : List ℕ) (accept : keywordCode list ≡ 0) (reads : ScanReads f list store index)
     (known : recipesCode recipes ≡ 0) (good : filesCode (storeKeys store) (sizeAt storeLayout store) (due f list) (filesOf recipes) ≡ 0) where
   short-text : (n : ℕ) → n < length (filesOf recipes) → length (getD (restoredFiles list store recipes) n []) ≤ largest32
   unfolding restored
   short-text n l =
-      let g : FileGood (storeKeys store) (sizeAt storeLayout store) (due f list) (getD (filesOf recipes) n []) =
-      file-good (storeKeys store) (sizeAt storeLayout store) (due f list) (getD (filesOf recipes) n []) (files-at (storeKeys store) (sizeAt storeLayout store) (due f list) (filesOf recipes) n good l) in
+      let g : FileAccepted (storeKeys store) (sizeAt storeLayout store) (due f list) (getD (filesOf recipes) n []) =
+      files-accepted (storeKeys store) (sizeAt storeLayout store) (due f list) (filesOf recipes) n good l in
       rw (
         getD-map (λ file. folded (flagOf list) (restored store file)) (filesOf recipes) n [] [] l,
         folded-length,
         length-joined (map (chunkNamed store) (getD (filesOf recipes) n [])),
-        file-lengths f plain list store index accept reads (getD (filesOf recipes) n []) (g .found),
+        file-lengths f plain list store index accept reads (getD (filesOf recipes) n []) (g .known),
       )
       (g .short)
 

@@ -14,18 +14,12 @@ use Rattle.spec.specs.Table.{seam, cellOf, inCell}
 use Rattle.spec.specs.Join.{keywordAt, listed}
 use Rattle.spec.proofs.Tests.{and-left, and-right}
 use Rattle.spec.proofs.Each.{each-match, each-append, each-none, passing}
-use Rattle.spec.proofs.Rising.{allBelow, passing-member}
+use Rattle.spec.proofs.Rising.{allBelow, below-prefix, passing-member}
 use Rattle.spec.proofs.RecordLaws.{prefix-in, suffix-in, offsets-rise, offsets-in}
 use Rattle.spec.proofs.Stream.{stream, cell-beyond, cell-no-suffix}
 use Rattle.theory.specs.PlaceText.{PlaceText}
 
 -- ---- what the ranges give
-
-all-below : (n size i : ℕ) (offsets : List ℕ) → i < n → every (λ at. leb (at + n) size) offsets ≡ true → allBelow (size - i) offsets ≡ true
-all-below n size i [] l e = refl
-all-below n size i (x ∷ xs) l e =
-    let h : x + n ≤ size = leb-true (x + n) size (and-left (leb (x + n) size) (every (λ at. leb (at + n) size) xs) e) in
-    rw (lt-ltb x (size - i) (omega arith), all-below n size i xs l (and-right (leb (x + n) size) (every (λ at. leb (at + n) size) xs) e))
 
 record InRange (n size : ℕ) (r : MatchRecord) : Type 0 where
   shortPrefix : r .prefix < n
@@ -44,7 +38,7 @@ ranges n size r hn e =
       fits = omega arith;
       shortSuffix = omega arith;
       up = offsets-rise n size r e;
-      low = λ i l. all-below n size i (r .offsets) l (offsets-in n size r e);
+      low = λ i l. below-prefix n size i (r .offsets) l (offsets-in n size r e);
     }
 
 -- ---- the cell as the list of its starts

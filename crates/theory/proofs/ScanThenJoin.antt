@@ -23,6 +23,7 @@ use Rattle.spec.specs.Search.{chunkNamed, restored, directSearch, searchJoinCod
 use Rattle.spec.proofs.Tests.{bool-cases, and-left, and-right}
 use Rattle.spec.proofs.Codes.{passed, passed-whole, passed-code}
 use Rattle.spec.proofs.EntryLaws.{contains-position}
+use Rattle.spec.proofs.FileLaws.{FileAccepted, file-accepted}
 use Rattle.spec.proofs.KeywordLaws.{Accepted, accepted, keyword-front}
 use Rattle.spec.proofs.JoinIsSearch.{noneEmpty, scan-join-is-search}
 use Rattle.spec.proofs.ScanLaws.{ScanReads}
@@ -48,23 +49,6 @@ accepted-none-empty list e =
 
 position-in : (keys : List (List ℕ)) (key : List ℕ) → contains key keys ≡ true → positionOf key keys < length keys
 position-in keys key e = ltb-true (positionOf key keys) (length keys) (sym (contains-position key keys) ∙ e)
-
-pub record FileGood (keys : List (List ℕ)) (sizeOf : ℕ → ℕ) (m : ℕ) (file : List (List ℕ)) : Type 0 where
-  pub found : every (λ key. contains key keys) file ≡ true
-  pub short : sum (sizesIn keys sizeOf m file) ≤ largest32
-  pub roomed : roomy m (sizesIn keys sizeOf m file) ≡ true
-
-pub file-good : (keys : List (List ℕ)) (sizeOf : ℕ → ℕ) (m : ℕ) (file : List (List ℕ)) → fileCode keys sizeOf m file ≡ 0 → FileGood keys sizeOf m file
-unfolding fileCode
-file-good keys sizeOf m file e =
-    let a = passed (not (every (λ key. contains key keys) file)) 15 _ (omega arith) e in
-    let b = passed (ltb largest32 (sum (sizesIn keys sizeOf m file))) 16 _ (omega arith) (a .1) in
-    let c = passed (not (roomy m (sizesIn keys sizeOf m file))) 17 _ (omega arith) (b .1) in
-    record {
-      found = not-false _ (a .0);
-      short = ltb-false largest32 (sum (sizesIn keys sizeOf m file)) (b .0);
-      roomed = not-false _ (c .0);
-    }
 
 module _ (keys : List (List ℕ)) (s t : ℕ → ℕ) (m : ℕ) (h : (k : ℕ) → k < length keys → s k ≡ t k) where
   sizes-same : (file : List (List ℕ)) → every (λ key. contains key keys) file ≡ true → sizesIn keys s m file ≡ sizesIn keys t m file
@@ -120,16 +104,16 @@ module _ (f : Form) (plain : f .sets ≡ false) (list store index : List ℕ) (a
   all-records [] e = refl
   all-records (file ∷ files) e =
       let p : (storeFileCode file ≡ 0) × (storeFilesCode files ≡ 0) = passed-code (storeFileCode file) (map storeFileCode files) e in
-      let g : FileGood (storeKeys store) (sizeAt storeLayout store) (due f list) file = file-good (storeKeys store) (sizeAt storeLayout store) (due f list) file (p .0) in
-      rw (file-records file (g .found), all-records files (p .1))
+      let g : FileAccepted (storeKeys store) (sizeAt storeLayout store) (due f list) file = file-accepted (storeKeys store) (sizeAt storeLayout store) (due f list) file (p .0) in
+      rw (file-records file (g .known), all-records files (p .1))
 
   all-roomy : (files : List (List (List ℕ))) → storeFilesCode files ≡ 0 → every (λ cs. roomy (due f list) (map length cs)) (map chunksNamed files) ≡ true
   unfolding filesCode
   all-roomy [] e = refl
   all-roomy (file ∷ files) e =
       let p : (storeFileCode file ≡ 0) × (storeFilesCode files ≡ 0) = passed-code (storeFileCode file) (map storeFileCode files) e in
-      let g : FileGood (storeKeys store) (sizeAt storeLayout store) (due f list) file = file-good (storeKeys store) (sizeAt storeLayout store) (due f list) file (p .0) in
-      rw (file-lengths file (g .found), g .roomed, all-roomy files (p .1))
+      let g : FileAccepted (storeKeys store) (sizeAt storeLayout store) (due f list) file = file-accepted (storeKeys store) (sizeAt storeLayout store) (due f list) file (p .0) in
+      rw (file-lengths file (g .known), g .inner, all-roomy files (p .1))
 
   texts : (files : List (List (List ℕ))) → map (λ cs. folded (flagOf list) (joined cs)) (map chunksNamed files) ≡ map (λ file. folded (flagOf list) (restored store file)) files
   unfolding restored

@@ -16,7 +16,7 @@ use Rattle.spec.specs.Keywords.{flagOf, folded, foldedKeywords}
 use Rattle.spec.specs.Recipes.{filesOf}
 use Rattle.spec.specs.Join.{Occurrence, keywordAt, hits}
 use Rattle.spec.specs.Search.{occurrencesIn, occurrencesInAll, restored, directSearch}
-use Rattle.spec.proofs.Tests.{le-or-lt, and-left, and-right, eqb-same}
+use Rattle.spec.proofs.Tests.{le-or-lt, ltb-suc, and-left, and-right, eqb-same}
 use Rattle.theory.specs.SearchList.{sameOccurrence, isIn, lexical, before, inOrder, SearchList}
 
 -- ---- the order
@@ -240,13 +240,6 @@ module _ (keywords : List (List ℕ)) where
         0 (length text)
 
   -- ---- all texts
-
-  ltb-suc : (m n : ℕ) → ltb (suc m) (suc n) ≡ ltb m n
-  ltb-suc m n = go (le-or-lt (suc m) n)
-    where
-      go : (suc m ≤ n) ⊎ (n < suc m) → ltb (suc m) (suc n) ≡ ltb m n
-      go (inl h) = rw (lt-ltb (suc m) (suc n) (omega arith), lt-ltb m n h)
-      go (inr h) = rw (le-ltb (suc m) (suc n) (omega arith), le-ltb m n (omega arith))
 
   in-all : (o : Occurrence) (file : ℕ) (texts : List (List ℕ)) → isIn o (occurrencesInAll file keywords texts)
       ≡ (leb file (o .file) && (ltb (o .file - file) (length texts) && inText (getD texts (o .file - file) []) o))
