@@ -53,23 +53,21 @@ module _ (store : List ℕ) (a : 8 ≤ length store) (m : same (take 4 store) st
   rest h l =
       rw (e, le-ltb (length store) 8 a, m, le-ltb 65000 (chunkCount store) (rw (← e) h), le-ltb (length store) (8 + 28 * chunkCount store) (rw (← e) l))
 
-  -- by the number that the entries gave
-  module _ (h : c ≤ 65000) (l : 8 + 28 * c ≤ length store) (code : ℕ) (q : code ≡ entriesCode storeLayout store 65535 7 c 0 (8 + 28 * c)) where
-    pub wrong : code ≢ 0 → code ≡ storeCode store
-    wrong d = q ∙ refused-whole (entriesCode storeLayout store 65535 7 c 0 (8 + 28 * c)) _ (λ z. d (q ∙ z)) ∙ sym (rest h l)
+  pub wrong : c ≤ 65000 → 8 + 28 * c ≤ length store → (code : ℕ) → code ≡ entriesCode storeLayout store 65535 7 c 0 (8 + 28 * c) → code ≢ 0 → code ≡ storeCode store
+  wrong h l code q d = q ∙ refused-whole (entriesCode storeLayout store 65535 7 c 0 (8 + 28 * c)) _ (λ z. d (q ∙ z)) ∙ sym (rest h l)
 
-    -- the entries are good, and t tells of twins
-    twins : (t : Bool) → code ≡ 0 → t ≡ twice (keysFrom store 8 28 c) → storeCode store ≡ firstOf ((t, 8) ∷ [])
-    twins t z f = rest h l ∙ rw (sym q ∙ z, f)
+  module _ (h : c ≤ 65000) (l : 8 + 28 * c ≤ length store) (z : entriesCode storeLayout store 65535 7 c 0 (8 + 28 * c) ≡ 0) where
+    pub twin : twice (keysFrom store 8 28 c) ≡ true → 8 ≡ storeCode store
+    twin t = sym (rest h l ∙ rw (z, t))
 
-    pub twin : {heads next : List ℕ} (t : Bool) → code ≡ 0 → Built (keysFrom store 8 28 c) heads next t → t ≡ true → 8 ≡ storeCode store
-    twin t z b y = sym (twins true z (sym y ∙ b .found))
+    pub sound : twice (keysFrom store 8 28 c) ≡ false → 0 ≡ storeCode store
+    sound f = sym (rest h l ∙ rw (z, f))
 
     -- all entries are in the index
-    pub examined : {heads next : List ℕ} (t : Bool) → code ≡ 0 → Built (keysFrom store 8 28 c) heads next t → t ≡ false → Examined store heads next 0
+    pub examined : {heads next : List ℕ} (t : Bool) → Built (keysFrom store 8 28 c) heads next t → t ≡ false → Examined store heads next 0
     unfolding storeKeys
-    examined {heads} {next} t z b y = record {
-      number = sym (twins false z (sym y ∙ b .found));
+    examined {heads} {next} t b f = record {
+      number = sound (sym (b .found) ∙ f);
       chains = λ _. subst (λ (n : ℕ). Chained (keysFrom store 8 28 n) 0 heads next) e (b .chains);
     }
 

@@ -49,12 +49,11 @@ fn examine(store: &[u8], heads: &mut [u32], next: &mut [u32]) -> u8
     if store.len() < 8 + 28 * c {
         return 6;
     }
-    let wrong = directory::entries(store, 8, 28, 24, 20, 24, 65535, 7, c);
-    let twin = directory::build(store, 8, 28, c, heads, next);
-    if wrong != 0 {
-        return wrong;
+    let code = directory::entries(store, 8, 28, 24, 20, 24, 65535, 7, c);
+    if code != 0 {
+        return code;
     }
-    if twin {
+    if directory::build(store, 8, 28, c, heads, next) {
         return 8;
     }
     0

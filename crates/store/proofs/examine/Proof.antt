@@ -59,6 +59,17 @@ returns-4 c =
 entries-requires : tie.Need-entries-requires
 entries-requires c κs = search needs
 
+returns-5 : tie.Need-returns-5
+returns-5 c =
+    let counted = c .before .before .before .before in
+    let opened = counted .before in
+    let store = now (opened .before .before .before .before .before .before .args .store) in
+    let h = header opened in
+    refused-with store (c .before .entries .result)
+    (wrong store (h .0) (h .1) (counted .count .result) (counted .count .ensures) (c .before .before .before .if3 .left) (c .before .before .if4 .left)
+    (c .before .entries .result) (c .before .entries .ensures) (c .if5 .taken))
+    (omega (arith, c .if5 .taken))
+
 build-requires : tie.Need-build-requires
 build-requires c κs = search needs
 
@@ -68,18 +79,19 @@ same-length c = search needs
 same-length-2 : tie.Need-same-length-2
 same-length-2 c = search needs
 
-returns-5 : tie.Need-returns-5
-returns-5 c =
-    let read = c .before .before .before .before .before .before .before .before in
-    let sized = read .before in
+returns-6 : tie.Need-returns-6
+returns-6 c =
+    let built = c .before .before .before .before .before in
+    let good = built .before .before .before in
+    let sized = good .before .before in
     let counted = sized .before .before in
     let opened = counted .before in
     let store = now (opened .before .before .before .before .before .before .args .store) in
     let h = header opened in
-    refused-with store (read .entries .result)
-    (wrong store (h .0) (h .1) (counted .count .result) (counted .count .ensures) (sized .before .if3 .left) (sized .if4 .left)
-    (read .entries .result) (read .entries .ensures) (c .if5 .taken))
-    (omega (arith, c .if5 .taken))
+    refused-with store 8
+    (twin store (h .0) (h .1) (counted .count .result) (counted .count .ensures) (sized .before .if3 .left) (sized .if4 .left)
+    (sym (good .before .entries .ensures) ∙ good .if5 .left) (sym (built .build .ensures .found) ∙ c .if6 .taken))
+    (omega arith)
 
 same-length-3 : tie.Need-same-length-3
 same-length-3 c = search needs
@@ -87,37 +99,17 @@ same-length-3 c = search needs
 same-length-4 : tie.Need-same-length-4
 same-length-4 c = search needs
 
-returns-6 : tie.Need-returns-6
-returns-6 c =
-    let built = c .before .before .before .before .before .before in
-    let read = built .before .before .before in
-    let sized = read .before in
-    let counted = sized .before .before in
-    let opened = counted .before in
-    let store = now (opened .before .before .before .before .before .before .args .store) in
-    let h = header opened in
-    refused-with store 8
-    (twin store (h .0) (h .1) (counted .count .result) (counted .count .ensures) (sized .before .if3 .left) (sized .if4 .left)
-    (read .entries .result) (read .entries .ensures) (built .build .result) (c .before .if5 .left) (built .build .ensures) (c .if6 .taken))
-    (omega arith)
-
-same-length-5 : tie.Need-same-length-5
-same-length-5 c = search needs
-
-same-length-6 : tie.Need-same-length-6
-same-length-6 c = search needs
-
 returns-7 : tie.Need-returns-7
 returns-7 c =
-    let built = c .before .before .before .before .before .before in
-    let read = built .before .before .before in
-    let sized = read .before in
+    let built = c .before .before .before .before .before in
+    let good = built .before .before .before in
+    let sized = good .before .before in
     let counted = sized .before .before in
     let opened = counted .before in
     let store = now (opened .before .before .before .before .before .before .args .store) in
     let h = header opened in
     examined store (h .0) (h .1) (counted .count .result) (counted .count .ensures) (sized .before .if3 .left) (sized .if4 .left)
-    (read .entries .result) (read .entries .ensures) (built .build .result) (c .before .if5 .left) (built .build .ensures) (c .if6 .left)
+    (sym (good .before .entries .ensures) ∙ good .if5 .left) (built .build .result) (built .build .ensures) (c .if6 .left)
 
 pub examine-spec : {M : Type 1} → statement M
 examine-spec =
@@ -132,13 +124,11 @@ examine-spec =
     add-if4
     returns-4
     entries-requires
+    returns-5
     build-requires
     same-length
     same-length-2
-    returns-5
+    returns-6
     same-length-3
     same-length-4
-    returns-6
-    same-length-5
-    same-length-6
     returns-7)
