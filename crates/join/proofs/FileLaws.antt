@@ -20,7 +20,7 @@ use Rattle.spec.specs.Join.{Occurrence, joinFile, joinFiles, fileRecords, joinL
 use Rattle.spec.proofs.EntryLaws.{length-keys, key-at}
 use Rattle.spec.proofs.IndexChecks.{length-indexKeys}
 use Rattle.spec.proofs.FileLaws.{file-accepted, files-cons, files-drop}
-use Rattle.loader.proofs.Rows.{drop-take}
+use Rattle.spec.proofs.Splices.{drop-take}
 use Rattle.recipes.proofs.Files.{Walk, walk-file, walk-files, walk-on, walk-end}
 use Rattle.files.specs.Measures.{named, Slotted}
 use Rattle.walk.specs.Walking.{chunksIn, sizeOf, File}

@@ -22,7 +22,7 @@ use Rattle.spec.proofs.Writing.{Going, going-start, going-room, going-on, going
 use Rattle.recipes.proofs.Files.{Walk, accepted}
 use Rattle.files.specs.Measures.{named, keysAt, sizesAt, Tested}
 use Rattle.files.proofs.OfIndex.{index-tested}
-use Rattle.listing.proofs.Writes.{length-list, list-nil, list-append}
+use Rattle.spec.proofs.ListBytes.{length-list, list-nil, list-append}
 use Rattle.walk.specs.Walking.{chunksIn, Directory, Counted, Listed}
 use Rattle.join.specs.Joining.{allFilesCode, listOf, Marked, Surveyed}
 use Rattle.join.proofs.FileLaws.{keywords, codeOf, left, left-start, left-end, codes, codes-step, codes-end, list-is, file-next, left-step}

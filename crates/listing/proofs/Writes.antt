@@ -1,35 +1,13 @@
--- The bytes of occurrences. Assumes nothing.
-use mathlib.Core.Path.{_≡_, refl, sym, ap}
-use mathlib.Core.List.{List, [], _∷_, _++_, append-assoc}
-use Prim.Native.Nat.{ℕ, _+_, _*_, _≤_}
+-- The bytes of an occurrence, field by field. Assumes nothing.
+use mathlib.Core.Path.{_≡_, sym, ap}
+use mathlib.Core.List.{List, _++_}
+use Prim.Native.Nat.{ℕ, _+_, _≤_}
 use native.Mathlib.Omega.{arith}
 use lib.ListN.{length, length-append}
 use Rattle.spec.specs.Bytes.{leBytes, splice}
-use Rattle.spec.specs.Join.{Occurrence, occurrenceBytes, listBytes}
+use Rattle.spec.specs.Join.{occurrenceBytes}
 use Rattle.spec.proofs.Fields.{length-leBytes}
 use Rattle.spec.proofs.Splices.{splice-then}
-
-pub length-occurrence : (o : Occurrence) → length (occurrenceBytes o) ≡ 9
-unfolding occurrenceBytes
-length-occurrence o = simp (length-append, length-leBytes)
-
-pub length-list : (os : List Occurrence) → length (listBytes os) ≡ 9 * length os
-unfolding listBytes
-length-list [] = refl
-length-list (o ∷ os) = omega (arith, length-append (occurrenceBytes o) (listBytes os), length-occurrence o, length-list os)
-
-pub list-cons : (o : Occurrence) (os : List Occurrence) → listBytes (o ∷ os) ≡ occurrenceBytes o ++ listBytes os
-unfolding listBytes
-list-cons o os = refl
-
-pub list-nil : listBytes [] ≡ []
-unfolding listBytes
-list-nil = refl
-
-pub list-append : (xs ys : List Occurrence) → listBytes (xs ++ ys) ≡ listBytes xs ++ listBytes ys
-unfolding listBytes
-list-append [] ys = refl
-list-append (o ∷ xs) ys = rw (list-append xs ys) (sym (append-assoc (occurrenceBytes o) (listBytes xs) (listBytes ys)))
 
 -- three fields make an occurrence
 pub three-fields : (l l₁ l₂ l₃ : List ℕ) (at file offset keyword : ℕ) → at + 9 ≤ length l → l₁ ≡ splice l at (leBytes 4 file) → l₂ ≡ splice l₁ (at + 4) (leBytes 4 offset)

@@ -13,15 +13,11 @@ use lib.Seq.{length-take-le, take-take, take-nil, drop-drop, getD-take, getD-dro
 use Rattle.spec.specs.Bytes.{part, leValue, fieldAt, fieldsOf, begins}
 use Rattle.spec.specs.Records.{Form, readOffsets, readRecord, recordSize}
 use Rattle.spec.proofs.Tests.{eqb-same, eqb-ne, cond-elim}
+use Rattle.spec.proofs.Splices.{drop-take}
 use Rattle.spec.proofs.FieldLists.{length-fieldsOf}
 use Rattle.loader.specs.Loaded.{recordNext, sizeNext, RowAt}
 
 -- ---- parts of a list
-
-pub drop-take : (i m : ℕ) (l : List ℕ) → drop i (take (i + m) l) ≡ take m (drop i l)
-drop-take zero m l = rw (zero-add m)
-drop-take (suc i) m [] = rw (take-nil (suc i + m), take-nil m)
-drop-take (suc i) m (x ∷ l) = rw (suc-add i m) (drop-take i m l)
 
 -- the part of a part
 pub part-drop : (i n at : ℕ) (l : List ℕ) → i ≤ n → drop i (part l at n) ≡ part l (at + i) (n - i)

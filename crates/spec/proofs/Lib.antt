@@ -5,6 +5,7 @@ pub mod Each
 pub mod Fields
 pub mod FieldLists
 pub mod Splices
+pub mod ListBytes
 pub mod Folding
 pub mod Hits
 pub mod Rising

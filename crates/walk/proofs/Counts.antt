@@ -12,9 +12,9 @@ use Rattle.spec.specs.Records.{ChunkRecords}
 use Rattle.spec.specs.Index.{listIn}
 use Rattle.spec.specs.Join.{Occurrence, hits, listed, joinFrom, joinFile, occurrenceBytes, listBytes}
 use Rattle.spec.proofs.Writing.{Going, going-start, going-room, going-on, going-end, going-place}
+use Rattle.spec.proofs.ListBytes.{length-occurrence, length-list, list-cons, list-nil}
 use Rattle.listing.specs.Streams.{streamOf, unreadAt, occurrences, total, Ready}
 use Rattle.listing.proofs.Totals.{total-is, total-le}
-use Rattle.listing.proofs.Writes.{length-occurrence, length-list, list-cons, list-nil}
 use Rattle.walk.specs.Walking.{chunksIn, sizeOf, Directory, File, Keyed, Walkable, LoadedAt, Crossed, AtPlace, coming, Counted}
 use Rattle.walk.proofs.Places.{AllGood, place-ready, place-join}
 use Rattle.walk.proofs.Moves.{size-next, start-place, start-coming}

@@ -17,10 +17,10 @@ use Rattle.spec.specs.Table.{inCell, setOf}
 use Rattle.spec.specs.Records.{ChunkRecords, recordAt, inRange, reach}
 use Rattle.spec.specs.Index.{listIn}
 use Rattle.spec.specs.Join.{Occurrence, keywordAt, hits, crosses, listed, joinFrom}
-use Rattle.spec.proofs.Tests.{leb-true, and-right, le-of-and}
+use Rattle.spec.proofs.Tests.{leb-true}
 use Rattle.spec.proofs.Each.{each-match, passing, member-passing}
 use Rattle.spec.proofs.Hits.{hits-same}
-use Rattle.spec.proofs.Rising.{allBelow}
+use Rattle.spec.proofs.Rising.{allBelow, below-prefix}
 use Rattle.spec.proofs.Sets.{set-lt}
 use Rattle.spec.proofs.Stream.{atPlace, stream, cell-no-suffix}
 use Rattle.spec.proofs.RecordRanges.{passing-rises, passing-every}
@@ -63,13 +63,6 @@ module _ (size count : ℕ) (tables : List (List (List ℕ))) (here next : List 
   crossing-end streams k many g h = record { crossed = record { long = g .long; each = λ m l. g .done m (omega arith) }; all = g .all ∙ ap (total streams) h }
 
 -- ---- lists in range
-
--- offsets that leave room for the keyword stay below the recorded prefix
-pub below-prefix : (n size i : ℕ) (xs : List ℕ) → i < n → every (λ at. leb (at + n) size) xs ≡ true → allBelow (size - i) xs ≡ true
-below-prefix n size i [] h e = refl
-below-prefix n size i (x ∷ xs) h e =
-    let l : x + n ≤ size = le-of-and (x + n) size (every (λ at. leb (at + n) size) xs) e in
-    rw (leb-true (suc x) (size - i) (omega arith)) (below-prefix n size i xs h (and-right (leb (x + n) size) (every (λ at. leb (at + n) size) xs) e))
 
 -- a keyword's stream is the numbers that pass its test
 pub stream-is : (w offsets : List ℕ) (i j size : ℕ) → rising offsets ≡ true → allBelow (size - i) offsets ≡ true → i ≤ size → i ≤ 32
