@@ -39,40 +39,27 @@ pub fn put_scanned(f: &mut [u8], m: &mut [u8], buffer: &mut [u8]) {
 }
 
 // Every operation on a case.
-fn run_all(counts: &mut [u64], f: &[u8], n: usize, other: &mut [u8], buffer: &mut [u8]) {
+fn run_all(counts: &mut [u64], f: &[u8], n: usize, buffer: &mut [u8]) {
     checks(counts, f);
     lookups(counts, f, n);
-    scan_runs(counts, f, other, buffer);
-    join_runs(counts, f, other, buffer);
-    search_runs(counts, f, other, buffer);
+    scan_runs(counts, f, buffer);
+    join_runs(counts, f, buffer);
+    search_runs(counts, f, buffer);
 }
 
 // The vault in the model, searched, as case number n.
-pub fn run_scanned(
-    counts: &mut [u64],
-    n: usize,
-    m: &mut [u8],
-    f: &mut [u8],
-    other: &mut [u8],
-    buffer: &mut [u8],
-) {
+pub fn run_scanned(counts: &mut [u64], n: usize, m: &mut [u8], f: &mut [u8], buffer: &mut [u8]) {
     put_scanned(f, m, buffer);
-    run_all(counts, f, n, other, buffer);
+    run_all(counts, f, n, buffer);
     see(counts, m, f);
     bump(counts, tally::CASES);
 }
 
 // Vault number n, searched.
-pub fn scanned(
-    counts: &mut [u64],
-    n: usize,
-    m: &mut [u8],
-    f: &mut [u8],
-    other: &mut [u8],
-    buffer: &mut [u8],
-) {
-    make(m, n);
-    run_scanned(counts, n, m, f, other, buffer);
+pub fn scanned(counts: &mut [u64], n: usize, f: &mut [u8], buffer: &mut [u8]) {
+    let mut m = case::room();
+    make(&mut m, n);
+    run_scanned(counts, n, &mut m, f, buffer);
 }
 
 // ---- made-up records
@@ -84,25 +71,19 @@ fn put_invented(f: &mut [u8], m: &mut [u8], n: usize) {
     put_count(f, rows);
 }
 
-fn run_index(counts: &mut [u64], f: &[u8], n: usize, other: &mut [u8], buffer: &mut [u8]) {
+fn run_index(counts: &mut [u64], f: &[u8], n: usize, buffer: &mut [u8]) {
     checks(counts, f);
     lookups(counts, f, n);
-    join_runs(counts, f, other, buffer);
+    join_runs(counts, f, buffer);
 }
 
 // Vault number n with made-up records, joined; the plain join gives the list.
-pub fn invented(
-    counts: &mut [u64],
-    n: usize,
-    m: &mut [u8],
-    f: &mut [u8],
-    other: &mut [u8],
-    buffer: &mut [u8],
-) {
-    make(m, n);
-    put_invented(f, m, n);
-    run_index(counts, f, n, other, buffer);
-    see(counts, m, f);
+pub fn invented(counts: &mut [u64], n: usize, f: &mut [u8], buffer: &mut [u8]) {
+    let mut m = case::room();
+    make(&mut m, n);
+    put_invented(f, &mut m, n);
+    run_index(counts, f, n, buffer);
+    see(counts, &m, f);
     bump(counts, tally::CASES);
 }
 
@@ -140,26 +121,20 @@ fn torn_place(code: u8) -> usize {
 }
 
 // A store, torn: checked, searched for chunks and, where it is refused, scanned.
-fn run_torn(counts: &mut [u64], f: &[u8], n: usize, other: &mut [u8], buffer: &mut [u8]) {
+fn run_torn(counts: &mut [u64], f: &[u8], n: usize, buffer: &mut [u8]) {
     checks(counts, f);
     lookups(counts, f, n);
-    scan_runs(counts, f, other, buffer);
+    scan_runs(counts, f, buffer);
     bump(counts, torn_place(check_code(f, 1)));
     bump(counts, tally::CASES);
 }
 
 // The store of vault number n, torn.
-pub fn torn(
-    counts: &mut [u64],
-    n: usize,
-    m: &mut [u8],
-    f: &mut [u8],
-    other: &mut [u8],
-    buffer: &mut [u8],
-) {
-    make(m, n);
-    note_all(m);
-    encode(f, m);
+pub fn torn(counts: &mut [u64], n: usize, f: &mut [u8], buffer: &mut [u8]) {
+    let mut m = case::room();
+    make(&mut m, n);
+    note_all(&mut m);
+    encode(f, &m);
     put_torn(f, next((n % 1000000) as u64 + 5));
-    run_torn(counts, f, n, other, buffer);
+    run_torn(counts, f, n, buffer);
 }

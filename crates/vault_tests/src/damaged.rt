@@ -66,25 +66,17 @@ fn settle_all(f: &mut [u8], i: usize, j: usize) {
     settle(f, 3, 96, i, j);
 }
 
-fn run_damaged(counts: &mut [u64], f: &[u8], other: &mut [u8], buffer: &mut [u8]) {
+fn run_damaged(counts: &mut [u64], f: &[u8], buffer: &mut [u8]) {
     checks(counts, f);
-    scan_runs(counts, f, other, buffer);
-    join_runs(counts, f, other, buffer);
-    search_runs(counts, f, other, buffer);
+    scan_runs(counts, f, buffer);
+    join_runs(counts, f, buffer);
+    search_runs(counts, f, buffer);
 }
 
 // Every operation that faults i and j make refuse, and the checks; m is the small vault.
-pub fn pair(
-    counts: &mut [u64],
-    i: usize,
-    j: usize,
-    m: &[u8],
-    f: &mut [u8],
-    other: &mut [u8],
-    buffer: &mut [u8],
-) {
+pub fn pair(counts: &mut [u64], i: usize, j: usize, m: &[u8], f: &mut [u8], buffer: &mut [u8]) {
     put_damaged(f, m, i, j);
     settle_all(f, i, j);
-    run_damaged(counts, f, other, buffer);
+    run_damaged(counts, f, buffer);
     bump(counts, tally::CASES);
 }

@@ -255,7 +255,19 @@ fn early_code(f: &[u8], operation: usize) -> u8 {
     case::search_code(f)
 }
 
-fn run_into(counts: &mut [u64], operation: usize, f: &[u8], other: &mut [u8], buffer: &mut [u8]) {
+// A search whose list goes to the buffer that is tried.
+fn search_list(counts: &mut [u64], f: &[u8], buffer: &mut [u8]) {
+    let mut index = [0u8; 6000];
+    search_into(counts, f, &mut index, buffer);
+}
+
+// A search whose index goes to the buffer that is tried; a list that is longer than the other one is refused.
+fn search_index(counts: &mut [u64], f: &[u8], buffer: &mut [u8]) {
+    let mut list = [0u8; 6000];
+    search_into(counts, f, buffer, &mut list);
+}
+
+fn run_into(counts: &mut [u64], operation: usize, f: &[u8], buffer: &mut [u8]) {
     if operation == tally::SCAN {
         return scan_into(counts, f, buffer);
     }
@@ -263,65 +275,44 @@ fn run_into(counts: &mut [u64], operation: usize, f: &[u8], other: &mut [u8], bu
         return join_into(counts, f, buffer);
     }
     if operation == tally::SEARCH {
-        return search_into(counts, f, other, buffer);
+        return search_list(counts, f, buffer);
     }
-    search_into(counts, f, buffer, other);
+    search_index(counts, f, buffer);
 }
 
 // Into the first `room` bytes of the buffer.
-fn run_front(
-    counts: &mut [u64],
-    operation: usize,
-    f: &[u8],
-    other: &mut [u8],
-    buffer: &mut [u8],
-    room: usize,
-) {
+fn run_front(counts: &mut [u64], operation: usize, f: &[u8], buffer: &mut [u8], room: usize) {
     if room <= buffer.len() {
-        run_into(counts, operation, f, other, &mut buffer[..room]);
+        run_into(counts, operation, f, &mut buffer[..room]);
     }
 }
 
 // Into a long buffer, an exact one, and one a byte short.
-fn run_rooms(
-    counts: &mut [u64],
-    operation: usize,
-    f: &[u8],
-    other: &mut [u8],
-    buffer: &mut [u8],
-    n: usize,
-) {
-    run_front(counts, operation, f, other, buffer, plus(n, 40));
-    run_front(counts, operation, f, other, buffer, n);
-    run_front(counts, operation, f, other, buffer, less(n, 1));
+fn run_rooms(counts: &mut [u64], operation: usize, f: &[u8], buffer: &mut [u8], n: usize) {
+    run_front(counts, operation, f, buffer, plus(n, 40));
+    run_front(counts, operation, f, buffer, n);
+    run_front(counts, operation, f, buffer, less(n, 1));
 }
 
-fn run(counts: &mut [u64], operation: usize, f: &[u8], other: &mut [u8], buffer: &mut [u8]) {
+fn run(counts: &mut [u64], operation: usize, f: &[u8], buffer: &mut [u8]) {
     if is_run(f, early_code(f, operation)) {
-        run_rooms(
-            counts,
-            operation,
-            f,
-            other,
-            buffer,
-            due_length(f, operation),
-        );
+        run_rooms(counts, operation, f, buffer, due_length(f, operation));
     }
 }
 
 // The join of a case, and its count.
-pub fn join_runs(counts: &mut [u64], f: &[u8], other: &mut [u8], buffer: &mut [u8]) {
+pub fn join_runs(counts: &mut [u64], f: &[u8], buffer: &mut [u8]) {
     count_run(counts, f);
-    run(counts, tally::JOIN, f, other, buffer);
+    run(counts, tally::JOIN, f, buffer);
 }
 
 // The scan of a case, and its size.
-pub fn scan_runs(counts: &mut [u64], f: &[u8], other: &mut [u8], buffer: &mut [u8]) {
+pub fn scan_runs(counts: &mut [u64], f: &[u8], buffer: &mut [u8]) {
     size_run(counts, f);
-    run(counts, tally::SCAN, f, other, buffer);
+    run(counts, tally::SCAN, f, buffer);
 }
 
-pub fn search_runs(counts: &mut [u64], f: &[u8], other: &mut [u8], buffer: &mut [u8]) {
-    run(counts, tally::SEARCH, f, other, buffer);
-    run(counts, SEARCH_INDEX, f, other, buffer);
+pub fn search_runs(counts: &mut [u64], f: &[u8], buffer: &mut [u8]) {
+    run(counts, tally::SEARCH, f, buffer);
+    run(counts, SEARCH_INDEX, f, buffer);
 }

@@ -8,11 +8,11 @@ use Rattle.vault_tests.proofs.run_faults.Statement.{statement}
 use Rattle.vault_tests.proofs.run_faults.Tie as tie
 
 abbrev Inv-loop : tie.InvT-loop
-Inv-loop counts₀ m f₀ other₀ buffer₀ n t₀ counts f other buffer t =
-    (t ≤ n) × (length counts ≡ length counts₀) × (length f ≡ length f₀) × (length other ≡ length other₀) × (length buffer ≡ length buffer₀)
+Inv-loop counts₀ m f₀ buffer₀ n t₀ counts f buffer t =
+    (t ≤ n) × (length counts ≡ length counts₀) × (length f ≡ length f₀) × (length buffer ≡ length buffer₀)
 
 abbrev μ-loop : tie.MeasureT-loop
-μ-loop counts₀ m f₀ other₀ buffer₀ n t₀ counts f other buffer t =
+μ-loop counts₀ m f₀ buffer₀ n t₀ counts f buffer t =
     n - t
 
 loop-holds : tie.Need-loop-holds Inv-loop μ-loop
@@ -39,9 +39,6 @@ same-length-2 c = search needs
 same-length-3 : tie.Need-same-length-3 Inv-loop μ-loop
 same-length-3 c = search needs
 
-same-length-4 : tie.Need-same-length-4 Inv-loop μ-loop
-same-length-4 c = search needs
-
 returns : tie.Need-returns Inv-loop μ-loop
 returns c = search needs
 
@@ -59,5 +56,4 @@ run-faults-spec =
     same-length
     same-length-2
     same-length-3
-    same-length-4
     returns)

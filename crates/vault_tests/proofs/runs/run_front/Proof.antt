@@ -11,8 +11,8 @@ slice-relend-prefix-run-into c = search needs
 
 slice-aggregate-run-into : tie.Need-slice-aggregate-run-into
 slice-aggregate-run-into c =
-    let then = c .before .before .before in
-    let a = then .before .before .before .before .before .args in
+    let then = c .before .before in
+    let a = then .before .before .before .before .args in
     sym (length-take-le (a .room) (now (a .buffer)) (then .if1 .taken))
 
 run-into-requires : tie.Need-run-into-requires
@@ -23,9 +23,6 @@ same-length c = search needs
 
 same-length-2 : tie.Need-same-length-2
 same-length-2 c = search needs
-
-same-length-3 : tie.Need-same-length-3
-same-length-3 c = search needs
 
 returns : tie.Need-returns
 returns c = search needs
@@ -42,6 +39,5 @@ run-front-spec =
     run-into-requires
     same-length
     same-length-2
-    same-length-3
     returns
     returns-2)
