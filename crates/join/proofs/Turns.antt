@@ -24,7 +24,7 @@ use Rattle.files.specs.Measures.{named, keysAt, sizesAt, Tested}
 use Rattle.files.proofs.OfIndex.{index-tested}
 use Rattle.spec.proofs.ListBytes.{length-list, list-nil, list-append}
 use Rattle.walk.specs.Walking.{chunksIn, Directory, Counted, Listed}
-use Rattle.join.specs.Joining.{allFilesCode, listOf, Marked, Surveyed}
+use Rattle.join.specs.Joining.{allFilesCode, listOf, Surveyed}
 use Rattle.join.proofs.FileLaws.{keywords, codeOf, left, left-start, left-end, codes, codes-step, codes-end, list-is, file-next, left-step}
 
 -- the test of a file, in the terms of the definitions
