@@ -4,7 +4,7 @@
  * Every function takes every input, ends, and answers 0 or the number of the refusal; README.md has the table of numbers. A refusal
  * changes no byte of a buffer. A number behind a pointer is a part of the answer: the length or the count where the work is done, and 0
  * on a refusal. A buffer must not overlap another argument. A null pointer may stand only where the length beside it is 0.
- * The checks of a store or an index, and so every call below that makes them, need about 600 KB of stack.
+ * A check of a store or an index, a scan and a lookup need about 600 KB of stack, a count, a join and a search about 1.1 MB.
  */
 #ifndef KEHORAIMO_VAULT_H
 #define KEHORAIMO_VAULT_H

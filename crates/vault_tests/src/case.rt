@@ -25,7 +25,7 @@ pub const COUNT_AT: usize = 20;
 pub const ONLY_REFUSALS: usize = 24;
 
 // Room for a case, for a model, or for a list.
-pub fn room() -> [u8; 148700]
+pub(crate) fn room() -> [u8; 148700]
     ensures { λ r. ⌜ 148700 ≡ length r ⌝ }
 {
     [0; 148700]
@@ -46,16 +46,16 @@ fn length_at(input: usize) -> usize {
 }
 
 // The place of a byte of an input.
-pub fn place_of(input: usize, at: usize) -> usize {
+pub(crate) fn place_of(input: usize, at: usize) -> usize {
     plus(start_of(input), at)
 }
 
-pub fn length_of(f: &[u8], input: usize) -> usize {
+pub(crate) fn length_of(f: &[u8], input: usize) -> usize {
     get_4(f, length_at(input))
 }
 
 // An input ends at a place.
-pub fn put_length(f: &mut [u8], input: usize, end: usize) {
+pub(crate) fn put_length(f: &mut [u8], input: usize, end: usize) {
     put_4(f, length_at(input), less(end, start_of(input)));
 }
 
@@ -63,42 +63,42 @@ fn input(f: &[u8], i: usize) -> &[u8] {
     part(f, start_of(i), length_of(f, i))
 }
 
-pub fn list(f: &[u8]) -> &[u8] {
+pub(crate) fn list(f: &[u8]) -> &[u8] {
     input(f, 0)
 }
 
-pub fn store(f: &[u8]) -> &[u8] {
+pub(crate) fn store(f: &[u8]) -> &[u8] {
     input(f, 1)
 }
 
-pub fn index(f: &[u8]) -> &[u8] {
+pub(crate) fn index(f: &[u8]) -> &[u8] {
     input(f, 2)
 }
 
-pub fn recipes(f: &[u8]) -> &[u8] {
+pub(crate) fn recipes(f: &[u8]) -> &[u8] {
     input(f, 3)
 }
 
-pub fn store_entry(c: usize) -> usize {
+pub(crate) fn store_entry(c: usize) -> usize {
     STORE + 8 + 28 * (c % 16)
 }
 
-pub fn count(f: &[u8]) -> usize {
+pub(crate) fn count(f: &[u8]) -> usize {
     get_4(f, COUNT_AT)
 }
 
 // The list that a join must write.
-pub fn rows(f: &[u8]) -> &[u8] {
+pub(crate) fn rows(f: &[u8]) -> &[u8] {
     part(f, ROWS, 9 * (count(f) % 1000000))
 }
 
-pub fn row_at(row: usize) -> usize {
+pub(crate) fn row_at(row: usize) -> usize {
     ROWS + 9 * (row % 1000000)
 }
 
 // ---- numbers
 
-pub fn first(a: u8, b: u8) -> u8 {
+pub(crate) fn first(a: u8, b: u8) -> u8 {
     if a != 0 {
         return a;
     }
@@ -106,21 +106,21 @@ pub fn first(a: u8, b: u8) -> u8 {
 }
 
 // What the check of an input must answer.
-pub fn check_code(f: &[u8], input: usize) -> u8 {
+pub(crate) fn check_code(f: &[u8], input: usize) -> u8 {
     get(f, input % 4)
 }
 
 // What a scan must answer before the test of its buffer.
-pub fn scan_code(f: &[u8]) -> u8 {
+pub(crate) fn scan_code(f: &[u8]) -> u8 {
     first(check_code(f, 0), check_code(f, 1))
 }
 
-pub fn join_code(f: &[u8]) -> u8 {
+pub(crate) fn join_code(f: &[u8]) -> u8 {
     first(check_code(f, 2), check_code(f, 3))
 }
 
 // What a search must answer before the test of its buffers; 0 for a case whose own index is damaged, as that is not the scan's.
-pub fn search_code(f: &[u8]) -> u8 {
+pub(crate) fn search_code(f: &[u8]) -> u8 {
     if scan_code(f) != 0 {
         return scan_code(f);
     }
@@ -131,7 +131,7 @@ pub fn search_code(f: &[u8]) -> u8 {
 }
 
 // Whether a call that must answer `code` before the test of its buffer is to be run.
-pub fn is_run(f: &[u8], code: u8) -> bool {
+pub(crate) fn is_run(f: &[u8], code: u8) -> bool {
     if code != 0 {
         return true;
     }

@@ -31,7 +31,7 @@ fn put_count(f: &mut [u8], n: usize) {
 }
 
 // The case of a model with its plain records; the direct search of the restored files gives the list. `buffer` takes them.
-pub fn put_scanned(f: &mut [u8], m: &mut [u8], buffer: &mut [u8]) {
+pub(crate) fn put_scanned(f: &mut [u8], m: &mut [u8], buffer: &mut [u8]) {
     note_all(m);
     encode(f, m);
     let n = search_files(m, buffer, f);
@@ -48,7 +48,13 @@ fn run_all(counts: &mut [u64], f: &[u8], n: usize, buffer: &mut [u8]) {
 }
 
 // The vault in the model, searched, as case number n.
-pub fn run_scanned(counts: &mut [u64], n: usize, m: &mut [u8], f: &mut [u8], buffer: &mut [u8]) {
+pub(crate) fn run_scanned(
+    counts: &mut [u64],
+    n: usize,
+    m: &mut [u8],
+    f: &mut [u8],
+    buffer: &mut [u8],
+) {
     put_scanned(f, m, buffer);
     run_all(counts, f, n, buffer);
     see(counts, m, f);
@@ -56,7 +62,7 @@ pub fn run_scanned(counts: &mut [u64], n: usize, m: &mut [u8], f: &mut [u8], buf
 }
 
 // Vault number n, searched.
-pub fn scanned(counts: &mut [u64], n: usize, f: &mut [u8], buffer: &mut [u8]) {
+pub(crate) fn scanned(counts: &mut [u64], n: usize, f: &mut [u8], buffer: &mut [u8]) {
     let mut m = case::room();
     make(&mut m, n);
     run_scanned(counts, n, &mut m, f, buffer);
@@ -78,7 +84,7 @@ fn run_index(counts: &mut [u64], f: &[u8], n: usize, buffer: &mut [u8]) {
 }
 
 // Vault number n with made-up records, joined; the plain join gives the list.
-pub fn invented(counts: &mut [u64], n: usize, f: &mut [u8], buffer: &mut [u8]) {
+pub(crate) fn invented(counts: &mut [u64], n: usize, f: &mut [u8], buffer: &mut [u8]) {
     let mut m = case::room();
     make(&mut m, n);
     put_invented(f, &mut m, n);
@@ -130,7 +136,7 @@ fn run_torn(counts: &mut [u64], f: &[u8], n: usize, buffer: &mut [u8]) {
 }
 
 // The store of vault number n, torn.
-pub fn torn(counts: &mut [u64], n: usize, f: &mut [u8], buffer: &mut [u8]) {
+pub(crate) fn torn(counts: &mut [u64], n: usize, f: &mut [u8], buffer: &mut [u8]) {
     let mut m = case::room();
     make(&mut m, n);
     note_all(&mut m);

@@ -43,7 +43,7 @@ fn small_files(m: &mut [u8]) {
     put(m, file_at(2), 0);
 }
 
-pub fn small(m: &mut [u8]) {
+pub(crate) fn small(m: &mut [u8]) {
     small_words(m);
     small_chunks(m);
     small_files(m);
@@ -74,7 +74,14 @@ fn run_damaged(counts: &mut [u64], f: &[u8], buffer: &mut [u8]) {
 }
 
 // Every operation that faults i and j make refuse, and the checks; m is the small vault.
-pub fn pair(counts: &mut [u64], i: usize, j: usize, m: &[u8], f: &mut [u8], buffer: &mut [u8]) {
+pub(crate) fn pair(
+    counts: &mut [u64],
+    i: usize,
+    j: usize,
+    m: &[u8],
+    f: &mut [u8],
+    buffer: &mut [u8],
+) {
     put_damaged(f, m, i, j);
     settle_all(f, i, j);
     run_damaged(counts, f, buffer);

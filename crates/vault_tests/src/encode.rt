@@ -51,14 +51,14 @@ fn put_list(out: &mut [u8], m: &[u8]) {
 }
 
 // The fingerprint of chunk c: 20 bytes that differ between chunks in the first or the last byte only.
-pub fn put_key(out: &mut [u8], at: usize, c: usize) {
+pub(crate) fn put_key(out: &mut [u8], at: usize, c: usize) {
     copy(out, at, b"01234567890123456789", 0, 20);
     put(out, at, (c % 2) as u8);
     put(out, plus(at, 19), (c / 2 % 256) as u8);
 }
 
 // The 8 bytes that a store (0x56) and an index (0x4D) start with.
-pub fn put_mark(out: &mut [u8], at: usize, a: u8, n: usize) {
+pub(crate) fn put_mark(out: &mut [u8], at: usize, a: u8, n: usize) {
     copy(out, at, b"D.1\n", 0, 4);
     put(out, plus(at, 1), a);
     put_4(out, plus(at, 4), n);
@@ -106,7 +106,7 @@ fn put_offsets(out: &mut [u8], at: usize, m: &[u8], c: usize, k: usize, size: us
     a
 }
 
-pub fn count_of(m: &[u8], c: usize, k: usize, size: usize) -> usize {
+pub(crate) fn count_of(m: &[u8], c: usize, k: usize, size: usize) -> usize {
     let mut n: usize = 0;
     for p in 0..size {
         n = plus(n, num(m, mark_at(c, k, p)));
@@ -259,7 +259,7 @@ fn put_recipes(out: &mut [u8], m: &[u8]) {
 }
 
 // The case of a model: the four inputs, and the number that each gives by itself.
-pub fn encode(out: &mut [u8], m: &[u8]) {
+pub(crate) fn encode(out: &mut [u8], m: &[u8]) {
     put_list(out, m);
     put_store(out, m);
     put_index(out, m);

@@ -120,7 +120,7 @@ fn put_key_at(f: &mut [u8], input: usize, place: usize) {
 }
 
 // Stores fault i's bytes.
-pub fn damage(f: &mut [u8], i: usize) {
+pub(crate) fn damage(f: &mut [u8], i: usize) {
     let input = fault(i, INPUT);
     put_at(f, input, fault(i, 1), fault(i, 2));
     put_at(f, input, fault(i, 3), fault(i, 4));
@@ -168,7 +168,7 @@ fn first_code(input: usize, i: usize, j: usize) -> u8 {
 }
 
 // Length and number of an input of `whole` bytes with faults i and j.
-pub fn settle(f: &mut [u8], input: usize, whole: usize, i: usize, j: usize) {
+pub(crate) fn settle(f: &mut [u8], input: usize, whole: usize, i: usize, j: usize) {
     let n = shorter(whole, cut(input, whole, i), cut(input, whole, j));
     put_length(f, input, place_of(input, n));
     put(f, input % 4, first_code(input, i, j));

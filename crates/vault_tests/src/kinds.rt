@@ -332,7 +332,7 @@ fn is_of(m: &[u8], f: &[u8], kind: usize) -> bool {
 }
 
 // Counts the kinds of a case.
-pub fn see(counts: &mut [u64], m: &[u8], f: &[u8]) {
+pub(crate) fn see(counts: &mut [u64], m: &[u8], f: &[u8]) {
     let n = ALL;
     for kind in 0..n {
         saw(counts, plus(KINDS, kind), is_of(m, f, kind));

@@ -14,7 +14,7 @@ use crate::tally::bump;
 use crate::tally::compared;
 
 // Room for recipes of 65,539 fingerprints.
-pub fn room() -> [u8; 1310800]
+pub(crate) fn room() -> [u8; 1310800]
     ensures { λ r. ⌜ 1310800 ≡ length r ⌝ }
 {
     [0; 1310800]
@@ -51,7 +51,7 @@ fn put_long_recipes(out: &mut [u8], n: usize, c: usize) {
 }
 
 // The count and the join of such a file; chunk 2 is not in the index.
-pub fn long_file(counts: &mut [u64], recipes: &mut [u8], n: usize, c: usize, expected: u8) {
+pub(crate) fn long_file(counts: &mut [u64], recipes: &mut [u8], n: usize, c: usize, expected: u8) {
     let mut index = [0u8; 78];
     put_long_index(&mut index);
     put_long_recipes(recipes, n, c);

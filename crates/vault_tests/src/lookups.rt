@@ -105,7 +105,7 @@ fn look_up(counts: &mut [u64], f: &[u8], c: usize, size: usize) {
 }
 
 // Case number i: two chunks, which the vault may not have, and a fingerprint of 19 or 21 bytes.
-pub fn lookups(counts: &mut [u64], f: &[u8], i: usize) {
+pub(crate) fn lookups(counts: &mut [u64], f: &[u8], i: usize) {
     look_up(counts, f, i % 9, 20);
     look_up(counts, f, i / 9 % 9, 20);
     look_up(counts, f, 0, 19 + i % 2 * 2);

@@ -14,63 +14,63 @@ use crate::bytes::put_2;
 pub const MODEL: usize = 66600;
 
 // Keyword count, fold flag, chunk count, file count: a byte each.
-pub fn keywords(m: &[u8]) -> usize {
+pub(crate) fn keywords(m: &[u8]) -> usize {
     num(m, 0)
 }
 
-pub fn flag(m: &[u8]) -> usize {
+pub(crate) fn flag(m: &[u8]) -> usize {
     num(m, 1)
 }
 
-pub fn chunks(m: &[u8]) -> usize {
+pub(crate) fn chunks(m: &[u8]) -> usize {
     num(m, 2)
 }
 
-pub fn files(m: &[u8]) -> usize {
+pub(crate) fn files(m: &[u8]) -> usize {
     num(m, 3)
 }
 
 // Keyword k: a length byte, and its bytes behind.
-pub fn keyword_at(k: usize) -> usize {
+pub(crate) fn keyword_at(k: usize) -> usize {
     8 + 33 * (k % 16)
 }
 
-pub fn keyword_size(m: &[u8], k: usize) -> usize {
+pub(crate) fn keyword_size(m: &[u8], k: usize) -> usize {
     num(m, keyword_at(k))
 }
 
 // Chunk c: its length, 2 bytes; its bytes apart.
-pub fn size_at(c: usize) -> usize {
+pub(crate) fn size_at(c: usize) -> usize {
     540 + 2 * (c % 12)
 }
 
-pub fn chunk_size(m: &[u8], c: usize) -> usize {
+pub(crate) fn chunk_size(m: &[u8], c: usize) -> usize {
     get_2(m, size_at(c))
 }
 
-pub fn chunk_at(c: usize) -> usize {
+pub(crate) fn chunk_at(c: usize) -> usize {
     600 + 320 * (c % 12)
 }
 
 // The record of chunk c and keyword k: prefix and suffix, a byte each; apart from that a byte for each offset p, 1 where it is recorded.
-pub fn partial_at(c: usize, k: usize) -> usize {
+pub(crate) fn partial_at(c: usize, k: usize) -> usize {
     4440 + 2 * (16 * (c % 12) + k % 16)
 }
 
-pub fn mark_at(c: usize, k: usize, p: usize) -> usize {
+pub(crate) fn mark_at(c: usize, k: usize, p: usize) -> usize {
     5100 + 320 * (16 * (c % 12) + k % 16) + p % 320
 }
 
 // File f: its chunk count, and its chunk numbers behind, a byte each.
-pub fn file_at(f: usize) -> usize {
+pub(crate) fn file_at(f: usize) -> usize {
     4830 + 20 * (f % 12)
 }
 
-pub fn file_size(m: &[u8], f: usize) -> usize {
+pub(crate) fn file_size(m: &[u8], f: usize) -> usize {
     num(m, file_at(f))
 }
 
-pub fn chunk_of(m: &[u8], f: usize, i: usize) -> usize {
+pub(crate) fn chunk_of(m: &[u8], f: usize, i: usize) -> usize {
     num(m, plus(file_at(f), plus(i, 1)))
 }
 
@@ -221,7 +221,7 @@ fn make_counts(m: &mut [u8], kind: usize, seed: u64) -> u64 {
 }
 
 // Vault number n, of one of eight kinds: counts, keywords, chunks, files.
-pub fn make(m: &mut [u8], n: usize) {
+pub(crate) fn make(m: &mut [u8], n: usize) {
     let kind = n % 8;
     let a = make_counts(m, kind, next(next((n % 1000000) as u64 + 1)));
     let alphabet = alphabet_of(kind, next(a));
@@ -284,7 +284,7 @@ fn invent_chunk(m: &mut [u8], c: usize, n: usize, seed: u64) -> u64 {
 }
 
 // Records for every chunk and keyword.
-pub fn invent(m: &mut [u8], seed: u64) {
+pub(crate) fn invent(m: &mut [u8], seed: u64) {
     let n = chunks(m);
     let words = keywords(m);
     let mut s = seed;

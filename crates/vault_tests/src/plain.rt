@@ -37,7 +37,7 @@ fn folded(flag: usize, b: u8) -> u8 {
 }
 
 // n bytes of a from `at` on compare alike with those of b from `bt` on.
-pub fn alike(flag: usize, a: &[u8], at: usize, b: &[u8], bt: usize, n: usize) -> bool {
+pub(crate) fn alike(flag: usize, a: &[u8], at: usize, b: &[u8], bt: usize, n: usize) -> bool {
     for i in 0..n {
         if folded(flag, get(a, plus(at, i))) != folded(flag, get(b, plus(bt, i))) {
             return false;
@@ -70,7 +70,7 @@ fn alike_before(m: &[u8], k: usize) -> bool {
 }
 
 // Some two keywords compare alike.
-pub fn any_alike(m: &[u8]) -> bool {
+pub(crate) fn any_alike(m: &[u8]) -> bool {
     let n = keywords(m);
     for k in 0..n {
         if alike_before(m, k) {
@@ -81,7 +81,7 @@ pub fn any_alike(m: &[u8]) -> bool {
 }
 
 // Keyword k stands at an offset of the `size` bytes of the text from `base` on.
-pub fn stands(m: &[u8], k: usize, text: &[u8], base: usize, size: usize, at: usize) -> bool {
+pub(crate) fn stands(m: &[u8], k: usize, text: &[u8], base: usize, size: usize, at: usize) -> bool {
     let n = keyword_size(m, k);
     if size < plus(at, n) {
         return false;
@@ -154,7 +154,7 @@ fn note_chunk(m: &mut [u8], c: usize, n: usize) {
 }
 
 // The records of every chunk and keyword.
-pub fn note_all(m: &mut [u8]) {
+pub(crate) fn note_all(m: &mut [u8]) {
     let n = chunks(m);
     let words = keywords(m);
     for c in 0..n {
@@ -224,7 +224,7 @@ fn restore(m: &[u8], f: usize, whole: &mut [u8]) -> usize {
 }
 
 // The direct search of every restored file; the number of rows.
-pub fn search_files(m: &[u8], whole: &mut [u8], out: &mut [u8]) -> usize {
+pub(crate) fn search_files(m: &[u8], whole: &mut [u8], out: &mut [u8]) -> usize {
     let n = files(m);
     let mut row: usize = 0;
     for f in 0..n {
@@ -339,7 +339,7 @@ fn join_file(m: &[u8], f: usize, out: &mut [u8], row: usize) -> usize {
 }
 
 // The join of every file; the number of rows.
-pub fn join_files(m: &[u8], out: &mut [u8]) -> usize {
+pub(crate) fn join_files(m: &[u8], out: &mut [u8]) -> usize {
     let n = files(m);
     let mut row: usize = 0;
     for f in 0..n {
@@ -395,7 +395,7 @@ fn file_code(m: &[u8], f: usize, due: usize) -> u8 {
 }
 
 // The join's number behind the index check: that of the first file that has one.
-pub fn recipes_code(m: &[u8]) -> u8 {
+pub(crate) fn recipes_code(m: &[u8]) -> u8 {
     let n = files(m);
     let due = less(longest(m), 1);
     for f in 0..n {
@@ -408,7 +408,7 @@ pub fn recipes_code(m: &[u8]) -> u8 {
 }
 
 // The keyword check's number: 4 or 0.
-pub fn alike_code(m: &[u8]) -> u8 {
+pub(crate) fn alike_code(m: &[u8]) -> u8 {
     if any_alike(m) { 4 } else { 0 }
 }
 
@@ -416,7 +416,7 @@ pub fn alike_code(m: &[u8]) -> u8 {
 
 // The place of the first entry of a directory that has the fingerprint, 0 where none has. The directory has n entries of `width` bytes from
 // `start` on.
-pub fn entry_of(bytes: &[u8], start: usize, width: usize, n: usize, key: &[u8]) -> usize {
+pub(crate) fn entry_of(bytes: &[u8], start: usize, width: usize, n: usize, key: &[u8]) -> usize {
     let mut at = start;
     for e in 0..n {
         if same(bytes, at, key, 0, 20) {
@@ -482,7 +482,7 @@ fn directory_code(s: &[u8], n: usize) -> u8 {
 }
 
 // The store check's number.
-pub fn store_code(s: &[u8]) -> u8 {
+pub(crate) fn store_code(s: &[u8]) -> u8 {
     if s.len() < 8 {
         return 5;
     }

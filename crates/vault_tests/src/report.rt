@@ -7,7 +7,7 @@ use crate::tally;
 const OUT: i32 = 1;
 
 // A line: a name, a space, a number.
-pub fn line(name: &[u8], n: u64) {
+pub(crate) fn line(name: &[u8], n: u64) {
     io::write_all(OUT, name);
     io::write_all(OUT, b" ");
     io::print_decimal(OUT, n);
@@ -106,15 +106,15 @@ const NUMBER_NAMES: [u8; 800] = *b"\
     answered 18                             \
     answered 19                             ";
 
-pub fn kinds(counts: &[u64]) {
+pub(crate) fn kinds(counts: &[u64]) {
     lines(&KIND_NAMES, counts, tally::KINDS, kinds::ALL);
 }
 
-pub fn torn(counts: &[u64]) {
+pub(crate) fn torn(counts: &[u64]) {
     lines(&TORN_NAMES, counts, tally::TORN, 5);
 }
 
-pub fn totals(counts: &[u64]) {
+pub(crate) fn totals(counts: &[u64]) {
     lines(&BUFFER_NAMES, counts, tally::BUFFERS, 8);
     lines(&OPERATION_NAMES, counts, tally::OPERATIONS, 10);
     lines(&NUMBER_NAMES, counts, 0, 20);

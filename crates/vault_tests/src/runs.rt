@@ -20,7 +20,7 @@ const PATTERN: u8 = 0xE5;
 // A search with the buffer that is tried as its index buffer.
 const SEARCH_INDEX: usize = 10;
 
-pub fn code_of(o: Outcome) -> u8 {
+pub(crate) fn code_of(o: Outcome) -> u8 {
     match o {
         Outcome::Done(_) => 0,
         Outcome::Refused(code) => code,
@@ -66,7 +66,7 @@ fn late(code: u8, n: usize, room: usize, late: u8) -> u8 {
 
 // ---- checks and sizes
 
-pub fn checks(counts: &mut [u64], f: &[u8]) {
+pub(crate) fn checks(counts: &mut [u64], f: &[u8]) {
     let list = keywords::check(case::list(f));
     compared(counts, tally::KEYWORD_CHECK, list, check_code(f, 0), true);
     let store = store::check(case::store(f));
@@ -301,18 +301,18 @@ fn run(counts: &mut [u64], operation: usize, f: &[u8], buffer: &mut [u8]) {
 }
 
 // The join of a case, and its count.
-pub fn join_runs(counts: &mut [u64], f: &[u8], buffer: &mut [u8]) {
+pub(crate) fn join_runs(counts: &mut [u64], f: &[u8], buffer: &mut [u8]) {
     count_run(counts, f);
     run(counts, tally::JOIN, f, buffer);
 }
 
 // The scan of a case, and its size.
-pub fn scan_runs(counts: &mut [u64], f: &[u8], buffer: &mut [u8]) {
+pub(crate) fn scan_runs(counts: &mut [u64], f: &[u8], buffer: &mut [u8]) {
     size_run(counts, f);
     run(counts, tally::SCAN, f, buffer);
 }
 
-pub fn search_runs(counts: &mut [u64], f: &[u8], buffer: &mut [u8]) {
+pub(crate) fn search_runs(counts: &mut [u64], f: &[u8], buffer: &mut [u8]) {
     run(counts, tally::SEARCH, f, buffer);
     run(counts, SEARCH_INDEX, f, buffer);
 }

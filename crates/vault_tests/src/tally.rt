@@ -38,14 +38,14 @@ pub const BODY_LOOKUP: usize = 8;
 
 pub const SEARCH: usize = 9;
 
-pub fn bump(counts: &mut [u64], i: usize) {
+pub(crate) fn bump(counts: &mut [u64], i: usize) {
     if i < counts.len() {
         counts[i] = std::num::wrapping_add_u64(counts[i], 1);
     }
 }
 
 // Counts at place i, if `seen`.
-pub fn saw(counts: &mut [u64], i: usize, seen: bool) {
+pub(crate) fn saw(counts: &mut [u64], i: usize, seen: bool) {
     if seen {
         bump(counts, i);
     }
@@ -63,13 +63,13 @@ fn answer(got: u8, expected: u8, rest: bool) -> usize {
 
 // A call of an operation: `got` is the number that it answered, `expected` the one that is due, and `rest` says whether its value and its
 // bytes are the ones due.
-pub fn compared(counts: &mut [u64], operation: usize, got: u8, expected: u8, rest: bool) {
+pub(crate) fn compared(counts: &mut [u64], operation: usize, got: u8, expected: u8, rest: bool) {
     bump(counts, OPERATIONS + operation % 10);
     bump(counts, answer(got, expected, rest));
 }
 
 // Sets n counters to 0.
-pub fn clear(counts: &mut [u64], from: usize, n: usize) {
+pub(crate) fn clear(counts: &mut [u64], from: usize, n: usize) {
     for i in 0..n {
         clear_at(counts, plus(from, i));
     }

@@ -8,7 +8,7 @@
 //! Every function takes every input: what isn't a good file is refused with an [`Error`], and a refused call changes no
 //! buffer. What is proved is the library behind; this crate checks nothing again and only names things.
 //!
-//! The library keeps its tables on the stack, a megabyte or two of it, and a thread that Rust starts has 2 MB: call from the
+//! The library keeps its tables on the stack, up to 1.1 MB of it, and a thread that Rust starts has 2 MB: call from the
 //! main thread or through [`on_large_stack`].
 //!
 //! ```no_run
