@@ -1,20 +1,20 @@
--- The loop over keywords: the rows below k are loaded, and the bytes from `place` on are what is left to read. Assumes nothing.
-use mathlib.Core.Path.{_≡_, sym, ap, _∙_}
-use mathlib.Core.Logic.{_⊎_, inl, inr, _≢_}
+-- The loop over keywords: the rows below k are loaded, and the rows of what is left to read come behind them. Loaded rows hold the records
+-- that the body says. Assumes nothing.
+use mathlib.Core.Path.{_≡_, refl, sym, ap, ap₂, _∙_, subst}
+use mathlib.Core.Logic.{_⊎_, inl, inr}
 use mathlib.Core.Bool.{true, false, _&&_}
-use mathlib.Core.List.{List, [], _∷_}
-use Prim.Native.Nat.{ℕ, suc, _+_, _-_, _*_, _≤_, _<_}
-use native.Mathlib.Nat.{add-zero, zero-add, eq-or-lt-of-le}
+use mathlib.Core.List.{List, [], _∷_, _++_, append-nil}
+use Prim.Native.Nat.{ℕ, zero, suc, _+_, _-_, _*_, _≤_, _<_}
 use native.Mathlib.Numerals.{add-one}
 use native.Mathlib.Omega.{arith}
 use lib.Dec.{leb}
-use lib.ListN.{length, drop, getD, set, length-take, length-set}
-use lib.Seq.{getD-set-same, getD-set-other}
+use lib.ListN.{length, take, drop, getD, set, length-append, length-take, length-set, take-append-drop, List·getD-append}
+use lib.Seq.{take-suc-set, drop-set-lt, append-snoc}
 use Rattle.spec.specs.Bytes.{part, begins}
-use Rattle.spec.specs.Records.{Form, form1, emptyRecord, readFrom}
+use Rattle.spec.specs.Records.{MatchRecord, Form, form1, emptyRecord, readFrom, readBody}
 use Rattle.spec.proofs.Tests.{bool-cases, and-right, le-of-and}
-use Rattle.loader.specs.Loaded.{recordNext, sizeNext, fitsFrom, Row, RowAt, rowOf, recordIn, Loadable, Loaded}
-use Rattle.loader.proofs.Rows.{part-drop}
+use Rattle.loader.specs.Loaded.{recordNext, sizeNext, fitsFrom, Row, rowAt, rowsFrom, rowOf, Loadable}
+use Rattle.loader.proofs.Rows.{part-drop, next-holds}
 
 -- the next keyword's record, and those behind it
 pub read-next : (f : Form) (k count : ℕ) (bytes : List ℕ)
@@ -27,78 +27,169 @@ read-next f k count bytes = go (bool-cases (begins (k ∷ []) bytes))
     go (inl e) = rw e
     go (inr e) = rw e
 
+pub length-rows : (f : Form) (k count at : ℕ) (bytes : List ℕ) → length (rowsFrom f k count at bytes) ≡ count
+unfolding rowsFrom
+length-rows f k zero at bytes = refl
+length-rows f k (suc count) at bytes = ap suc (length-rows f (suc k) count (at + sizeNext f k bytes) (drop (sizeNext f k bytes) bytes))
+
+-- ---- the next keyword of a body of `len` bytes at `at`, whose records lie whole in it
+
+module _ (f : Form) (index : List ℕ) (at len k count : ℕ) (inside : at + len ≤ length index) (fits : fitsFrom f k (suc count) (part index at len) ≡ true) where
+  abbrev bytes : List ℕ
+  bytes = part index at len
+
+  abbrev size : ℕ
+  size = sizeNext f k bytes
+
+  both : (leb size (length bytes) && fitsFrom f (suc k) count (drop size bytes)) ≡ true
+  unfolding fitsFrom
+  both = fits
+
+  -- its record is whole
+  pub room-next : size ≤ len
+  room-next = omega (arith, le-of-and size (length bytes) _ both, length-take len (drop at index))
+
+  -- the bytes behind its record
+  pub behind : drop size bytes ≡ part index (at + size) (len - size)
+  behind = part-drop size len at index room-next
+
+  pub fits-behind : fitsFrom f (suc k) count (part index (at + size) (len - size)) ≡ true
+  fits-behind = rw (← behind) (and-right (leb size (length bytes)) _ both)
+
+  pub rows-next : rowsFrom f k (suc count) at bytes ≡ rowAt (f .width) at size (recordNext f k bytes) ∷ rowsFrom f (suc k) count (at + size) (part index (at + size) (len - size))
+  unfolding rowsFrom
+  rows-next = ap {B = List (List ℕ)} (λ (b : List ℕ). rowAt (f .width) at size (recordNext f k bytes) ∷ rowsFrom f (suc k) count (at + size) b) behind
+
+  -- its row's list ends where the record does
+  pub row-ends : (row : List ℕ) → row ≡ rowAt (f .width) at size (recordNext f k bytes) → getD row 2 0 + f .width * getD row 3 0 ≡ at + size
+  row-ends row e = rw e (next-holds f index at len k inside room-next .ends)
+
+-- ---- loaded rows hold the body's records
+
+rows-hold : (f : Form) (index : List ℕ) (count at len k : ℕ) → at + len ≤ length index → fitsFrom f k count (part index at len) ≡ true → (j : ℕ) → j < count
+    → Row index (f .width) (getD (rowsFrom f k count at (part index at len)) j []) (getD (readFrom f k count (part index at len)) j emptyRecord)
+rows-hold f index zero at len k inside fits j h = let z : ⊥ = omega arith in absurd z
+rows-hold f index (suc count) at len k inside fits j h =
+    rw (rows-next f index at len k count inside fits, read-next f k count (part index at len), behind f index at len k count inside fits)
+    (go j h (rows-hold f index count (at + size) (len - size) (suc k) (omega (arith, small)) (fits-behind f index at len k count inside fits)))
+  where
+    size : ℕ
+    size = sizeNext f k (part index at len)
+
+    small : size ≤ len
+    small = room-next f index at len k count inside fits
+
+    after : List ℕ
+    after = part index (at + size) (len - size)
+
+    go : (j : ℕ) → j < suc count
+        → ((j : ℕ) → j < count → Row index (f .width) (getD (rowsFrom f (suc k) count (at + size) after) j []) (getD (readFrom f (suc k) count after) j emptyRecord))
+        → Row index (f .width)
+        (getD (rowAt (f .width) at size (recordNext f k (part index at len)) ∷ rowsFrom f (suc k) count (at + size) after) j [])
+        (getD (recordNext f k (part index at len) ∷ readFrom f (suc k) count after) j emptyRecord)
+    go zero m rest = next-holds f index at len k inside small .holds
+    go (suc j) m rest = rest j (omega arith)
+
+-- The record that a body says of keyword k.
+abbrev pub recordIn : List ℕ → ℕ → ℕ → MatchRecord
+recordIn body count k = getD (readBody form1 count body) k emptyRecord
+
+-- THE ROWS HOLD THE RECORDS that the body says.
+pub record Loaded (index : List ℕ) (at len count : ℕ) (rows : List (List ℕ)) : Type 0 where
+  pub long : count ≤ length rows
+  pub each : (k : ℕ) → k < count → Row index (form1 .width) (rowOf rows k) (recordIn (part index at len) count k)
+
+pub loaded : (index : List ℕ) (at len count : ℕ) (rows₀ rows : List (List ℕ)) → Loadable index at len count rows₀
+    → rows ≡ rowsFrom form1 0 count at (part index at len) ++ drop count rows₀ → Loaded index at len count rows
+loaded index at len count rows₀ rows h e = subst (Loaded index at len count) (sym e) (record { long = long; each = each })
+  where
+    new : List (List ℕ)
+    new = rowsFrom form1 0 count at (part index at len)
+
+    many : length new ≡ count
+    many = length-rows form1 0 count at (part index at len)
+
+    long : count ≤ length (new ++ drop count rows₀)
+    long = omega (arith, length-append new (drop count rows₀), many)
+
+    each : (k : ℕ) → k < count → Row index (form1 .width) (rowOf (new ++ drop count rows₀) k) (recordIn (part index at len) count k)
+    each k m = rw (List·getD-append new (drop count rows₀) [] k (omega (arith, many))) (rows-hold form1 index count at len 0 (h .inside) (h .whole) k m)
+
+-- ---- the loop
+
 -- Keyword k is next; `place` is where its record would start.
-pub record Loading (index : List ℕ) (at len count : ℕ) (rows : List (List ℕ)) (place k : ℕ) : Type 0 where
+pub record Loading (index : List ℕ) (at len count : ℕ) (rows₀ rows : List (List ℕ)) (place k : ℕ) : Type 0 where
   pub long : count ≤ length rows
   pub inside : at + len ≤ length index
   pub within : place ≤ at + len
   pub fits : fitsFrom form1 k (count - k) (part index place (at + len - place)) ≡ true
-  pub left : (j : ℕ) → getD (readFrom form1 k (count - k) (part index place (at + len - place))) j emptyRecord ≡ recordIn (part index at len) count (k + j)
-  pub done : (j : ℕ) → j < k → Row index 2 (rowOf rows j) (recordIn (part index at len) count j)
+  pub left : take k rows ++ rowsFrom form1 k (count - k) place (part index place (at + len - place)) ≡ rowsFrom form1 0 count at (part index at len)
+  pub rest : drop count rows ≡ drop count rows₀
 
-pub loading-start : (index : List ℕ) (at len count : ℕ) (rows : List (List ℕ)) → Loadable index at len count rows → Loading index at len count rows at 0
+pub loading-start : (index : List ℕ) (at len count : ℕ) (rows : List (List ℕ)) → Loadable index at len count rows → Loading index at len count rows rows at 0
 loading-start index at len count rows h =
     let n : count - 0 ≡ count = omega arith in
     let m : at + len - at ≡ len = omega arith in
-    record {
-      long = h .long;
-      inside = h .inside;
-      within = omega arith;
-      fits = rw (n, m) (h .whole);
-      left = λ j. rw (n, m, zero-add j);
-      done = λ j l. let z : ⊥ = omega arith in absurd z;
-    }
+    record { long = h .long; inside = h .inside; within = omega arith; fits = rw (n, m) (h .whole); left = rw (n, m); rest = refl }
 
-module _ (index : List ℕ) (at len count : ℕ) (rows : List (List ℕ)) (place k : ℕ) (l : Loading index at len count rows place k) where
-  abbrev bytes : List ℕ
-  bytes = part index place (at + len - place)
-
-  pub loaded : count ≤ k → Loaded index at len count rows
-  loaded h = record { long = l .long; each = λ j m. l .done j (omega arith) }
+module _ (index : List ℕ) (at len count : ℕ) (rows₀ rows : List (List ℕ)) (place k : ℕ) (l : Loading index at len count rows₀ rows place k) where
+  pub loading-end : k ≡ count → rows ≡ rowsFrom form1 0 count at (part index at len) ++ drop count rows₀
+  unfolding rowsFrom
+  loading-end h =
+      let z : count - k ≡ 0 = omega arith in
+      let e : take count rows ≡ rowsFrom form1 0 count at (part index at len) = rw (z, h, append-nil) at (l .left) in
+      sym (take-append-drop count rows) ∙ ap₂ {C = List (List ℕ)} (λ xs ys. xs ++ ys) e (l .rest)
 
   module _ (more : k < count) where
-    fits-next : (leb (sizeNext form1 k bytes) (length bytes) && fitsFrom form1 (suc k) (count - suc k) (drop (sizeNext form1 k bytes) bytes)) ≡ true
-    unfolding fitsFrom
-    fits-next = let e : count - k ≡ suc (count - suc k) = omega arith in rw e at (l .fits)
+    abbrev here : List ℕ
+    here = part index place (at + len - place)
 
-    -- its record is whole
-    pub room-next : sizeNext form1 k bytes ≤ at + len - place
-    room-next = omega (arith, le-of-and (sizeNext form1 k bytes) (length bytes) _ fits-next, length-take (at + len - place) (drop place index))
+    abbrev taken : ℕ
+    taken = sizeNext form1 k here
 
-    left-next : (j : ℕ) → getD (recordNext form1 k bytes ∷ readFrom form1 (suc k) (count - suc k) (drop (sizeNext form1 k bytes) bytes)) j emptyRecord
-        ≡ recordIn (part index at len) count (k + j)
-    left-next j = let e : count - k ≡ suc (count - suc k) = omega arith in rw (e, read-next form1 k (count - suc k) bytes) at (l .left j)
+    inner : place + (at + len - place) ≤ length index
+    inner = omega (arith, l .inside, l .within)
 
-    module _ (row : List ℕ) (r : RowAt index 2 place row (recordNext form1 k bytes) (sizeNext form1 k bytes)) where
+    step : count - k ≡ suc (count - suc k)
+    step = omega arith
+
+    whole : fitsFrom form1 k (suc (count - suc k)) here ≡ true
+    whole = rw step at (l .fits)
+
+    pub size-room : taken ≤ at + len - place
+    size-room = room-next form1 index place (at + len - place) k (count - suc k) inner whole
+
+    module _ (row : List ℕ) (r : row ≡ rowAt 2 place taken (recordNext form1 k here)) where
       abbrev next : ℕ
       next = getD row 2 0 + 2 * getD row 3 0
 
-      pub row-room : next ≤ length index
-      row-room = r .holds .inside
+      ends : next ≡ place + taken
+      ends = row-ends form1 index place (at + len - place) k (count - suc k) inner whole row r
 
-      -- the bytes behind the record
-      behind : drop (sizeNext form1 k bytes) bytes ≡ part index next (at + len - next)
-      behind =
-          let e : place + sizeNext form1 k bytes ≡ next = sym (r .ends) in
-          let d : at + len - place - sizeNext form1 k bytes ≡ at + len - next = omega arith in
-          part-drop (sizeNext form1 k bytes) (at + len - place) place index room-next ∙ rw (e, d)
+      pub next-room : next ≤ length index
+      next-room = omega (arith, ends, size-room, inner)
 
-      pub loading-on : Loading index at len count (set rows k row) next (k + 1)
+      shorter : at + len - place - taken ≡ at + len - next
+      shorter = omega (arith, ends)
+
+      fits-on : fitsFrom form1 (suc k) (count - suc k) (part index next (at + len - next)) ≡ true
+      fits-on = rw (← shorter, ends) (fits-behind form1 index place (at + len - place) k (count - suc k) inner whole)
+
+      rows-on : rowsFrom form1 k (count - k) place here ≡ row ∷ rowsFrom form1 (suc k) (count - suc k) next (part index next (at + len - next))
+      rows-on = rw (← shorter, ends, step, r) (rows-next form1 index place (at + len - place) k (count - suc k) inner whole)
+
+      left-on : take (suc k) (set rows k row) ++ rowsFrom form1 (suc k) (count - suc k) next (part index next (at + len - next)) ≡ rowsFrom form1 0 count at (part index at len)
+      left-on =
+          ap {B = List (List ℕ)} (λ xs. xs ++ rowsFrom form1 (suc k) (count - suc k) next (part index next (at + len - next))) (take-suc-set rows k row (omega (arith, l .long)))
+          ∙ append-snoc (take k rows) row _ ∙ ap {B = List (List ℕ)} (λ xs. take k rows ++ xs) (sym rows-on) ∙ l .left
+
+      pub loading-on : Loading index at len count rows₀ (set rows k row) next (k + 1)
       loading-on =
           record {
             long = simp length-set (l .long);
             inside = l .inside;
-            within = omega (arith, room-next, r .ends, l .within);
-            fits = rw (add-one, ← behind) (and-right (leb (sizeNext form1 k bytes) (length bytes)) _ fits-next);
-            left = λ j. let e : k + 1 + j ≡ k + suc j = omega arith in rw (e, add-one, ← behind) (left-next (suc j));
-            done = λ j m. go j (eq-or-lt-of-le (omega arith));
+            within = omega (arith, ends, size-room, l .within);
+            fits = rw add-one fits-on;
+            left = rw add-one left-on;
+            rest = drop-set-lt count rows k row more ∙ l .rest;
           }
-        where
-          go : (j : ℕ) → (j ≡ k) ⊎ (j < k) → Row index 2 (rowOf (set rows k row) j) (recordIn (part index at len) count j)
-          go j (inl e) =
-              let h : k < length rows = omega (arith, l .long) in
-              let x : recordNext form1 k bytes ≡ recordIn (part index at len) count k = left-next 0 ∙ ap (recordIn (part index at len) count) (add-zero k) in
-              rw (e, getD-set-same rows k row [] h, ← x) (r .holds)
-          go j (inr m) =
-              let n : j ≢ k = λ e. let z : ⊥ = omega arith in absurd z in
-              rw (getD-set-other rows k j row [] n) (l .done j m)

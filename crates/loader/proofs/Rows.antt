@@ -1,7 +1,7 @@
 -- The row of one record. What is read through a part of the index is what the index has there, so each kind's row is a matter of
 -- places; the record's size, known to be there, gives the room for every read. Assumes nothing.
-use mathlib.Core.Path.{_≡_, refl, sym, ap, _∙_}
-use mathlib.Core.Logic.{_≢_}
+use mathlib.Core.Path.{_≡_, refl, sym, ap, _∙_, subst}
+use mathlib.Core.Logic.{_≢_, _⊎_, inl, inr}
 use mathlib.Core.Bool.{true, false, and-true}
 use mathlib.Core.List.{List, [], _∷_}
 use Prim.Native.Nat.{ℕ, zero, suc, _+_, _-_, _*_, _/_, _%_, _≤_, _<_}
@@ -11,11 +11,11 @@ use lib.Dec.{eqb}
 use lib.ListN.{length, take, drop, getD, length-drop}
 use lib.Seq.{length-take-le, take-take, take-nil, drop-drop, getD-take, getD-drop}
 use Rattle.spec.specs.Bytes.{part, leValue, fieldAt, fieldsOf, begins}
-use Rattle.spec.specs.Records.{Form, readOffsets, readRecord, recordSize}
-use Rattle.spec.proofs.Tests.{eqb-same, eqb-ne, cond-elim}
+use Rattle.spec.specs.Records.{MatchRecord, Form, readOffsets, readRecord, recordSize}
+use Rattle.spec.proofs.Tests.{eqb-same, eqb-ne, cond-elim, bool-cases}
 use Rattle.spec.proofs.Splices.{drop-take}
 use Rattle.spec.proofs.FieldLists.{length-fieldsOf}
-use Rattle.loader.specs.Loaded.{recordNext, sizeNext, RowAt}
+use Rattle.loader.specs.Loaded.{recordNext, sizeNext, Row, rowAt}
 
 -- ---- parts of a list
 
@@ -106,6 +106,23 @@ module _ (f : Form) (bytes : List ℕ) where
   offsets-three h i j = rw (eqb-ne kind 1 i, eqb-ne kind 2 j)
 
 -- ---- its row
+
+-- A row of a record that takes `size` bytes at `place`: the list's end is the record's.
+pub record RowAt (index : List ℕ) (width place : ℕ) (row : List ℕ) (r : MatchRecord) (size : ℕ) : Type 0 where
+  pub holds : Row index width row r
+  pub ends : getD row 2 0 + width * getD row 3 0 ≡ place + size
+
+-- four numbers are in one way such a row
+pub row-is : {index : List ℕ} {width at a b c d size : ℕ} {r : MatchRecord} → RowAt index width at (a ∷ b ∷ c ∷ d ∷ []) r size → a ∷ b ∷ c ∷ d ∷ [] ≡ rowAt width at size r
+unfolding rowAt
+row-is {width = width} {at = at} {c = c} {d = d} {size = size} h =
+    let e : c ≡ at + size - width * d = omega (arith, h .ends) in
+    let p = e ∙ ap (λ (n : ℕ). at + size - width * n) (h .holds .many) in
+    λ i. h .holds .prefix i ∷ h .holds .suffix i ∷ p i ∷ h .holds .many i ∷ []
+
+-- what holds of the row as it stands holds of the row by its definition
+row-so : {index : List ℕ} {width at a b c d size : ℕ} {r : MatchRecord} → RowAt index width at (a ∷ b ∷ c ∷ d ∷ []) r size → RowAt index width at (rowAt width at size r) r size
+row-so {index = index} {width = width} {at = at} {size = size} {r = r} h = subst (λ (row : List ℕ). RowAt index width at row r size) (row-is h) h
 
 -- a row as it stands, of a record that the bytes say
 module _ (f : Form) (index : List ℕ) (at len : ℕ) (inside : at + len ≤ length index) (whole : recordSize f (part index at len) ≤ len) where
@@ -200,6 +217,18 @@ module _ (f : Form) (index : List ℕ) (at len : ℕ) (inside : at + len ≤ len
           offsets-three f bytes (kind-not 0 full) (kind-not 1 not-one) (kind-not 2 not-two) ∙ ap (λ (c : ℕ). fieldsOf (f .width) c (drop (5 + 2 * f .width) bytes)) q in
           row-full (at + (5 + 2 * f .width)) exact (sym (o ∙ fields-at (f .width) exact (5 + 2 * f .width) len at index (omega arith))) (omega arith)
 
+  -- THE ROW OF A RECORD holds it
+  pub row-holds : RowAt index (f .width) at (rowAt (f .width) at (recordSize f bytes) (readRecord f bytes)) (readRecord f bytes) (recordSize f bytes)
+  row-holds = go (getD index (at + 1) 0) refl (getD index (at + 4) 0) refl
+    where
+      go : (kind : ℕ) → getD index (at + 1) 0 ≡ kind → (count : ℕ) → getD index (at + 4) 0 ≡ count
+          → RowAt index (f .width) at (rowAt (f .width) at (recordSize f bytes) (readRecord f bytes)) (readRecord f bytes) (recordSize f bytes)
+      go zero e count z = row-so (row-tiny e)
+      go (suc zero) e zero z = row-so (row-none (λ q. omega arith) e z)
+      go (suc zero) e (suc count) z = row-so (row-one (λ q. omega arith) e (λ q. omega arith))
+      go (suc (suc zero)) e count z = row-so (row-two (λ q. omega arith) e)
+      go (suc (suc (suc n))) e count z = row-so (row-three (λ q. omega arith) (λ q. omega arith) (λ q. omega arith) _ refl)
+
 -- ---- the row of the next keyword
 
 module _ (f : Form) (index : List ℕ) (at len k : ℕ) (inside : at + len ≤ length index) where
@@ -233,7 +262,20 @@ module _ (f : Form) (index : List ℕ) (at len k : ℕ) (inside : at + len ≤ l
     unfolding sizeNext
     size-here = rw begins-here
 
-    pub row-here : (row : List ℕ) → RowAt index (f .width) at row (readRecord f (part index at len)) (recordSize f (part index at len))
-        → RowAt index (f .width) at row (recordNext f k (part index at len)) (sizeNext f k (part index at len))
+    pub row-here : (row : List ℕ) → row ≡ rowAt (f .width) at (recordSize f (part index at len)) (readRecord f (part index at len))
+        → row ≡ rowAt (f .width) at (sizeNext f k (part index at len)) (recordNext f k (part index at len))
     unfolding recordNext
     row-here row h = rw (size-here, begins-here) h
+
+  -- THE ROW OF THE NEXT KEYWORD holds its record
+  pub next-holds : sizeNext f k (part index at len) ≤ len
+      → RowAt index (f .width) at (rowAt (f .width) at (sizeNext f k (part index at len)) (recordNext f k (part index at len)))
+      (recordNext f k (part index at len)) (sizeNext f k (part index at len))
+  unfolding recordNext sizeNext
+  next-holds h = go (bool-cases (begins (k ∷ []) (part index at len)))
+    where
+      go : (begins (k ∷ []) (part index at len) ≡ true) ⊎ (begins (k ∷ []) (part index at len) ≡ false)
+          → RowAt index (f .width) at (rowAt (f .width) at (sizeNext f k (part index at len)) (recordNext f k (part index at len)))
+          (recordNext f k (part index at len)) (sizeNext f k (part index at len))
+      go (inl e) = rw e (row-holds f index at len inside (rw e at h))
+      go (inr e) = row-so (row-absent e)

@@ -2,11 +2,11 @@
 use mathlib.Core.Path.{_≡_}
 use mathlib.Core.Bool.{Bool, true, _&&_, cond}
 use mathlib.Core.List.{List, [], _∷_}
-use Prim.Native.Nat.{ℕ, zero, suc, _+_, _*_, _≤_, _<_}
+use Prim.Native.Nat.{ℕ, zero, suc, _+_, _-_, _*_, _≤_}
 use lib.ListN.{length, drop, getD}
 use lib.Dec.{leb}
 use Rattle.spec.specs.Bytes.{part, begins, fieldsOf}
-use Rattle.spec.specs.Records.{MatchRecord, Form, form1, emptyRecord, readRecord, recordSize, readBody}
+use Rattle.spec.specs.Records.{MatchRecord, Form, form1, emptyRecord, readRecord, recordSize}
 
 -- ---- what bytes say of the next keyword
 
@@ -32,19 +32,21 @@ pub record Row (index : List ℕ) (width : ℕ) (row : List ℕ) (r : MatchRecor
   pub inside : getD row 2 0 + width * getD row 3 0 ≤ length index
   pub many : getD row 3 0 ≡ length (r .offsets)
 
--- A row of a record that takes `size` bytes at `place`: the list's end is the record's.
-pub record RowAt (index : List ℕ) (width place : ℕ) (row : List ℕ) (r : MatchRecord) (size : ℕ) : Type 0 where
-  pub holds : Row index width row r
-  pub ends : getD row 2 0 + width * getD row 3 0 ≡ place + size
+-- The row of a record that takes `size` bytes at `at`: prefix, suffix, where its list of offsets is, and how many there are. The list ends
+-- where the record does.
+unfoldable pub rowAt : ℕ → ℕ → ℕ → MatchRecord → List ℕ
+rowAt width at size r = r .prefix ∷ r .suffix ∷ (at + size - width * length (r .offsets)) ∷ length (r .offsets) ∷ []
 
 -- ---- all keywords
 
 abbrev pub rowOf : List (List ℕ) → ℕ → List ℕ
 rowOf rows k = getD rows k []
 
--- The record that a body says of keyword k.
-abbrev pub recordIn : List ℕ → ℕ → ℕ → MatchRecord
-recordIn body count k = getD (readBody form1 count body) k emptyRecord
+-- The rows of the `count` keywords from k on, of a body's bytes that lie at `at`.
+unfoldable pub rowsFrom : Form → ℕ → ℕ → ℕ → List ℕ → List (List ℕ)
+rowsFrom f k zero at bytes = []
+rowsFrom f k (suc count) at bytes =
+    rowAt (f .width) at (sizeNext f k bytes) (recordNext f k bytes) ∷ rowsFrom f (suc k) count (at + sizeNext f k bytes) (drop (sizeNext f k bytes) bytes)
 
 -- What `load` asks: the body lies in the index, and its records lie whole in it.
 pub record Loadable (index : List ℕ) (at len count : ℕ) (rows : List (List ℕ)) : Type 0 where
@@ -52,8 +54,3 @@ pub record Loadable (index : List ℕ) (at len count : ℕ) (rows : List (List �
   pub long : count ≤ length rows
   pub inside : at + len ≤ length index
   pub whole : fitsFrom form1 0 count (part index at len) ≡ true
-
--- What it gives: the rows hold the records that the body says.
-pub record Loaded (index : List ℕ) (at len count : ℕ) (rows : List (List ℕ)) : Type 0 where
-  pub long : count ≤ length rows
-  pub each : (k : ℕ) → k < count → Row index (form1 .width) (rowOf rows k) (recordIn (part index at len) count k)

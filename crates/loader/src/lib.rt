@@ -1,11 +1,12 @@
 // The match records of a chunk, read from its body in a match index as plain numbers. No offset is copied: a row says where the index
 // has them.
 ghost use mathlib.Core.Path.{_≡_};
+ghost use mathlib.Core.List.{_++_};
 ghost use Prim.Native.Nat.{_+_, _≤_};
-ghost use lib.ListN.{length};
+ghost use lib.ListN.{length, drop};
 ghost use Rattle.spec.specs.Bytes.{part};
 ghost use Rattle.spec.specs.Records.{form1, readRecord, recordSize};
-ghost use Rattle.loader.specs.Loaded.{recordNext, sizeNext, RowAt, Loadable, Loaded};
+ghost use Rattle.loader.specs.Loaded.{recordNext, sizeNext, rowAt, rowsFrom, Loadable};
 
 // Bytes of an offset, and of the exact count.
 const WIDTH: usize = 2;
@@ -21,7 +22,7 @@ const LEFT: usize = 3;
 // The row of the record that starts at `at`; `len` bytes of the body are left from there.
 fn record_at(index: &[u8], at: usize, len: usize) -> [usize; 4]
     requires { ⌜ (at + len ≤ length (now index)) × (recordSize form1 (part (now index) at len) ≤ len) ⌝ }
-    ensures { λ r. ⌜ RowAt (now (index .entry)) 2 at r (readRecord form1 (part (now (index .entry)) at len)) (recordSize form1 (part (now (index .entry)) at len)) ⌝ }
+    ensures { λ r. ⌜ r ≡ rowAt 2 at (recordSize form1 (part (now (index .entry)) at len)) (readRecord form1 (part (now (index .entry)) at len)) ⌝ }
 {
     let kind = index[at + 1];
     let prefix = index[at + 2] as usize;
@@ -46,7 +47,7 @@ fn record_at(index: &[u8], at: usize, len: usize) -> [usize; 4]
 // The row of keyword k: no prefix, suffix or offset where its number is not next.
 fn row_at(index: &[u8], at: usize, len: usize, k: usize) -> [usize; 4]
     requires { ⌜ (at + len ≤ length (now index)) × (sizeNext form1 k (part (now index) at len) ≤ len) ⌝ }
-    ensures { λ r. ⌜ RowAt (now (index .entry)) 2 at r (recordNext form1 k (part (now (index .entry)) at len)) (sizeNext form1 k (part (now (index .entry)) at len)) ⌝ }
+    ensures { λ r. ⌜ r ≡ rowAt 2 at (sizeNext form1 k (part (now (index .entry)) at len)) (recordNext form1 k (part (now (index .entry)) at len)) ⌝ }
 {
     if len == 0 {
         return [0, 0, at, 0];
@@ -61,7 +62,7 @@ fn row_at(index: &[u8], at: usize, len: usize, k: usize) -> [usize; 4]
 // The rows of `count` keywords, from the body of `len` bytes at `at`. A record ends where its list of offsets does.
 pub fn load(index: &[u8], at: usize, len: usize, count: usize, rows: &mut [[usize; 4]; 16])
     requires { ⌜ Loadable (now index) at len count (now rows) ⌝ }
-    ensures { λ _. ⌜ Loaded (now (index .entry)) at len count (now (rows .exit)) ⌝ }
+    ensures { λ _. ⌜ now (rows .exit) ≡ rowsFrom form1 0 count at (part (now (index .entry)) at len) ++ drop count (now (rows .entry)) ⌝ }
 {
     let end = at + len;
     let mut place = at;

@@ -23,7 +23,8 @@ use Rattle.spec.proofs.RecordLaws.{allPositive, good-is-written}
 use Rattle.spec.proofs.ScanLaws.{positive-lengths}
 use Rattle.directory.specs.Chains.{keysFrom, Lies}
 use Rattle.files.proofs.Places.{slice-part}
-use Rattle.loader.specs.Loaded.{Row, rowOf, Loadable, Loaded}
+use Rattle.loader.specs.Loaded.{Row, rowOf, Loadable}
+use Rattle.loader.proofs.Loading.{Loaded}
 use Rattle.loader.proofs.Fitting.{good-body-fits}
 use Rattle.files.specs.Measures.{named}
 use Rattle.walk.specs.Walking.{noChunk, chunksIn, chunkIn, Directory, File, LoadedAt}

@@ -2,12 +2,12 @@
 use Prim.Native.Nat.{_+_, _-_, _*_, _≤_}
 use native.Mathlib.Omega.{arith}
 use lib.ListN.{length, getD}
-use Rattle.loader.proofs.Loading.{Loading, loading-start, loading-on, room-next, row-room, loaded}
+use Rattle.loader.proofs.Loading.{Loading, loading-start, loading-on, loading-end, size-room, next-room}
 use Rattle.loader.proofs.load.Statement.{statement}
 use Rattle.loader.proofs.load.Tie as tie
 
 abbrev Inv-loop : tie.InvT-loop
-Inv-loop index at len count rows₀ end place₀ k₀ rows place k = (k ≤ count) × Loading index at len count rows place k
+Inv-loop index at len count rows₀ end place₀ k₀ rows place k = (k ≤ count) × Loading index at len count rows₀ rows place k
 
 abbrev μ-loop : tie.MeasureT-loop
 μ-loop index at len count rows₀ end place₀ k₀ rows place k = count - k
@@ -17,7 +17,7 @@ room : (c : tie.After-row-at Inv-loop μ-loop) → getD (c .row-at .result) 2 0 
 room c =
     let p = c .before .before in
     let a = p .before .before .args in
-    row-room (a .index .now) (a .at) (a .len) (a .count) (p .loop .rows) (p .loop .place) (p .loop .k) (p .loop .inv .1) (c .before .loop-test .taken) (c .row-at .result) (c .row-at .ensures)
+    next-room (a .index .now) (a .at) (a .len) (a .count) (a .rows .now) (p .loop .rows) (p .loop .place) (p .loop .k) (p .loop .inv .1) (c .before .loop-test .taken) (c .row-at .result) (c .row-at .ensures)
 
 add-end : tie.Need-add-end Inv-loop μ-loop
 add-end c = omega (arith, c .before .pre .inside)
@@ -36,7 +36,7 @@ row-at-requires c κs =
     let p = c .before in
     let a = p .before .before .args in
     let w = p .loop .inv .1 .within in
-    (omega (arith, p .loop .inv .1 .inside), room-next (a .index .now) (a .at) (a .len) (a .count) (p .loop .rows) (p .loop .place) (p .loop .k) (p .loop .inv .1) (c .loop-test .taken))
+    (omega (arith, p .loop .inv .1 .inside), size-room (a .index .now) (a .at) (a .len) (a .count) (a .rows .now) (p .loop .rows) (p .loop .place) (p .loop .k) (p .loop .inv .1) (c .loop-test .taken))
 
 mul-t12 : tie.Need-mul-t12 Inv-loop μ-loop
 mul-t12 c = omega arith
@@ -66,13 +66,13 @@ loop-again : tie.Need-loop-again Inv-loop μ-loop
 loop-again c =
     let p = c .before .before in
     let a = p .before .before .args in
-    (omega arith, loading-on (a .index .now) (a .at) (a .len) (a .count) (p .loop .rows) (p .loop .place) (p .loop .k) (p .loop .inv .1) (c .before .loop-test .taken) (c .row-at .result) (c .row-at .ensures))
+    (omega arith, loading-on (a .index .now) (a .at) (a .len) (a .count) (a .rows .now) (p .loop .rows) (p .loop .place) (p .loop .k) (p .loop .inv .1) (c .before .loop-test .taken) (c .row-at .result) (c .row-at .ensures))
 
 returns : tie.Need-returns Inv-loop μ-loop
 returns c =
     let p = c .before in
     let a = p .before .before .args in
-    loaded (a .index .now) (a .at) (a .len) (a .count) (p .loop .rows) (p .loop .place) (p .loop .k) (p .loop .inv .1) (omega arith)
+    loading-end (a .index .now) (a .at) (a .len) (a .count) (a .rows .now) (p .loop .rows) (p .loop .place) (p .loop .k) (p .loop .inv .1) (omega arith)
 
 pub load-spec : {M : Type 1} → statement M
 load-spec =

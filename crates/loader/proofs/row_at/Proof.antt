@@ -1,7 +1,7 @@
 -- `loader::row_at` meets its contract.
 use native.Mathlib.Omega.{arith}
 use Rattle.spec.specs.Records.{form1}
-use Rattle.loader.proofs.Rows.{row-none-left, row-other, size-here, row-here}
+use Rattle.loader.proofs.Rows.{row-is, row-none-left, row-other, size-here, row-here}
 use borrow.Author.Needs.{needs}
 use Rattle.loader.proofs.row_at.Statement.{statement}
 use Rattle.loader.proofs.row_at.Tie as tie
@@ -9,7 +9,7 @@ use Rattle.loader.proofs.row_at.Tie as tie
 returns : tie.Need-returns
 returns c =
     let s = c .before .before in
-    row-none-left form1 (s .args .index .now) (s .args .at) (s .args .len) (s .args .k) (s .pre .0) (c .if1 .taken)
+    row-is (row-none-left form1 (s .args .index .now) (s .args .at) (s .args .len) (s .args .k) (s .pre .0) (c .if1 .taken))
 
 shared-slice-read-number : tie.Need-shared-slice-read-number
 shared-slice-read-number c = search needs
@@ -20,7 +20,7 @@ cast-number c = omega (arith, c .shared-slice-known2 .given (c .before .before .
 returns-2 : tie.Need-returns-2
 returns-2 c =
     let s = c .before .before .before .before in
-    row-other form1 (s .args .index .now) (s .args .at) (s .args .len) (s .args .k) (s .pre .0) (omega arith) (c .if2 .taken)
+    row-is (row-other form1 (s .args .index .now) (s .args .at) (s .args .len) (s .args .k) (s .pre .0) (omega arith) (c .if2 .taken))
 
 record-at-requires : tie.Need-record-at-requires
 record-at-requires c κs =

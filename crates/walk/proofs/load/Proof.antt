@@ -5,6 +5,8 @@ use native.Mathlib.Omega.{arith}
 use lib.ListN.{length}
 use denote.Ref.{now}
 use Rattle.spec.specs.Store.{chunkCount}
+use Rattle.loader.specs.Loaded.{Loadable}
+use Rattle.loader.proofs.Loading.{loaded}
 use Rattle.walk.proofs.Entries.{entry-in, entry-room, offset-is, length-is, body-loadable, place-loaded, none-loaded}
 use Rattle.walk.proofs.load.Statement.{statement}
 use Rattle.walk.proofs.load.Tie as tie
@@ -20,6 +22,20 @@ room c =
     let s = c .before .before .before .before .before .before .before in
     let a = s .args in
     entry-room (now (a .index)) (a .directory) (a .entries) (now (a .heads)) (now (a .chain)) (s .pre .0) (c .entry-at .result) (inside c)
+
+-- the body can be loaded
+loadable : (c : tie.After-read2) → let f = c .before .before in
+    let a = f .before .before .before .before .before .before .before .args in
+    Loadable (now (a .index)) (c .before .read .result) (c .read2 .result) (a .count) (now (a .rows))
+loadable c =
+    let f = c .before .before in
+    let s = f .before .before .before .before .before .before .before in
+    let a = s .args in
+    let i = inside f in
+    body-loadable (now (a .index)) (s .pre .0 .good) (f .entry-at .result) i (c .before .read .result) (c .read2 .result) (a .count) (now (a .rows))
+    (c .before .read .ensures ∙ offset-is (now (a .index)) (a .directory) (a .entries) (now (a .heads)) (now (a .chain)) (s .pre .0) (f .entry-at .result) i)
+    (c .read2 .ensures ∙ length-is (now (a .index)) (a .directory) (a .entries) (now (a .heads)) (now (a .chain)) (s .pre .0) (f .entry-at .result) i)
+    (s .pre .1 .1 .0) (s .pre .1 .1 .1) (s .pre .1 .1 .2)
 
 returns : tie.Need-returns
 returns c =
@@ -48,16 +64,7 @@ read-requires-2 : tie.Need-read-requires-2
 read-requires-2 c κs = omega (arith, room (c .before))
 
 load-requires : tie.Need-load-requires
-load-requires c κs =
-    let r = c .before in
-    let f = r .before .before in
-    let s = f .before .before .before .before .before .before .before in
-    let a = s .args in
-    let i = inside f in
-    body-loadable (now (a .index)) (s .pre .0 .good) (f .entry-at .result) i (r .before .read .result) (r .read2 .result) (a .count) (now (a .rows))
-    (r .before .read .ensures ∙ offset-is (now (a .index)) (a .directory) (a .entries) (now (a .heads)) (now (a .chain)) (s .pre .0) (f .entry-at .result) i)
-    (r .read2 .ensures ∙ length-is (now (a .index)) (a .directory) (a .entries) (now (a .heads)) (now (a .chain)) (s .pre .0) (f .entry-at .result) i)
-    (s .pre .1 .1 .0) (s .pre .1 .1 .1) (s .pre .1 .1 .2)
+load-requires c κs = loadable (c .before)
 
 add-read-3 : tie.Need-add-read-3
 add-read-3 c = omega (arith, room (c .before .before .before .before), c .before .before .before .before .before .before .before .before .before .before .before)
@@ -74,7 +81,8 @@ returns-2 c =
     let a = s .args in
     place-loaded (now (a .index)) (a .directory) (a .entries) (now (a .heads)) (now (a .chain)) (now (a .file)) (now (a .slots)) (s .pre .0) (s .pre .1 .0) (a .n) (f .before .if1 .left) (f .entry-at .result) (f .entry-at .ensures)
     (r .before .read .result) (r .read2 .result) (a .count) (c .read3 .result) (o .load .last .1 .1 .1 .1 .0)
-    (r .before .read .ensures) (r .read2 .ensures) (c .read3 .ensures) (s .pre .1 .1 .0) (o .load .ensures)
+    (r .before .read .ensures) (r .read2 .ensures) (c .read3 .ensures) (s .pre .1 .1 .0)
+    (loaded (now (a .index)) (r .before .read .result) (r .read2 .result) (a .count) (now (a .rows)) (o .load .last .1 .1 .1 .1 .0) (loadable r) (o .load .ensures))
 
 pub load-spec : {M : Type 1} → statement M
 load-spec =
