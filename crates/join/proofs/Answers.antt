@@ -6,12 +6,12 @@ use Prim.Native.Nat.{ℕ, _*_, _/_, _≤_, _<_}
 use native.Mathlib.Omega.{arith}
 use lib.ListN.{length}
 use borrow.Author.Tests.{lt-ltb, le-ltb}
+use Rattle.spec.specs.declared.Outcome.{Outcome}
 use Rattle.spec.specs.declared.Outcome.the-variants.{Done, Refused}
 use Rattle.spec.specs.Bytes.{splice}
 use Rattle.spec.specs.Records.{form1}
 use Rattle.spec.specs.Join.{joinList, listBytes, joinableCode, joinCode, joinOutcome, joinBuffer, countOutcome}
 use Rattle.spec.proofs.Codes.{refused-whole, next-whole, refused, next-test, answer-done, answer-refused, buffer-done, buffer-refused}
-use Rattle.join.specs.Joining.{Joined}
 
 module _ (index recipes : List ℕ) (code : ℕ) (e : code ≡ joinableCode form1 index recipes) where
   -- the number of occurrences
@@ -27,6 +27,10 @@ module _ (index recipes : List ℕ) (code : ℕ) (e : code ≡ joinableCode form
   count-done n z m = ap Done m ∙ answer-done (joinableCode form1 index recipes) many (sym e ∙ z)
 
   module _ (out : List ℕ) where
+    -- what a join promises: its answer, and every byte of its buffer
+    abbrev Joined : List ℕ → Outcome → Type 0
+    Joined after r = (r ≡ joinOutcome form1 index recipes (length out)) × (after ≡ joinBuffer form1 index recipes out)
+
     -- the whole refusal, by the way taken
     code-first : code ≢ 0 → code ≡ joinCode form1 index recipes (length out)
     unfolding joinCode
@@ -40,29 +44,28 @@ module _ (index recipes : List ℕ) (code : ℕ) (e : code ≡ joinableCode form
     unfolding joinCode
     code-none z l = next-whole (joinableCode form1 index recipes) _ (sym e ∙ z) ∙ next-test _ 18 0 (le-ltb (length out) (9 * many) l)
 
-    refusal : (n : ℕ) → n ≡ joinCode form1 index recipes (length out) → n ≢ 0 → Joined index recipes out out (Refused n)
+    refusal : (n : ℕ) → n ≡ joinCode form1 index recipes (length out) → n ≢ 0 → Joined out (Refused n)
     unfolding joinOutcome joinBuffer
-    refusal n p h = record {
-      answered = ap Refused p ∙ answer-refused (joinCode form1 index recipes (length out)) many (λ z. h (p ∙ z));
-      listed = buffer-refused (joinCode form1 index recipes (length out)) (splice out 0 (listBytes (joinList form1 index recipes))) out (λ z. h (p ∙ z));
-    }
+    refusal n p h = (
+      ap Refused p ∙ answer-refused (joinCode form1 index recipes (length out)) many (λ z. h (p ∙ z)),
+      buffer-refused (joinCode form1 index recipes (length out)) (splice out 0 (listBytes (joinList form1 index recipes))) out (λ z. h (p ∙ z)),
+    )
 
-    pub join-refused : code ≢ 0 → Joined index recipes out out (Refused code)
+    pub join-refused : code ≢ 0 → Joined out (Refused code)
     join-refused h = refusal code (code-first h) h
 
     -- the code divides, so that no product is taken
-    pub join-long : (n : ℕ) → code ≡ 0 → n ≡ many → length out / 9 < n → Joined index recipes out out (Refused 18)
+    pub join-long : (n : ℕ) → code ≡ 0 → n ≡ many → length out / 9 < n → Joined out (Refused 18)
     join-long n z m h = refusal 18 (code-long z (omega arith)) (omega arith)
 
     pub join-room : (n : ℕ) → n ≡ many → n ≤ length out / 9 → 9 * many ≤ length out
     join-room n m h = omega arith
 
     pub join-done : (n : ℕ) (after : List ℕ) → code ≡ 0 → n ≡ many → n ≤ length out / 9 → after ≡ splice out 0 (listBytes (joinList form1 index recipes))
-        → Joined index recipes out after (Done n)
+        → Joined after (Done n)
     unfolding joinOutcome joinBuffer
     join-done n after z m h w =
-        let c : joinCode form1 index recipes (length out) ≡ 0 = code-none z (join-room n m h) in
-        record {
-          answered = ap Done m ∙ answer-done (joinCode form1 index recipes (length out)) many c;
-          listed = w ∙ buffer-done (joinCode form1 index recipes (length out)) (splice out 0 (listBytes (joinList form1 index recipes))) out c;
-        }
+        let c : joinCode form1 index recipes (length out) ≡ 0 = code-none z (join-room n m h) in (
+          ap Done m ∙ answer-done (joinCode form1 index recipes (length out)) many c,
+          w ∙ buffer-done (joinCode form1 index recipes (length out)) (splice out 0 (listBytes (joinList form1 index recipes))) out c,
+        )

@@ -1,16 +1,15 @@
--- What the stages of a join hand over, and what a join leaves.
+-- What the stages of a join hand over.
 use mathlib.Core.Path.{_≡_}
 use mathlib.Core.Logic.{_≢_}
 use mathlib.Core.List.{List, []}
 use Prim.Native.Nat.{ℕ, _≤_, _<_}
 use lib.ListN.{length, getD}
-use Rattle.spec.specs.declared.Outcome.{Outcome}
 use Rattle.spec.specs.Keywords.{foldedKeywords}
 use Rattle.spec.specs.Directory.{sizeAt}
 use Rattle.spec.specs.Records.{form1}
 use Rattle.spec.specs.Index.{listIn, indexLayout, indexKeys, indexCode}
 use Rattle.spec.specs.Recipes.{fileCount, filesOf, recipesCode, filesCode}
-use Rattle.spec.specs.Join.{Occurrence, joinFile, fileRecords, joinList, due, joinableCode, joinOutcome, joinBuffer}
+use Rattle.spec.specs.Join.{Occurrence, joinFile, fileRecords, joinList, due, joinableCode}
 use Rattle.directory.specs.Chains.{Chained}
 use Rattle.walk.specs.Walking.{Directory, Keyed}
 
@@ -52,8 +51,3 @@ pub record Planned (index recipes heads chain : List ℕ) (tables : List (List (
   pub counted : code ≡ 0 → total ≡ length (joinList form1 index recipes)
   pub marked : code ≡ 0 → Marked index recipes some
   pub joinable : code ≡ 0 → Joinable index recipes directory entries heads chain count tables
-
--- The join's answer, and the buffer behind it.
-pub record Joined (index recipes entry exit : List ℕ) (result : Outcome) : Type 0 where
-  pub answered : result ≡ joinOutcome form1 index recipes (length entry)
-  pub listed : exit ≡ joinBuffer form1 index recipes entry

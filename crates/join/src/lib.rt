@@ -8,10 +8,10 @@ ghost use Rattle.spec.specs.Bytes.{part, fieldAt, splice};
 ghost use Rattle.spec.specs.Keywords.{foldedKeywords};
 ghost use Rattle.spec.specs.Records.{form1};
 ghost use Rattle.spec.specs.Index.{listIn};
-ghost use Rattle.spec.specs.Join.{due, joinFile, joinList, listBytes, countOutcome};
+ghost use Rattle.spec.specs.Join.{due, joinFile, joinList, listBytes, countOutcome, joinOutcome, joinBuffer};
 ghost use Rattle.directory.specs.Chains.{Empty};
 ghost use Rattle.walk.specs.Walking.{chunksIn, Directory, File, Keyed, Listed};
-ghost use Rattle.join.specs.Joining.{Prepared, Joinable, allFilesCode, Marked, Surveyed, Planned, Joined};
+ghost use Rattle.join.specs.Joining.{Prepared, Joinable, allFilesCode, Marked, Surveyed, Planned};
 
 // The index check, then 14. It leaves the chains of the index's fingerprints in the arrays.
 fn prepare(index: &[u8], recipes: &[u8], heads: &mut [u32], chain: &mut [u32]) -> u8
@@ -273,7 +273,8 @@ pub fn count(index: &[u8], recipes: &[u8]) -> spec::Outcome
 
 // The join: the count, or the refusal, which changes no byte of the buffer.
 pub fn join(index: &[u8], recipes: &[u8], out: &mut [u8]) -> spec::Outcome
-    ensures { λ r. ⌜ Joined (now (index .entry)) (now (recipes .entry)) (now (out .entry)) (now (out .exit)) r ⌝ }
+    ensures { λ r. ⌜ (r ≡ joinOutcome form1 (now (index .entry)) (now (recipes .entry)) (length (now (out .entry))))
+        × (now (out .exit) ≡ joinBuffer form1 (now (index .entry)) (now (recipes .entry)) (now (out .entry))) ⌝ }
 {
     let mut heads = [0u32; 65536];
     let mut chain = [0u32; 65000];

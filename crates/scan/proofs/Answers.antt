@@ -8,6 +8,7 @@ use native.Mathlib.Omega.{arith}
 use lib.ListN.{length, length-append}
 use lib.Dec.{ltb}
 use borrow.Author.Tests.{lt-ltb, le-ltb}
+use Rattle.spec.specs.declared.Outcome.{Outcome}
 use Rattle.spec.specs.declared.Outcome.the-variants.{Done, Refused}
 use Rattle.spec.specs.Bytes.{leBytes, splice}
 use Rattle.spec.specs.Outcome.{answer}
@@ -18,7 +19,7 @@ use Rattle.spec.specs.Scan.{scanIndex, scannableCode, scanCode, scanOutcome, sc
 use Rattle.spec.proofs.Codes.{refused-whole, next-whole, refused, next-test, answer-done, answer-refused, buffer-done, buffer-refused}
 use Rattle.spec.proofs.Fields.{length-leBytes}
 use Rattle.spec.proofs.Splices.{splice-then}
-use Rattle.scan.specs.Layout.{tailBytes, Scans}
+use Rattle.scan.specs.Layout.{tailBytes}
 use Rattle.scan.proofs.Parts.{index-parts}
 
 module _ (list store : List ℕ) where
@@ -36,6 +37,10 @@ module _ (list store : List ℕ) where
     size-done len z n = ap Done n ∙ answer-done (scannableCode list store) long (sym e ∙ z)
 
     module _ (before : List ℕ) where
+      -- what a scan promises: its answer, and every byte of its buffer
+      abbrev Scans : List ℕ → Outcome → Type 0
+      Scans after r = (r ≡ scanOutcome form1 list store (length before)) × (after ≡ scanBuffer form1 list store before)
+
       -- the whole refusal, by the way taken
       code-first : code ≢ 0 → code ≡ scanCode form1 list store (length before)
       unfolding scanCode
@@ -49,31 +54,30 @@ module _ (list store : List ℕ) where
       unfolding scanCode
       code-none z t = next-whole (scannableCode list store) _ (sym e ∙ z) ∙ next-test _ 9 0 t
 
-      refusal : (n : ℕ) → n ≡ scanCode form1 list store (length before) → n ≢ 0 → Scans list store before before (Refused n)
+      refusal : (n : ℕ) → n ≡ scanCode form1 list store (length before) → n ≢ 0 → Scans before (Refused n)
       unfolding scanOutcome scanBuffer
-      refusal n p h = record {
-        answer = ap Refused p ∙ answer-refused (scanCode form1 list store (length before)) long (λ z. h (p ∙ z));
-        buffer = buffer-refused (scanCode form1 list store (length before)) (splice before 0 (scanIndex form1 list store)) before (λ z. h (p ∙ z));
-      }
+      refusal n p h = (
+        ap Refused p ∙ answer-refused (scanCode form1 list store (length before)) long (λ z. h (p ∙ z)),
+        buffer-refused (scanCode form1 list store (length before)) (splice before 0 (scanIndex form1 list store)) before (λ z. h (p ∙ z)),
+      )
 
-      pub scan-refused : code ≢ 0 → Scans list store before before (Refused code)
+      pub scan-refused : code ≢ 0 → Scans before (Refused code)
       scan-refused h = refusal code (code-first h) h
 
-      pub scan-short : (len : ℕ) → code ≡ 0 → len ≡ long → length before < len → Scans list store before before (Refused 9)
+      pub scan-short : (len : ℕ) → code ≡ 0 → len ≡ long → length before < len → Scans before (Refused 9)
       scan-short len z n h = refusal 9 (code-nine z (rw (lt-ltb (length before) long (omega arith)))) (omega arith)
 
-      pub scan-large : (len : ℕ) → code ≡ 0 → len ≡ long → 4294967295 < len → Scans list store before before (Refused 9)
+      pub scan-large : (len : ℕ) → code ≡ 0 → len ≡ long → 4294967295 < len → Scans before (Refused 9)
       scan-large len z n h = refusal 9 (code-nine z (rw (lt-ltb largest32 long (omega arith), or-true))) (omega arith)
 
       pub scan-done : (len : ℕ) (after : List ℕ) → code ≡ 0 → len ≡ long → len ≤ length before → len ≤ 4294967295 → after ≡ splice before 0 (scanIndex form1 list store)
-          → Scans list store before after (Done len)
+          → Scans after (Done len)
       unfolding scanOutcome scanBuffer
       scan-done len after z n h l w =
-          let c : scanCode form1 list store (length before) ≡ 0 = code-none z (rw (le-ltb (length before) long (omega arith), le-ltb largest32 long (omega arith))) in
-          record {
-            answer = ap Done n ∙ answer-done (scanCode form1 list store (length before)) long c;
-            buffer = w ∙ buffer-done (scanCode form1 list store (length before)) (splice before 0 (scanIndex form1 list store)) before c;
-          }
+          let c : scanCode form1 list store (length before) ≡ 0 = code-none z (rw (le-ltb (length before) long (omega arith), le-ltb largest32 long (omega arith))) in (
+            ap Done n ∙ answer-done (scanCode form1 list store (length before)) long c,
+            w ∙ buffer-done (scanCode form1 list store (length before)) (splice before 0 (scanIndex form1 list store)) before c,
+          )
 
   -- mark, chunk count, keyword list, and the rest, each where the one before ends
   pub index-put : (l l₁ l₂ l₃ l₄ : List ℕ) (count : ℕ) → count ≡ chunkCount store → l₁ ≡ splice l 0 (form1 .mark) → l₂ ≡ splice l₁ 4 (leBytes 4 count) → l₃ ≡ splice l₂ 8 list

@@ -3,12 +3,11 @@ use mathlib.Core.Path.{_≡_}
 use mathlib.Core.List.{List, [], _∷_, _++_, map}
 use Prim.Native.Nat.{ℕ, _+_, _*_, _-_, _≤_}
 use lib.ListN.{length}
-use Rattle.spec.specs.declared.Outcome.{Outcome}
 use Rattle.spec.specs.Bytes.{leBytes, each, joined}
 use Rattle.spec.specs.Store.{chunkCount, storeCode}
 use Rattle.spec.specs.Records.{Form, form1}
 use Rattle.spec.specs.Index.{Entry, directoryBytes}
-use Rattle.spec.specs.Scan.{scanEntry, scanIndex, scannableCode, scanOutcome, scanBuffer}
+use Rattle.spec.specs.Scan.{scanEntry, scanIndex, scannableCode}
 use Rattle.keywords.specs.declared.Keywords.{Keywords}
 use Rattle.matcher.specs.Summaries.{Reads}
 
@@ -47,9 +46,3 @@ pub record CanPutEntries (buffer list : List ℕ) (words : Keywords) (store : Li
 pub record CanPutIndex (buffer list store : List ℕ) : Type 0 where
   pub passed : scannableCode list store ≡ 0
   pub room : length (scanIndex form1 list store) ≤ length buffer
-
--- ---- the scan's promise: its answer, and every byte of its buffer
-
-pub record Scans (list store before after : List ℕ) (r : Outcome) : Type 0 where
-  pub answer : r ≡ scanOutcome form1 list store (length before)
-  pub buffer : after ≡ scanBuffer form1 list store before

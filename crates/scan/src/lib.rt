@@ -5,8 +5,8 @@ ghost use Prim.Native.Nat.{_+_};
 ghost use lib.ListN.{length};
 ghost use Rattle.spec.specs.Bytes.{splice};
 ghost use Rattle.spec.specs.Records.{form1};
-ghost use Rattle.spec.specs.Scan.{scanIndex, scannableCode, sizeOutcome};
-ghost use Rattle.scan.specs.Layout.{bodiesFrom, entryBytes, tailBytes, Walks, CanPutEntry, CanPutEntries, CanPutIndex, Scans};
+ghost use Rattle.spec.specs.Scan.{scanIndex, scannableCode, sizeOutcome, scanOutcome, scanBuffer};
+ghost use Rattle.scan.specs.Layout.{bodiesFrom, entryBytes, tailBytes, Walks, CanPutEntry, CanPutEntries, CanPutIndex};
 
 // The mark of a match index.
 const MARK: [u8; 4] = [0x44, 0x4D, 0x31, 0x0A];
@@ -107,7 +107,8 @@ fn put_index(out: &mut [u8], list: &[u8], store: &[u8])
 
 // The scan: the index's length, or the refusal, which changes no byte of the buffer.
 pub fn scan(list: &[u8], store: &[u8], out: &mut [u8]) -> spec::Outcome
-    ensures { λ r. ⌜ Scans (now (list .entry)) (now (store .entry)) (now (out .entry)) (now (out .exit)) r ⌝ }
+    ensures { λ r. ⌜ (r ≡ scanOutcome form1 (now (list .entry)) (now (store .entry)) (length (now (out .entry))))
+        × (now (out .exit) ≡ scanBuffer form1 (now (list .entry)) (now (store .entry)) (now (out .entry))) ⌝ }
 {
     let code = scannable(list, store);
     if code != 0 {

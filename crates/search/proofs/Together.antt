@@ -12,9 +12,9 @@ use Rattle.spec.specs.declared.Searched.the-variants.{ScanRefused}
 use Rattle.spec.specs.Records.{form1}
 use Rattle.spec.specs.Join.{joinOutcome, joinBuffer}
 use Rattle.spec.specs.Scan.{scanOutcome, scanBuffer}
-use Rattle.spec.specs.Search.{searchOutcome}
+use Rattle.spec.specs.Search.{searchOutcome, searchBuffer}
 use Rattle.theory.proofs.SearchLaws.{scan-length, scanned-front, search-scan-refused, search-join-refused, search-found, search-list}
-use Rattle.search.specs.Searching.{afterJoin, Joins, Searches}
+use Rattle.search.specs.Searching.{afterJoin, Joins}
 
 -- a join's answer r, known to be the definition's and to be the case o, as a search's
 pub join-answered : (index recipes out out′ : List ℕ) (o r : Outcome) → r ≡ o → r ≡ joinOutcome form1 index recipes (length out)
@@ -22,12 +22,19 @@ pub join-answered : (index recipes out out′ : List ℕ) (o r : Outcome) → r 
 join-answered index recipes out out′ o r k e b = record { answered = ap (afterJoin (length index)) (sym k ∙ e); listed = b }
 
 module _ (list store recipes buffer out : List ℕ) where
+  -- what a search promises: its answer, and its two buffers
+  abbrev Searches : List ℕ → List ℕ → Searched → Type 0
+  Searches index′ out′ r =
+      (r ≡ searchOutcome form1 list store recipes (length buffer) (length out))
+      × (index′ ≡ scanBuffer form1 list store buffer)
+      × (out′ ≡ searchBuffer form1 list store recipes (length buffer) out)
+
   -- the scan refused
   pub not-scanned : (index′ : List ℕ) (c : ℕ) → index′ ≡ scanBuffer form1 list store buffer → scanOutcome form1 list store (length buffer) ≡ Refused c
-      → Searches list store recipes buffer out index′ out (ScanRefused c)
+      → Searches index′ out (ScanRefused c)
   not-scanned index′ c q e =
       let r = search-scan-refused list store recipes buffer out c e in
-      record { answered = r .0; scanned = q; listed = r .1 }
+      (r .0, q, r .1)
 
   -- the scan wrote n bytes
   module _ (n : ℕ) (e : scanOutcome form1 list store (length buffer) ≡ Done n) (index′ : List ℕ) (q : index′ ≡ scanBuffer form1 list store buffer) where
@@ -50,10 +57,6 @@ module _ (list store recipes buffer out : List ℕ) where
         ∙ answer-is (joinOutcome form1 (take n (scanBuffer form1 list store buffer)) recipes (length out)) refl
 
     -- and its join answered
-    pub scanned-joined : (out′ : List ℕ) (r : Searched) → Joins (take n index′) recipes out out′ r → Searches list store recipes buffer out index′ out′ r
+    pub scanned-joined : (out′ : List ℕ) (r : Searched) → Joins (take n index′) recipes out out′ r → Searches index′ out′ r
     scanned-joined out′ r j =
-        record {
-          answered = j .answered ∙ answered-is;
-          scanned = q;
-          listed = j .listed ∙ rw q (search-list list store recipes buffer out n e);
-        }
+        (j .answered ∙ answered-is, q, j .listed ∙ rw q (search-list list store recipes buffer out n e))

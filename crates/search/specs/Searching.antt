@@ -1,4 +1,4 @@
--- What a search promises: its answer and its two buffers, from the keyword list, the store, the recipes and the restored files alone.
+-- What the second half of a search promises: a join, with its answer as a search's.
 use mathlib.Core.Path.{_≡_}
 use mathlib.Core.List.{List}
 use Prim.Native.Nat.{ℕ}
@@ -9,14 +9,6 @@ use Rattle.spec.specs.declared.Searched.{Searched}
 use Rattle.spec.specs.declared.Searched.the-variants.{JoinRefused, Found}
 use Rattle.spec.specs.Records.{form1}
 use Rattle.spec.specs.Join.{joinOutcome, joinBuffer}
-use Rattle.spec.specs.Scan.{scanBuffer}
-use Rattle.spec.specs.Search.{searchOutcome, searchBuffer}
-
-pub record Searches (list store recipes index out index′ out′ : List ℕ) (r : Searched) : Type 0 where
-  pub answered : r ≡ searchOutcome form1 list store recipes (length index) (length out)
-  -- the index buffer is as the scan leaves it
-  pub scanned : index′ ≡ scanBuffer form1 list store index
-  pub listed : out′ ≡ searchBuffer form1 list store recipes (length index) out
 
 -- A join's answer as a search's, over an index of n bytes.
 abbrev pub afterJoin : ℕ → Outcome → Searched

@@ -1,6 +1,11 @@
 // The search whole: a scan, and then a join of the index that it wrote. The two are put together through their contracts alone, and the
 // answer is that of a direct search of the restored files (demand 3).
-ghost use Rattle.search.specs.Searching.{Joins, Searches};
+ghost use mathlib.Core.Path.{_≡_};
+ghost use lib.ListN.{length};
+ghost use Rattle.spec.specs.Records.{form1};
+ghost use Rattle.spec.specs.Scan.{scanBuffer};
+ghost use Rattle.spec.specs.Search.{searchOutcome, searchBuffer};
+ghost use Rattle.search.specs.Searching.{Joins};
 use spec::Outcome;
 use spec::Searched;
 
@@ -16,7 +21,7 @@ fn joined(index: &[u8], recipes: &[u8], out: &mut [u8]) -> Searched
 }
 
 // Searches the restored files of `recipes` for the keywords of `list`: `index` gets the store's index and `out` the list of occurrences,
-// each if it has room.
+// each if it has room. The index buffer is left as the scan leaves it.
 pub fn search(
     list: &[u8],
     store: &[u8],
@@ -24,7 +29,9 @@ pub fn search(
     index: &mut [u8],
     out: &mut [u8],
 ) -> Searched
-    ensures { λ r. ⌜ Searches (now (list .entry)) (now (store .entry)) (now (recipes .entry)) (now (index .entry)) (now (out .entry)) (now (index .exit)) (now (out .exit)) r ⌝ }
+    ensures { λ r. ⌜ (r ≡ searchOutcome form1 (now (list .entry)) (now (store .entry)) (now (recipes .entry)) (length (now (index .entry))) (length (now (out .entry))))
+        × (now (index .exit) ≡ scanBuffer form1 (now (list .entry)) (now (store .entry)) (now (index .entry)))
+        × (now (out .exit) ≡ searchBuffer form1 (now (list .entry)) (now (store .entry)) (now (recipes .entry)) (length (now (index .entry))) (now (out .entry))) ⌝ }
 {
     match scan::scan(list, store, index) {
         Outcome::Refused(code) => Searched::ScanRefused(code),

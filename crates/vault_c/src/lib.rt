@@ -2,12 +2,16 @@
 // document 01's number, 0 for accepted, found or done. A number by reference is a part of the answer: the length or the count where the
 // work is done, 0 on a refusal. include/vault.h declares these functions.
 ghost use mathlib.Core.Path.{_≡_};
+ghost use lib.ListN.{length};
 ghost use Rattle.spec.specs.Keywords.{keywordCode};
 ghost use Rattle.spec.specs.Store.{storeCode};
 ghost use Rattle.spec.specs.Records.{form1};
 ghost use Rattle.spec.specs.Index.{indexCode};
 ghost use Rattle.spec.specs.Lookup.{findChunk, chunkStart, chunkLength, findBody, bodyStart, bodyLength};
-ghost use Rattle.vault_c.specs.Calls.{SizeCall, ScanCall, CountCall, JoinCall, SearchCall};
+ghost use Rattle.spec.specs.Outcome.{codeOf, valueOf};
+ghost use Rattle.spec.specs.Scan.{sizeOutcome, scanOutcome, scanBuffer};
+ghost use Rattle.spec.specs.Join.{countOutcome, joinOutcome, joinBuffer};
+ghost use Rattle.spec.specs.Search.{searchOutcome, searchBuffer, searchedCode, searchedSize, searchedCount};
 
 // ---- checks
 
@@ -35,32 +39,35 @@ pub extern "C" fn vault_check_index(index: &[u8]) -> u8
 // ---- scan and join
 
 #[no_mangle]
-pub extern "C" fn vault_scan_size(list: &[u8], store: &[u8], length: &mut u64) -> u8
-    ensures { λ r. ⌜ SizeCall (now (list .entry)) (now (store .entry)) (now (length .exit)) r ⌝ }
+pub extern "C" fn vault_scan_size(list: &[u8], store: &[u8], size: &mut u64) -> u8
+    ensures { λ r. ⌜ (r ≡ codeOf (sizeOutcome form1 (now (list .entry)) (now (store .entry))))
+        × (now (size .exit) ≡ valueOf (sizeOutcome form1 (now (list .entry)) (now (store .entry)))) ⌝ }
 {
     match scan::size(list, store) {
         spec::Outcome::Done(needed) => {
-            *length = needed as u64;
+            *size = needed as u64;
             0
         }
         spec::Outcome::Refused(code) => {
-            *length = 0;
+            *size = 0;
             code
         }
     }
 }
 
 #[no_mangle]
-pub extern "C" fn vault_scan(list: &[u8], store: &[u8], out: &mut [u8], length: &mut u64) -> u8
-    ensures { λ r. ⌜ ScanCall (now (list .entry)) (now (store .entry)) (now (out .entry)) (now (out .exit)) (now (length .exit)) r ⌝ }
+pub extern "C" fn vault_scan(list: &[u8], store: &[u8], out: &mut [u8], size: &mut u64) -> u8
+    ensures { λ r. ⌜ (r ≡ codeOf (scanOutcome form1 (now (list .entry)) (now (store .entry)) (length (now (out .entry)))))
+        × (now (size .exit) ≡ valueOf (scanOutcome form1 (now (list .entry)) (now (store .entry)) (length (now (out .entry)))))
+        × (now (out .exit) ≡ scanBuffer form1 (now (list .entry)) (now (store .entry)) (now (out .entry))) ⌝ }
 {
     match scan::scan(list, store, out) {
         spec::Outcome::Done(written) => {
-            *length = written as u64;
+            *size = written as u64;
             0
         }
         spec::Outcome::Refused(code) => {
-            *length = 0;
+            *size = 0;
             code
         }
     }
@@ -68,7 +75,8 @@ pub extern "C" fn vault_scan(list: &[u8], store: &[u8], out: &mut [u8], length: 
 
 #[no_mangle]
 pub extern "C" fn vault_count(index: &[u8], recipes: &[u8], count: &mut u64) -> u8
-    ensures { λ r. ⌜ CountCall (now (index .entry)) (now (recipes .entry)) (now (count .exit)) r ⌝ }
+    ensures { λ r. ⌜ (r ≡ codeOf (countOutcome form1 (now (index .entry)) (now (recipes .entry))))
+        × (now (count .exit) ≡ valueOf (countOutcome form1 (now (index .entry)) (now (recipes .entry)))) ⌝ }
 {
     match join::count(index, recipes) {
         spec::Outcome::Done(counted) => {
@@ -84,7 +92,9 @@ pub extern "C" fn vault_count(index: &[u8], recipes: &[u8], count: &mut u64) -> 
 
 #[no_mangle]
 pub extern "C" fn vault_join(index: &[u8], recipes: &[u8], out: &mut [u8], count: &mut u64) -> u8
-    ensures { λ r. ⌜ JoinCall (now (index .entry)) (now (recipes .entry)) (now (out .entry)) (now (out .exit)) (now (count .exit)) r ⌝ }
+    ensures { λ r. ⌜ (r ≡ codeOf (joinOutcome form1 (now (index .entry)) (now (recipes .entry)) (length (now (out .entry)))))
+        × (now (count .exit) ≡ valueOf (joinOutcome form1 (now (index .entry)) (now (recipes .entry)) (length (now (out .entry)))))
+        × (now (out .exit) ≡ joinBuffer form1 (now (index .entry)) (now (recipes .entry)) (now (out .entry))) ⌝ }
 {
     match join::join(index, recipes, out) {
         spec::Outcome::Done(listed) => {
@@ -154,7 +164,11 @@ pub extern "C" fn vault_search(
     index_length: &mut u64,
     count: &mut u64,
 ) -> u8
-    ensures { λ r. ⌜ SearchCall (now (list .entry)) (now (store .entry)) (now (recipes .entry)) (now (index .entry)) (now (out .entry)) (now (index .exit)) (now (out .exit)) (now («index_length» .exit)) (now (count .exit)) r ⌝ }
+    ensures { λ r. ⌜ (r ≡ searchedCode (searchOutcome form1 (now (list .entry)) (now (store .entry)) (now (recipes .entry)) (length (now (index .entry))) (length (now (out .entry)))))
+        × (now («index_length» .exit) ≡ searchedSize (searchOutcome form1 (now (list .entry)) (now (store .entry)) (now (recipes .entry)) (length (now (index .entry))) (length (now (out .entry)))))
+        × (now (count .exit) ≡ searchedCount (searchOutcome form1 (now (list .entry)) (now (store .entry)) (now (recipes .entry)) (length (now (index .entry))) (length (now (out .entry)))))
+        × (now (index .exit) ≡ scanBuffer form1 (now (list .entry)) (now (store .entry)) (now (index .entry)))
+        × (now (out .exit) ≡ searchBuffer form1 (now (list .entry)) (now (store .entry)) (now (recipes .entry)) (length (now (index .entry))) (now (out .entry))) ⌝ }
 {
     match search::search(list, store, recipes, index, out) {
         spec::Searched::ScanRefused(code) => {

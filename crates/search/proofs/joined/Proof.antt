@@ -23,7 +23,7 @@ returns c =
     let called = c .before .before .before .before .before in
     let a = called .before .before .before .before .before .args in
     join-answered (now (a .index)) (now (a .recipes)) (now (a .out)) (called .join .last .1 .1 .0) (Refused (c .before .code .given .0 .0))
-    (called .join .result) (c .before .code .given .1) (called .join .ensures .answered) (called .join .ensures .listed)
+    (called .join .result) (c .before .code .given .1) (called .join .ensures .0) (called .join .ensures .1)
 
 same-length-2 : tie.Need-same-length-2
 same-length-2 c = search needs
@@ -33,7 +33,7 @@ returns-2 c =
     let called = c .before .before .before .before .before in
     let a = called .before .before .before .before .before .args in
     join-answered (now (a .index)) (now (a .recipes)) (now (a .out)) (called .join .last .1 .1 .0) (Done (c .before .count .given .0 .0))
-    (called .join .result) (c .before .count .given .1) (called .join .ensures .answered) (called .join .ensures .listed)
+    (called .join .result) (c .before .count .given .1) (called .join .ensures .0) (called .join .ensures .1)
 
 pub joined-spec : {M : Type 1} → statement M
 joined-spec =

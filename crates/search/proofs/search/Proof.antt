@@ -20,14 +20,14 @@ slice-reshare-prefix-joined c =
     let called = c .before .before .before .before .before in
     let a = called .before .before .before .before .before .before .before .args in
     front-room (now (a .list)) (now (a .store)) (now (a .recipes)) (now (a .index)) (now (a .out)) (c .before .n .given .0 .0)
-    (sym (called .scan .ensures .answer) ∙ c .before .n .given .1) (called .scan .last .1 .1 .0) (called .scan .ensures .buffer)
+    (sym (called .scan .ensures .0) ∙ c .before .n .given .1) (called .scan .last .1 .1 .0) (called .scan .ensures .1)
 
 slice-aggregate-joined : tie.Need-slice-aggregate-joined
 slice-aggregate-joined c =
     let called = c .before .before .before .before .before .before in
     let a = called .before .before .before .before .before .before .before .args in
     front-length (now (a .list)) (now (a .store)) (now (a .recipes)) (now (a .index)) (now (a .out)) (c .before .before .n .given .0 .0)
-    (sym (called .scan .ensures .answer) ∙ c .before .before .n .given .1) (called .scan .last .1 .1 .0) (called .scan .ensures .buffer)
+    (sym (called .scan .ensures .0) ∙ c .before .before .n .given .1) (called .scan .last .1 .1 .0) (called .scan .ensures .1)
 
 joined-requires : tie.Need-joined-requires
 joined-requires c κs = search needs
@@ -40,7 +40,7 @@ returns c =
     let called = c .before .before .before .before .before in
     let a = called .before .before .before .before .before .before .before .args in
     not-scanned (now (a .list)) (now (a .store)) (now (a .recipes)) (now (a .index)) (now (a .out)) (called .scan .last .1 .1 .0) (c .before .code .given .0 .0)
-    (called .scan .ensures .buffer) (sym (called .scan .ensures .answer) ∙ c .before .code .given .1)
+    (called .scan .ensures .1) (sym (called .scan .ensures .0) ∙ c .before .code .given .1)
 
 same-length-2 : tie.Need-same-length-2
 same-length-2 c = search needs
@@ -54,7 +54,7 @@ returns-2 c =
     let called = c .before .before .before .before .before .before .before .before .before .before in
     let a = called .before .before .before .before .before .before .before .args in
     scanned-joined (now (a .list)) (now (a .store)) (now (a .recipes)) (now (a .index)) (now (a .out)) (named .n .given .0 .0)
-    (sym (called .scan .ensures .answer) ∙ named .n .given .1) (called .scan .last .1 .1 .0) (called .scan .ensures .buffer)
+    (sym (called .scan .ensures .0) ∙ named .n .given .1) (called .scan .last .1 .1 .0) (called .scan .ensures .1)
     (c .before .before .joined .last .1 .1 .0) (c .before .before .joined .result) (c .before .before .joined .ensures)
 
 pub search-spec : {M : Type 1} → statement M

@@ -1,8 +1,7 @@
 -- `vault_count` meets its contract: the answer of `count`, case by case. Assumes nothing.
-use denote.Ref.{now}
 use Rattle.spec.specs.declared.Outcome.the-variants.{Done, Refused}
 use borrow.Author.Needs.{needs}
-use Rattle.vault_c.proofs.Answers.{count-call}
+use Rattle.vault_c.proofs.Answers.{told}
 use Rattle.vault_c.proofs.vault_count.Statement.{statement}
 use Rattle.vault_c.proofs.vault_count.Tie as tie
 
@@ -18,14 +17,12 @@ enum-known-code c = search needs
 returns : tie.Need-returns
 returns c =
     let called = c .before .before .before in
-    let a = called .before .before .before .args in
-    count-call (now (a .index)) (now (a .recipes)) (Done (c .before .counted .given .0 .0)) (called .count .result) (c .before .counted .given .1) (called .count .ensures)
+    told (Done (c .before .counted .given .0 .0)) (called .count .result) (c .before .counted .given .1) (called .count .ensures)
 
 returns-2 : tie.Need-returns-2
 returns-2 c =
     let called = c .before .before .before in
-    let a = called .before .before .before .args in
-    count-call (now (a .index)) (now (a .recipes)) (Refused (c .before .code .given .0 .0)) (called .count .result) (c .before .code .given .1) (called .count .ensures)
+    told (Refused (c .before .code .given .0 .0)) (called .count .result) (c .before .code .given .1) (called .count .ensures)
 
 pub vault-count-spec : {M : Type 1} → statement M
 vault-count-spec =

@@ -1,8 +1,7 @@
 -- `vault_scan` meets its contract: the answer of `scan`, case by case. Assumes nothing.
-use denote.Ref.{now}
 use Rattle.spec.specs.declared.Outcome.the-variants.{Done, Refused}
 use borrow.Author.Needs.{needs}
-use Rattle.vault_c.proofs.Answers.{scan-call}
+use Rattle.vault_c.proofs.Answers.{told-buffer}
 use Rattle.vault_c.proofs.vault_scan.Statement.{statement}
 use Rattle.vault_c.proofs.vault_scan.Tie as tie
 
@@ -21,9 +20,7 @@ same-length c = search needs
 returns : tie.Need-returns
 returns c =
     let called = c .before .before .before .before .before in
-    let a = called .before .before .before .before .before .args in
-    scan-call (now (a .list)) (now (a .store)) (now (a .out)) (called .scan .last .1 .1 .0) (Done (c .before .written .given .0 .0))
-    (called .scan .result) (c .before .written .given .1) (called .scan .ensures .answer) (called .scan .ensures .buffer)
+    told-buffer (Done (c .before .written .given .0 .0)) (called .scan .result) (c .before .written .given .1) (called .scan .ensures .0) (called .scan .ensures .1)
 
 same-length-2 : tie.Need-same-length-2
 same-length-2 c = search needs
@@ -31,9 +28,7 @@ same-length-2 c = search needs
 returns-2 : tie.Need-returns-2
 returns-2 c =
     let called = c .before .before .before .before .before in
-    let a = called .before .before .before .before .before .args in
-    scan-call (now (a .list)) (now (a .store)) (now (a .out)) (called .scan .last .1 .1 .0) (Refused (c .before .code .given .0 .0))
-    (called .scan .result) (c .before .code .given .1) (called .scan .ensures .answer) (called .scan .ensures .buffer)
+    told-buffer (Refused (c .before .code .given .0 .0)) (called .scan .result) (c .before .code .given .1) (called .scan .ensures .0) (called .scan .ensures .1)
 
 pub vault-scan-spec : {M : Type 1} → statement M
 vault-scan-spec =

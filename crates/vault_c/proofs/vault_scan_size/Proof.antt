@@ -1,8 +1,7 @@
 -- `vault_scan_size` meets its contract: the answer of `size`, case by case. Assumes nothing.
-use denote.Ref.{now}
 use Rattle.spec.specs.declared.Outcome.the-variants.{Done, Refused}
 use borrow.Author.Needs.{needs}
-use Rattle.vault_c.proofs.Answers.{size-call}
+use Rattle.vault_c.proofs.Answers.{told}
 use Rattle.vault_c.proofs.vault_scan_size.Statement.{statement}
 use Rattle.vault_c.proofs.vault_scan_size.Tie as tie
 
@@ -18,16 +17,12 @@ enum-known-code c = search needs
 returns : tie.Need-returns
 returns c =
     let called = c .before .before .before in
-    let a = called .before .before .before .args in
-    size-call (now (a .list)) (now (a .store)) (Done (c .before .needed .given .0 .0))
-    (called .size .result) (c .before .needed .given .1) (called .size .ensures)
+    told (Done (c .before .needed .given .0 .0)) (called .size .result) (c .before .needed .given .1) (called .size .ensures)
 
 returns-2 : tie.Need-returns-2
 returns-2 c =
     let called = c .before .before .before in
-    let a = called .before .before .before .args in
-    size-call (now (a .list)) (now (a .store)) (Refused (c .before .code .given .0 .0))
-    (called .size .result) (c .before .code .given .1) (called .size .ensures)
+    told (Refused (c .before .code .given .0 .0)) (called .size .result) (c .before .code .given .1) (called .size .ensures)
 
 pub vault-scan-size-spec : {M : Type 1} → statement M
 vault-scan-size-spec =

@@ -2,7 +2,7 @@
 use denote.Ref.{now}
 use Rattle.spec.specs.declared.Searched.the-variants.{ScanRefused, JoinRefused, Found}
 use borrow.Author.Needs.{needs}
-use Rattle.vault_c.proofs.Answers.{search-call}
+use Rattle.vault_c.proofs.Answers.{told-search}
 use Rattle.vault_c.proofs.vault_search.Statement.{statement}
 use Rattle.vault_c.proofs.vault_search.Tie as tie
 
@@ -28,10 +28,10 @@ returns : tie.Need-returns
 returns c =
     let called = c .before .before .before .before .before .before .before in
     let a = called .before .before .before .before .before .before .before .before .args in
-    search-call (now (a .list)) (now (a .store)) (now (a .recipes)) (now (a .index)) (now (a .out))
+    told-search (now (a .list)) (now (a .store)) (now (a .recipes)) (now (a .index)) (now (a .out))
     (called .search .last .1 .1 .1 .0) (called .search .last .1 .1 .1 .1 .0)
-    (ScanRefused (c .before .code .given .0 .0)) (called .search .result) (c .before .code .given .1) (called .search .ensures .answered)
-    (called .search .ensures .scanned) (called .search .ensures .listed)
+    (ScanRefused (c .before .code .given .0 .0)) (called .search .result) (c .before .code .given .1) (called .search .ensures .0)
+    (called .search .ensures .1) (called .search .ensures .2)
 
 same-length-3 : tie.Need-same-length-3
 same-length-3 c = search needs
@@ -43,10 +43,10 @@ returns-2 : tie.Need-returns-2
 returns-2 c =
     let called = c .before .before .before .before .before .before .before in
     let a = called .before .before .before .before .before .before .before .before .args in
-    search-call (now (a .list)) (now (a .store)) (now (a .recipes)) (now (a .index)) (now (a .out))
+    told-search (now (a .list)) (now (a .store)) (now (a .recipes)) (now (a .index)) (now (a .out))
     (called .search .last .1 .1 .1 .0) (called .search .last .1 .1 .1 .1 .0)
-    (JoinRefused (c .before .written .given .0 .0) (c .before .written .given .0 .1 .0)) (called .search .result) (c .before .written .given .1) (called .search .ensures .answered)
-    (called .search .ensures .scanned) (called .search .ensures .listed)
+    (JoinRefused (c .before .written .given .0 .0) (c .before .written .given .0 .1 .0)) (called .search .result) (c .before .written .given .1) (called .search .ensures .0)
+    (called .search .ensures .1) (called .search .ensures .2)
 
 same-length-5 : tie.Need-same-length-5
 same-length-5 c = search needs
@@ -58,10 +58,10 @@ returns-3 : tie.Need-returns-3
 returns-3 c =
     let called = c .before .before .before .before .before .before .before in
     let a = called .before .before .before .before .before .before .before .before .args in
-    search-call (now (a .list)) (now (a .store)) (now (a .recipes)) (now (a .index)) (now (a .out))
+    told-search (now (a .list)) (now (a .store)) (now (a .recipes)) (now (a .index)) (now (a .out))
     (called .search .last .1 .1 .1 .0) (called .search .last .1 .1 .1 .1 .0)
-    (Found (c .before .size .given .0 .0) (c .before .size .given .0 .1 .0)) (called .search .result) (c .before .size .given .1) (called .search .ensures .answered)
-    (called .search .ensures .scanned) (called .search .ensures .listed)
+    (Found (c .before .size .given .0 .0) (c .before .size .given .0 .1 .0)) (called .search .result) (c .before .size .given .1) (called .search .ensures .0)
+    (called .search .ensures .1) (called .search .ensures .2)
 
 pub vault-search-spec : {M : Type 1} → statement M
 vault-search-spec =
