@@ -119,7 +119,7 @@ pub fn scan(list: &[u8], store: &[u8], out: &mut [u8]) -> spec::Outcome
         return spec::Outcome::Refused(9);
     }
     if 4294967295 < len {
-        return spec::Outcome::Refused(9);
+        return spec::Outcome::Refused(9); // offsets are fields of 32 bits
     }
     put_index(out, list, store);
     spec::Outcome::Done(len)
