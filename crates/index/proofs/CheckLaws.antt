@@ -7,8 +7,7 @@ use Prim.Native.Nat.{ℕ, zero, suc, _+_, _-_, _≤_, _<_}
 use native.Mathlib.Omega.{arith}
 use borrow.Author.Tests.{lt-ltb}
 use lib.Dec.{ltb}
-use lib.ListN.{length, take, drop, getD, length-map, length-drop, List·getD-map}
-use lib.Seq.{ext-getD, getD-take, length-take-le}
+use lib.ListN.{length, take, drop, replicate, length-map}
 use Rattle.spec.specs.Bytes.{same, twice}
 use Rattle.spec.specs.Keywords.{keywordsOf, keywordFrontCode}
 use Rattle.spec.specs.Directory.{directoryEnd, entriesCode}
@@ -16,7 +15,10 @@ use Rattle.spec.specs.Store.{chunkCount}
 use Rattle.spec.specs.Records.{form1}
 use Rattle.spec.specs.Index.{listIn, indexLayout, indexKeys, lengthsIn, allGood, indexCode}
 use Rattle.spec.proofs.KeywordLaws.{accepted}
-use Rattle.keywords.specs.Parsed.{Parsed}
+use Rattle.spec.proofs.Splices.{splice-read}
+use Rattle.keywords.specs.declared.Keywords.{Keywords}
+use Rattle.keywords.specs.Parsed.{parsedOf, Parsed}
+use Rattle.keywords.proofs.Reading.{parsed}
 use Rattle.bodies.proofs.Turns.{behind}
 use Rattle.directory.specs.Chains.{Built}
 use Rattle.index.specs.Stages.{headerCode, directoryCode, Opened, Lens, Examined}
@@ -110,46 +112,39 @@ module _ (index : List ℕ) where
 pub refused-with : (index : List ℕ) (code : ℕ) {heads chain : List ℕ} → code ≡ indexCode form1 index → code ≢ 0 → Examined index heads chain code
 refused-with index code e d = record { number = e; chains = λ z. absurd (d z) }
 
--- ---- what the keyword list's arrays say of the index
+-- ---- what the keyword list's struct says of the index
 
 -- the list is what is behind the first 8 bytes
 pub list-is : (index : List ℕ) → take (length index - 8) (drop 8 index) ≡ listIn index
 list-is index = behind index 8
 
-module _ (index : List ℕ) (words flag size most : ℕ) (start len : List ℕ) (p : Parsed (take (length index - 8) (drop 8 index)) words flag size most start len) where
-  parsed : Parsed (listIn index) words flag size most start len
-  parsed = subst (λ (l : List ℕ). Parsed l words flag size most start len) (list-is index) p
+module _ (index : List ℕ) (words : Keywords) (good : keywordFrontCode (listIn index) ≡ 0) (p : words ≡ parsedOf (take (length index - 8) (drop 8 index))) where
+  is-parsed : words ≡ parsedOf (listIn index)
+  is-parsed = p ∙ ap parsedOf (list-is index)
 
-  pub size-short : size ≤ 530
-  size-short = parsed .short
+  pub listed : Parsed (listIn index) words
+  listed = parsed (listIn index) words (record { accepted = good; parsed = is-parsed })
 
-  pub opened : (count : ℕ) → headerCode index ≡ 0 → count ≡ chunkCount index → Opened index (8 + size) count
+  pub opened : (count : ℕ) → headerCode index ≡ 0 → count ≡ chunkCount index → Opened index (8 + words .size) count
   opened count h c = record {
     header = header-passed index h .0;
     counts = c;
     few = rw c (header-passed index h .1);
-    starts = ap (λ (s : ℕ). 8 + s) (parsed .ends);
-    short = omega (arith, size-short);
+    starts = ap (λ (s : ℕ). 8 + s) (listed .ends);
+    short = omega (arith, listed .short);
   }
 
-  -- keyword k's length
-  len-at : keywordFrontCode (listIn index) ≡ 0 → (k : ℕ) → k < words → getD len k 0 ≡ getD (map length (keywordsOf (listIn index))) k 0
-  len-at e k h =
-      let q = parsed .placed k h in
-      let s : length (drop (getD start k 0) (listIn index)) ≡ length (listIn index) - getD start k 0 = length-drop (getD start k 0) (listIn index) in
-      let r : getD start k 0 + getD len k 0 ≤ length (listIn index) = omega (arith, q .room, parsed .ends, parsed .room) in
-      sym (length-take-le (getD len k 0) (drop (getD start k 0) (listIn index)) (omega arith)) ∙ ap length (q .bytes) ∙ sym (List·getD-map length (keywordsOf (listIn index)) k [])
+  -- as many lengths as keywords are all of them
+  lengths : take (words .count) (words .len) ≡ map length (keywordsOf (listIn index))
+  unfolding parsedOf
+  lengths =
+      let n : words .count ≡ length (map length (keywordsOf (listIn index))) = omega (arith, listed .counts, accepted (listIn index) good .count, length-map (keywordsOf (listIn index)) length) in
+      rw (n, is-parsed) (splice-read (replicate 16 0) 0 (map length (keywordsOf (listIn index))) (omega arith))
 
-  pub lens : keywordFrontCode (listIn index) ≡ 0 → Lens index words len
+  pub lens : Lens index (words .count) (words .len)
   unfolding lengthsIn
-  lens e = record {
-    are = ext-getD 0 (take words len) (map length (keywordsOf (listIn index))) long (λ k h. let l : k < words = omega (arith, short) in getD-take words len k 0 l ∙ len-at e k l);
-    room = omega (arith, parsed .lens, parsed .few);
-    each = λ k h. (parsed .placed k h .some, parsed .placed k h .most);
+  lens = record {
+    are = lengths;
+    room = omega (arith, listed .lens, listed .few);
+    each = λ k h. (listed .placed k h .some, listed .placed k h .most);
   }
-    where
-      short : length (take words len) ≡ words
-      short = length-take-le words len (omega (arith, parsed .lens, parsed .few))
-
-      long : length (take words len) ≡ length (map length (keywordsOf (listIn index)))
-      long = short ∙ parsed .counts ∙ sym (accepted (listIn index) e .count) ∙ sym (length-map (keywordsOf (listIn index)) length)

@@ -22,7 +22,8 @@ use Rattle.spec.proofs.KeywordLaws.{accepted}
 use Rattle.spec.proofs.IndexChecks.{index-good, length-indexKeys}
 use Rattle.directory.specs.Chains.{keysFrom, Lies}
 use Rattle.directory.specs.Slices.{SliceOf}
-use Rattle.keywords.specs.Parsed.{Parsed}
+use Rattle.keywords.specs.declared.Keywords.{Keywords}
+use Rattle.keywords.specs.Parsed.{parsedOf}
 use Rattle.index.specs.Stages.{Opened, EntryOf}
 use Rattle.index.proofs.StageLaws.{keys-are, field-is, end-is}
 use Rattle.index.proofs.CheckLaws.{list-is}
@@ -36,9 +37,12 @@ module _ (index : List ℕ) (z : indexCode form1 index ≡ 0) where
   pub list-good : keywordFrontCode (take (length index - 8) (drop 8 index)) ≡ 0
   list-good = ap keywordFrontCode (list-is index) ∙ index-good form1 index z .list
 
-  pub start-is : (words flag size most : ℕ) (start len : List ℕ) → Parsed (take (length index - 8) (drop 8 index)) words flag size most start len
-      → 8 + size ≡ 8 + listSize (listIn index)
-  start-is words flag size most start len p = ap (λ (s : ℕ). 8 + s) (p .ends ∙ ap listSize (list-is index))
+  pub list-short : listSize (listIn index) ≤ 530
+  list-short = accepted (listIn index) (index-good form1 index z .list) .short
+
+  pub start-is : (words : Keywords) → words ≡ parsedOf (take (length index - 8) (drop 8 index)) → 8 + words .size ≡ 8 + listSize (listIn index)
+  unfolding parsedOf
+  start-is words p = ap (λ (w : Keywords). 8 + w .size) (p ∙ ap parsedOf (list-is index))
 
   module _ (start count : ℕ) (s : start ≡ 8 + listSize (listIn index)) (c : count ≡ chunkCount index) where
     pub opened-again : Opened index start count
@@ -47,7 +51,7 @@ module _ (index : List ℕ) (z : indexCode form1 index ≡ 0) where
       counts = c;
       few = rw c (index-good form1 index z .few);
       starts = s;
-      short = omega (arith, accepted (listIn index) (index-good form1 index z .list) .short);
+      short = omega (arith, list-short);
     }
 
     pub lies-in : Lies index start 32 count

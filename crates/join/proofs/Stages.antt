@@ -15,9 +15,10 @@ use Rattle.spec.proofs.Codes.{refused-whole, next-whole, last-whole}
 use Rattle.spec.proofs.KeywordLaws.{accepted, folded-count}
 use Rattle.spec.proofs.IndexChecks.{IndexGood, index-good}
 use Rattle.spec.proofs.JoinIsSearch.{longest-at}
-use Rattle.keywords.specs.Parsed.{Parsed}
+use Rattle.keywords.specs.declared.Keywords.{Keywords}
+use Rattle.keywords.specs.Parsed.{parsedOf, Reads, Parsed}
 use Rattle.directory.specs.Chains.{Chained}
-use Rattle.index.proofs.CheckLaws.{list-is}
+use Rattle.index.proofs.CheckLaws.{list-is, listed}
 use Rattle.files.proofs.OfIndex.{index-keys}
 use Rattle.tables.specs.Tabled.{Tabled}
 use Rattle.join.specs.Joining.{Prepared, Joinable, allFilesCode, Surveyed, Planned}
@@ -62,27 +63,33 @@ module _ (index : List ℕ) (i : indexCode form1 index ≡ 0) where
   pub list-good : keywordFrontCode (take (length index - 8) (drop 8 index)) ≡ 0
   list-good = ap keywordFrontCode (list-is index) ∙ good .list
 
-  module _ (count flag size most : ℕ) (start len : List ℕ) (p : Parsed (take (length index - 8) (drop 8 index)) count flag size most start len) where
-    parsed : Parsed (listIn index) count flag size most start len
-    parsed = subst (λ (l : List ℕ). Parsed l count flag size most start len) (list-is index) p
+  module _ (words : Keywords) (p : words ≡ parsedOf (take (length index - 8) (drop 8 index))) where
+    pub reads : Reads (take (length index - 8) (drop 8 index)) words
+    reads = record { accepted = list-good; parsed = p }
 
-    starts : 8 + size ≡ 8 + listSize (listIn index)
-    starts = ap (λ (s : ℕ). 8 + s) (parsed .ends)
+    read : Parsed (listIn index) words
+    read = listed index words (good .list) p
+
+    starts : 8 + words .size ≡ 8 + listSize (listIn index)
+    starts = ap (λ (s : ℕ). 8 + s) (read .ends)
+
+    pub size-short : words .size ≤ 530
+    size-short = read .short
 
     -- some keyword is there, and has a byte
-    pub some-long : 1 ≤ most
+    pub some-long : 1 ≤ words .most
     some-long =
         let a = accepted (listIn index) (good .list) in
-        let l : length (getD (keywordsOf (listIn index)) 0 []) ≤ most = rw (parsed .longer) (longest-at (keywordsOf (listIn index)) 0 (omega (arith, a .count, a .some))) in
+        let l : length (getD (keywordsOf (listIn index)) 0 []) ≤ words .most = rw (read .longer) (longest-at (keywordsOf (listIn index)) 0 (omega (arith, a .count, a .some))) in
         omega (arith, a .proper 0 (omega (arith, a .some)) .0)
 
-    pub due-is : most - 1 ≡ due form1 (listIn index)
+    pub due-is : words .most - 1 ≡ due form1 (listIn index)
     unfolding due
-    due-is = ap (λ (m : ℕ). m - 1) (parsed .longer)
+    due-is = ap (λ (m : ℕ). m - 1) (read .longer)
 
     -- all files can be walked
     pub joinable : (recipes heads chain : List ℕ) (entries : ℕ) (tables : List (List (List ℕ))) → recipesCode recipes ≡ 0 → entries ≡ chunkCount index → Chained (indexKeys index) 0 heads chain
-        → Tabled (foldedKeywords (take (length index - 8) (drop 8 index))) tables → Joinable index recipes (8 + size) entries heads chain count tables
+        → Tabled (foldedKeywords (take (length index - 8) (drop 8 index))) tables → Joinable index recipes (8 + words .size) entries heads chain (words .count) tables
     joinable recipes heads chain entries tables r c l t =
         record {
           named = r;
@@ -90,12 +97,12 @@ module _ (index : List ℕ) (i : indexCode form1 index ≡ 0) where
             good = i;
             start = starts;
             counts = c;
-            chained = subst (λ (k : List (List ℕ)). Chained k 0 heads chain) (sym (index-keys index (8 + size) entries starts c)) l;
+            chained = subst (λ (k : List (List ℕ)). Chained k 0 heads chain) (sym (index-keys index (8 + words .size) entries starts c)) l;
           };
           keyed = record {
-            counts = parsed .counts ∙ sym (accepted (listIn index) (good .list) .count) ∙ sym (folded-count (listIn index));
-            some = parsed .some;
-            few = parsed .few;
+            counts = read .counts ∙ sym (accepted (listIn index) (good .list) .count) ∙ sym (folded-count (listIn index));
+            some = read .some;
+            few = read .few;
             tabled = subst (λ (l : List ℕ). Tabled (foldedKeywords l) tables) (list-is index) t;
           };
         }

@@ -14,7 +14,9 @@ use Rattle.spec.specs.Outcome.{firstOf}
 use Rattle.spec.specs.Keywords.{countOf, flagOf, listSize, keywordsOf, foldedKeywords, readCode, headerWrong, frontTests, keywordCode, keywordFrontCode}
 use Rattle.spec.proofs.Codes.{last-whole, refused-whole, passed, passed-whole, or-left, or-right}
 use Rattle.spec.proofs.KeywordLaws.{read-count}
-use Rattle.keywords.specs.Parsed.{Readable, Places, Parsed}
+use Rattle.keywords.specs.declared.Keywords.{Keywords}
+use Rattle.keywords.specs.Parsed.{parsedOf, Readable, Places}
+use Rattle.keywords.proofs.Reading.{parsed-readable}
 
 module _ (list : List ℕ) (count k at : ℕ) (turn : k < count) where
   abbrev left : ℕ
@@ -110,13 +112,16 @@ module _ (list : List ℕ) (code : ℕ) (e : code ≡ firstOf (frontTests list))
   pub whole-refused : (code ≡ 0 → ⊥) → code ≡ keywordCode list
   whole-refused h = refused-whole code _ h ∙ sym whole-code
 
-  pub whole-rest : code ≡ 0 → (size : ℕ) → size ≡ listSize list → (t : Bool) → t ≡ twice (foldedKeywords list) → cond (ltb size (length list)) 1 (cond t 4 0) ≡ keywordCode list
-  whole-rest z size e t d = sym (whole-code ∙ rw (z, ← e, ← d))
+  pub whole-rest : code ≡ 0 → (words : Keywords) → words ≡ parsedOf list → (t : Bool) → t ≡ twice (foldedKeywords list)
+      → cond (ltb (words .size) (length list)) 1 (cond t 4 0) ≡ keywordCode list
+  unfolding parsedOf
+  whole-rest z words p t d = sym (whole-code ∙ rw (z, p, ← d))
 
 -- a list that was split has its places
-pub places : (list : List ℕ) (count flag size most : ℕ) (start len : List ℕ) → Readable list → Parsed list count flag size most start len → Places list flag count start len
+pub places : (list : List ℕ) (words : Keywords) → Readable list → words ≡ parsedOf list → Places list (words .flag) (words .count) (words .start) (words .len)
 unfolding keywordsOf
-places list count flag size most start len r p =
+places list words r e =
+    let p = parsed-readable list r words e in
     record {
       flags = p .flags;
       few = p .few;

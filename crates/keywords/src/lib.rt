@@ -6,7 +6,7 @@ ghost use lib.ListN.{length, drop, getD};
 ghost use Rattle.spec.specs.Bytes.{same, contains, twice};
 ghost use Rattle.spec.specs.Outcome.{firstOf};
 ghost use Rattle.spec.specs.Keywords.{foldByte, folded, foldedKeywords, readCode, frontTests, keywordCode, keywordFrontCode};
-ghost use Rattle.keywords.specs.Parsed.{Readable, Places, Parsed};
+ghost use Rattle.keywords.specs.Parsed.{Readable, Places, parsedOf};
 
 // The byte as it compares.
 pub fn fold(flag: u8, b: u8) -> u8
@@ -47,7 +47,7 @@ fn larger(a: usize, b: usize) -> usize
 // Splits a list that reads without fault, whether or not keywords are alike.
 fn split(list: &[u8]) -> Keywords
     requires { ⌜ Readable (now list) ⌝ }
-    ensures { λ r. ⌜ Parsed (now (list .entry)) (r .count) (r .flag) (r .size) (r .most) (r .start) (r .len) ⌝ }
+    ensures { λ r. ⌜ r ≡ parsedOf (now (list .entry)) ⌝ }
 {
     let count = list[0] as usize;
     let mut start = [0usize; 16];
@@ -76,7 +76,7 @@ fn split(list: &[u8]) -> Keywords
 // Splits a list that the keyword check accepts, left-over bytes or not.
 pub fn parse(list: &[u8]) -> Keywords
     requires { ⌜ keywordFrontCode (now list) ≡ 0 ⌝ }
-    ensures { λ r. ⌜ Parsed (now (list .entry)) (r .count) (r .flag) (r .size) (r .most) (r .start) (r .len) ⌝ }
+    ensures { λ r. ⌜ r ≡ parsedOf (now (list .entry)) ⌝ }
 {
     split(list)
 }

@@ -19,8 +19,9 @@ use borrow.Rule.Slice.PartMut.{midOf, putMid}
 use Rattle.spec.proofs.RecordLaws.{written-empty, written-tiny, written-full}
 use Rattle.spec.proofs.KeywordLaws.{accepted, folded-count, folded-keyword}
 use Rattle.keywords.specs.declared.Keywords.{Keywords}
-use Rattle.keywords.specs.Parsed.{Placed}
-use Rattle.matcher.specs.Summaries.{Reads, Wrote}
+use Rattle.keywords.specs.Parsed.{Reads, Placed, Parsed}
+use Rattle.keywords.proofs.Reading.{parsed}
+use Rattle.matcher.specs.Summaries.{Wrote}
 use Rattle.matcher.proofs.Offsets.{offsets-all, offsets-length}
 use Rattle.matcher.proofs.Shapes.{size-one, size-two, size-three}
 
@@ -103,14 +104,17 @@ body-turn out last at v rest h e = rw (splice-tail at out last v h e) (splice-sp
 -- ---- what a list that was read says of keyword k
 
 module _ (list : List ℕ) (words : Keywords) (r : Reads list words) (k : ℕ) (h : k < words .count) where
+  read : Parsed list words
+  read = parsed list words r
+
   pub few : k < 16
-  few = omega (arith, r .parsed .few)
+  few = omega (arith, read .few)
 
   pub place : Placed list k (getD (words .start) k 0) (getD (words .len) k 0)
-  place = r .parsed .placed k h
+  place = read .placed k h
 
   pub within : getD (words .start) k 0 + getD (words .len) k 0 ≤ length list
-  within = omega (arith, place .room, r .parsed .ends, r .parsed .room)
+  within = omega (arith, place .room, read .ends, read .room)
 
   -- the keyword as the code hands it on
   abbrev pub keyword : List ℕ
@@ -122,11 +126,11 @@ module _ (list : List ℕ) (words : Keywords) (r : Reads list words) (k : ℕ) (
   pub next-record : (f : Form) (chunk : List ℕ)
       → bodyRest f list chunk k ≡ recordBytes f (length keyword) k (recordOf (folded (words .flag) keyword) (folded (words .flag) chunk)) ++ bodyRest f list chunk (k + 1)
   next-record f chunk =
-      rest-word f list chunk (r .accepted) k (getD (words .start) k 0) (getD (words .len) k 0) (words .count) (words .flag) place (r .parsed .counts) (r .parsed .flags) h
+      rest-word f list chunk (r .accepted) k (getD (words .start) k 0) (getD (words .len) k 0) (words .count) (words .flag) place (read .counts) (read .flags) h
 
 -- behind the last keyword nothing is left
 pub no-record : (list : List ℕ) (words : Keywords) → Reads list words → (f : Form) (chunk : List ℕ) (k : ℕ) → words .count ≤ k → bodyRest f list chunk k ≡ []
-no-record list words r f chunk k h = rest-ended f list chunk (r .accepted) k (words .count) (r .parsed .counts) h
+no-record list words r f chunk k h = rest-ended f list chunk (r .accepted) k (words .count) (parsed list words r .counts) h
 
 -- a record written into the part from `at` on, as the writer promises it
 pub record-turn : (out last whole : List ℕ) (at end : ℕ) (v rest here : List ℕ) → here ≡ v ++ rest → at + length v ≤ length out → Wrote (midOf at (length out - at) out) 0 v last end

@@ -6,10 +6,9 @@ use Prim.Native.Nat.{ℕ, _+_, _-_, _≤_, _<_, min}
 use lib.ListN.{length, getD}
 use Rattle.spec.specs.Bytes.{leBytes, splice, occursAt, each, keep}
 use Rattle.spec.specs.Records.{Form, MatchRecord, form1, kindOf, recordOf, fullBytes, recordBytes}
-use Rattle.spec.specs.Keywords.{keywordFrontCode}
 use Rattle.spec.specs.Scan.{scanBody}
 use Rattle.keywords.specs.declared.Keywords.{Keywords}
-use Rattle.keywords.specs.Parsed.{Parsed}
+use Rattle.keywords.specs.Parsed.{Reads}
 use Rattle.matcher.specs.declared.Summary.{Summary}
 
 -- The offsets from `from` on: with 0 these are the record's.
@@ -46,11 +45,6 @@ pub record CanPut (buffer : List ℕ) (k n : ℕ) (m : MatchRecord) : Type 0 whe
   pub room : length (recordBytes form1 n k m) ≤ length buffer
 
 -- ---- bodies
-
--- The struct has where an accepted list has its keywords.
-pub record Reads (list : List ℕ) (words : Keywords) : Type 0 where
-  pub accepted : keywordFrontCode list ≡ 0
-  pub parsed : Parsed list (words .count) (words .flag) (words .size) (words .most) (words .start) (words .len)
 
 -- What measuring a body asks: the list is read, and the chunk is not longer than chunks are.
 pub record CanSize (list : List ℕ) (words : Keywords) (chunk : List ℕ) : Type 0 where

@@ -3,7 +3,7 @@
 ghost use mathlib.Core.Path.{_≡_};
 ghost use Prim.Native.Nat.{ℕ, _+_, _*_, _≤_, _<_, min};
 ghost use lib.ListN.{length, getD};
-ghost use Rattle.spec.specs.Bytes.{fieldsBytes, occursAt};
+ghost use Rattle.spec.specs.Bytes.{fieldsBytes, occursAt, written};
 ghost use Rattle.spec.specs.Keywords.{folded};
 ghost use Rattle.spec.specs.Records.{MatchRecord, reach, prefixOf, suffixOf, recordOf, form1, isEmpty, isTiny, kindOf, tinyBytes, fullBytes, recordBytes};
 ghost use Rattle.matcher.specs.Summaries.{offsetsFrom, summaryOf, headBytes, Wrote, CanPutFull, CanPut, CanSize, CanPutBody};
@@ -359,7 +359,7 @@ pub fn body_size(list: &[u8], words: keywords::Keywords, chunk: &[u8]) -> usize
 // Writes the chunk's body at the buffer's start.
 pub fn put_body(out: &mut [u8], list: &[u8], words: keywords::Keywords, chunk: &[u8]) -> usize
     requires { ⌜ CanPutBody (now out) (now list) words (now chunk) ⌝ }
-    ensures { λ r. ⌜ Wrote (now (out .entry)) 0 (scanBody form1 (now (list .entry)) (now (chunk .entry))) (now (out .exit)) r ⌝ }
+    ensures { λ r. ⌜ (now (out .exit) ≡ written (now (out .entry)) (scanBody form1 (now (list .entry)) (now (chunk .entry)))) × (r ≡ length (scanBody form1 (now (list .entry)) (now (chunk .entry)))) ⌝ }
 {
     let start = words.start;
     let len = words.len;

@@ -2,18 +2,16 @@
 use mathlib.Core.Path.{_≡_, sym, ap, _∙_}
 use mathlib.Core.List.{List, [], _++_}
 use Prim.Native.Nat.{ℕ, _+_, _*_, _-_, _≤_, _<_}
-use native.Mathlib.Nat.{zero-add}
 use native.Mathlib.Omega.{arith}
 use lib.ListN.{length, getD, length-append}
 use borrow.Rule.Slice.PartMut.{midOf, putMid}
-use Rattle.spec.specs.Bytes.{leBytes, splice}
+use Rattle.spec.specs.Bytes.{leBytes, splice, written}
 use Rattle.spec.specs.Store.{storeKeys, chunkCount, chunkAt, storeCode}
 use Rattle.spec.specs.Records.{form1}
 use Rattle.spec.specs.Scan.{scanBody}
 use Rattle.spec.proofs.Fields.{length-leBytes}
 use Rattle.spec.proofs.Splices.{splice-nil, splice-then, splice-splice}
 use Rattle.spec.proofs.StoreLaws.{store-good, chunk-length}
-use Rattle.matcher.specs.Summaries.{Wrote}
 use Rattle.scan.specs.Layout.{bodiesFrom, entryBytes, tailBytes}
 use Rattle.scan.proofs.Regions.{two-regions}
 use Rattle.scan.proofs.Parts.{body, bodies-step, bodies-end, entry, directoryFrom, directory-step, directory-end, directory-length, entry-length}
@@ -79,18 +77,18 @@ module _ (list store : List ℕ) (good : storeCode store ≡ 0) where
     entry-is n = rw (isKey, isChunk, n, chunk-length store (store-good store good) k l)
 
     pub regions-turn : (out last out₂ whole : List ℕ) → place (chunkCount store) ≤ at → at + length (body form1 list store k) ≤ length out
-        → Wrote (midOf at (length out - at) out) 0 (scanBody form1 list chunk) last len
+        → last ≡ written (midOf at (length out - at) out) (scanBody form1 list chunk) → len ≡ length (scanBody form1 list chunk)
         → out₂ ≡ splice (putMid at (length out - at) out last) (place k) (entryBytes key (length chunk) at len)
         → splice (splice out (place k) (dr at k)) at (br k) ≡ whole
         → splice (splice out₂ (place (k + 1)) (dr (at + len) (k + 1))) (at + len) (br (k + 1)) ≡ whole
-    regions-turn out last out₂ whole h room w p e =
+    regions-turn out last out₂ whole h room w m p e =
         let b = body form1 list store k in
-        let n : len ≡ length b = w .ends ∙ zero-add (length (scanBody form1 list chunk)) ∙ ap length body-is in
+        let n : len ≡ length b = m ∙ ap length body-is in
         let ds = directory-step form1 list store at k l in
         let d : place (k + 1) ≡ place k + length (entry form1 list store at k) = omega (arith, entry-length form1 list store good at k l) in
         let fits : place k + length (entry form1 list store at k ++ dr (at + length b) (k + 1)) ≤ at = omega (arith, ap length ds, directory-length form1 list store good at k) in
         let t = two-regions out last out₂ whole (place k) at (entry form1 list store at k) (dr (at + length b) (k + 1)) b (br (k + 1)) fits room
-        (w .written ∙ ap (splice (midOf at (length out - at) out) 0) body-is)
+        (w ∙ ap (splice (midOf at (length out - at) out) 0) body-is)
         (p ∙ ap (splice (putMid at (length out - at) out last) (place k)) (entry-is n))
         (rw (ds, bodies-step form1 list store k l) at e) in
         rw (d, n) t

@@ -9,7 +9,7 @@ use Rattle.spec.specs.Records.{Form, form1}
 use Rattle.spec.specs.Index.{Entry, directoryBytes}
 use Rattle.spec.specs.Scan.{scanEntry, scanIndex, scannableCode}
 use Rattle.keywords.specs.declared.Keywords.{Keywords}
-use Rattle.matcher.specs.Summaries.{Reads}
+use Rattle.keywords.specs.Parsed.{Reads}
 
 -- The entries from chunk k on, and their bodies.
 abbrev pub entriesFrom : Form → List ℕ → List ℕ → ℕ → List Entry

@@ -20,6 +20,7 @@ use Rattle.spec.proofs.Point.{starts, crosses-split}
 use Rattle.spec.proofs.Stream.{cell-edge}
 use Rattle.spec.proofs.Sets.{set-lt}
 use Rattle.spec.proofs.KeywordLaws.{folded-count, folded-keyword}
+use Rattle.keywords.specs.declared.Keywords.{Keywords}
 use Rattle.keywords.specs.Parsed.{Parsed}
 use Rattle.tables.specs.Tabled.{cellSet, TableOf, Tabled}
 
@@ -91,24 +92,24 @@ read-few zero bytes = omega arith
 read-few (suc count) [] = omega arith
 read-few (suc count) (n ∷ bytes) = omega (arith, read-few count (drop n bytes))
 
-module _ (list : List ℕ) (count flag size most : ℕ) (start len : List ℕ) (p : Parsed list count flag size most start len) where
-  few : (k : ℕ) → k < length (foldedKeywords list) → k < count
+module _ (list : List ℕ) (words : Keywords) (p : Parsed list words) where
+  few : (k : ℕ) → k < length (foldedKeywords list) → k < words .count
   unfolding keywordsOf
   few k h = omega (arith, folded-count list, read-few (countOf list) (drop 2 list), p .counts)
 
-  pub placed-room : (k : ℕ) → k < count → getD start k 0 + getD len k 0 ≤ length list
+  pub placed-room : (k : ℕ) → k < words .count → getD (words .start) k 0 + getD (words .len) k 0 ≤ length list
   placed-room k h = omega (arith, p .placed k h .room, p .ends, p .room)
 
-  pub placed-length : (k : ℕ) → k < count → length (part list (getD start k 0) (getD len k 0)) ≤ 32
-  placed-length k h = omega (arith, length-take (getD len k 0) (drop (getD start k 0) list), p .placed k h .most)
+  pub placed-length : (k : ℕ) → k < words .count → length (part list (getD (words .start) k 0) (getD (words .len) k 0)) ≤ 32
+  placed-length k h = omega (arith, length-take (getD (words .len) k 0) (drop (getD (words .start) k 0) list), p .placed k h .most)
 
   -- the keyword as it compares
-  placed-is : (k : ℕ) → k < count → folded flag (part list (getD start k 0) (getD len k 0)) ≡ keywordAt (foldedKeywords list) k
+  placed-is : (k : ℕ) → k < words .count → folded (words .flag) (part list (getD (words .start) k 0) (getD (words .len) k 0)) ≡ keywordAt (foldedKeywords list) k
   placed-is k h = rw (p .flags, p .placed k h .bytes) (sym (folded-keyword list k))
 
-  pub all-tables : (tables : List (List (List ℕ))) → ((k : ℕ) → k < count → TableOf (folded flag (part list (getD start k 0) (getD len k 0))) (getD tables k [])) → Tabled (foldedKeywords list) tables
+  pub all-tables : (tables : List (List (List ℕ))) → ((k : ℕ) → k < words .count → TableOf (folded (words .flag) (part list (getD (words .start) k 0) (getD (words .len) k 0))) (getD tables k [])) → Tabled (foldedKeywords list) tables
   all-tables tables t =
       record {
-        short = λ k h. omega (arith, ap length (placed-is k (few k h)), folded-length flag (part list (getD start k 0) (getD len k 0)), placed-length k (few k h));
+        short = λ k h. omega (arith, ap length (placed-is k (few k h)), folded-length (words .flag) (part list (getD (words .start) k 0) (getD (words .len) k 0)), placed-length k (few k h));
         table = λ k h. subst (λ (w : List ℕ). TableOf w (getD tables k [])) (placed-is k (few k h)) (t k (few k h));
       }

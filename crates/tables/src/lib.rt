@@ -5,7 +5,7 @@ ghost use Prim.Native.Nat.{_+_, _≤_, _<_};
 ghost use lib.ListN.{length};
 ghost use Rattle.spec.specs.Keywords.{folded, foldedKeywords};
 ghost use Rattle.spec.specs.Table.{inCell};
-ghost use Rattle.keywords.specs.Parsed.{Parsed};
+ghost use Rattle.keywords.specs.Parsed.{Reads};
 ghost use Rattle.tables.specs.Tabled.{cellSet, RowOf, TableOf, Tabled};
 
 // Whether the keyword starts at s in its first i bytes followed by its last j.
@@ -72,7 +72,7 @@ fn table_of(flag: u8, keyword: &[u8]) -> [[u32; 32]; 32]
 
 // The tables of all keywords of a list.
 pub fn tables_of(list: &[u8], words: keywords::Keywords) -> [[[u32; 32]; 32]; 16]
-    requires { ⌜ Parsed (now list) (words .count) (words .flag) (words .size) (words .most) (words .start) (words .len) ⌝ }
+    requires { ⌜ Reads (now list) words ⌝ }
     ensures { λ r. ⌜ Tabled (foldedKeywords (now (list .entry))) r ⌝ }
 {
     let start = words.start;

@@ -8,9 +8,10 @@ use borrow.Author.Needs.{needs}
 use borrow.Author.Tests.{not-true, not-false}
 use Rattle.spec.specs.Keywords.{keywordFrontCode}
 use Rattle.spec.specs.Index.{listIn}
+use Rattle.keywords.specs.Parsed.{Parsed}
 use Rattle.index.specs.Stages.{headerCode, directoryCode, Opened, Laid}
 use Rattle.index.proofs.StageLaws.{header-passed, laid, built-of}
-use Rattle.index.proofs.CheckLaws.{refused-with, stop-1, stop-2, stop-3, stop-4, stop-5, all-pass, list-is, opened, lens}
+use Rattle.index.proofs.CheckLaws.{refused-with, stop-1, stop-2, stop-3, stop-4, stop-5, all-pass, list-is, listed, opened, lens}
 use Rattle.index.proofs.examine.Statement.{statement}
 use Rattle.index.proofs.examine.Tie as tie
 
@@ -33,11 +34,18 @@ list-good c = sym (front (c .before)) ∙ c .if2 .left
 abbrev behind-list : tie.After-count → tie.Else2
 behind-list c = c .before .before .before .before
 
+-- what the list's struct says
+read : (c : tie.After-parse) → Parsed (listIn (lent (c .before .before .before .before .before))) (c .parse .result)
+read c =
+    let l = c .before .before in
+    listed (lent (l .before .before .before)) (c .parse .result) (list-good l) (c .parse .ensures)
+
 opens : (c : tie.After-count) → Opened (lent (behind-list c .before .before .before)) (8 + c .before .before .parse .result .size) (c .count .result)
 opens c =
-    let h = behind-list c .before .before .before in
-    let r = c .before .before .parse .result in
-    opened (lent h) (r .count) (r .flag) (r .size) (r .most) (r .start) (r .len) (c .before .before .parse .ensures) (c .count .result) (header-good h) (c .count .ensures)
+    let l = behind-list c in
+    let h = l .before .before .before in
+    let w = c .before .before .parse in
+    opened (lent h) (w .result) (list-good l) (w .ensures) (c .count .result) (header-good h) (c .count .ensures)
 
 directory-good : (c : tie.Else3) → directoryCode (lent (behind-list (c .before .before) .before .before .before)) ≡ 0
 directory-good c = sym (c .before .entries .ensures) ∙ c .if3 .left
@@ -91,7 +99,7 @@ parse-requires : tie.Need-parse-requires
 parse-requires c κs = search needs
 
 add-start : tie.Need-add-start
-add-start c = search needs
+add-start c = omega (arith, read (c .before) .short)
 
 count-requires : tie.Need-count-requires
 count-requires c κs = let h = c .before .before .before .before .before .before in header-passed (lent h) (header-good h) .0
@@ -132,15 +140,17 @@ returns-4 c =
     (λ z. omega arith)
 
 slice-aggregate-all-good : tie.Need-slice-aggregate-all-good
-slice-aggregate-all-good c = search needs
+slice-aggregate-all-good c =
+    let good = c .before .before .before .before .before .before .before .before .before .before in
+    sym (read (good .before .before .before .before) .lens)
 
 all-good-requires : tie.Need-all-good-requires
 all-good-requires c κs =
     let good = c .before .before .before .before .before .before .before .before .before .before in
     let n = good .before .before in
     let l = behind-list n in
-    let r = n .before .before .parse .result in
-    (lies good, lens (lent (l .before .before .before)) (r .count) (r .flag) (r .size) (r .most) (r .start) (r .len) (n .before .before .parse .ensures) (list-good l))
+    let w = n .before .before .parse in
+    (lies good, lens (lent (l .before .before .before)) (w .result) (list-good l) (w .ensures))
 
 same-length-3 : tie.Need-same-length-3
 same-length-3 c = search needs

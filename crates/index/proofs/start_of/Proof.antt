@@ -1,7 +1,12 @@
 -- `start_of` meets its contract: the keyword list of a checked index reads without fault.
+use mathlib.Core.Path.{_≡_}
+use Prim.Native.Nat.{_+_}
+use native.Mathlib.Omega.{arith}
 use denote.Ref.{now}
 use borrow.Author.Needs.{needs}
-use Rattle.index.proofs.LookupLaws.{header-there, list-good, start-is}
+use Rattle.spec.specs.Keywords.{listSize}
+use Rattle.spec.specs.Index.{listIn}
+use Rattle.index.proofs.LookupLaws.{header-there, list-good, list-short, start-is}
 use Rattle.index.proofs.start_of.Statement.{statement}
 use Rattle.index.proofs.start_of.Tie as tie
 
@@ -17,13 +22,15 @@ part-parse-end c = search needs
 parse-requires : tie.Need-parse-requires
 parse-requires c κs = list-good (now (c .before .before .args .index)) (c .before .before .pre)
 
+-- where the list ends
+ends : (c : tie.After-parse) → let index = now (c .before .before .before .args .index) in 8 + c .parse .result .size ≡ 8 + listSize (listIn index)
+ends c = let s = c .before .before .before in start-is (now (s .args .index)) (s .pre) (c .parse .result) (c .parse .ensures)
+
 add-result : tie.Need-add-result
-add-result c = search needs
+add-result c = let s = c .before .before .before .before in omega (arith, ends (c .before), list-short (now (s .args .index)) (s .pre))
 
 returns : tie.Need-returns
-returns c =
-    let r = c .before .parse .result in
-    start-is (now (c .before .before .before .before .args .index)) (c .before .before .before .before .pre) (r .count) (r .flag) (r .size) (r .most) (r .start) (r .len) (c .before .parse .ensures)
+returns c = ends (c .before)
 
 pub start-of-spec : {M : Type 1} → statement M
 start-of-spec =

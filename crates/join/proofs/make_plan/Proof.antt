@@ -6,7 +6,7 @@ use denote.Ref.{now}
 use Rattle.spec.specs.Records.{form1}
 use Rattle.spec.specs.Index.{indexCode}
 use Rattle.join.specs.Joining.{Joinable}
-use Rattle.join.proofs.Stages.{header, list-good, some-long, due-is, joinable, plan-refused, planned}
+use Rattle.join.proofs.Stages.{header, list-good, reads, size-short, some-long, due-is, joinable, plan-refused, planned}
 use borrow.Author.Needs.{needs}
 use Rattle.join.proofs.make_plan.Statement.{statement}
 use Rattle.join.proofs.make_plan.Tie as tie
@@ -30,7 +30,7 @@ walks c =
     let r = w .parse .result in
     let z = e .if1 .left in
     let t = c .before .before .tables-of in
-    joinable (now (a .index)) (indexed e) (r .count) (r .flag) (r .size) (r .most) (r .start) (r .len) (w .parse .ensures) (now (a .recipes)) (q .prepare .last .1 .1 .0) (q .prepare .last .1 .1 .1 .0)
+    joinable (now (a .index)) (indexed e) r (w .parse .ensures) (now (a .recipes)) (q .prepare .last .1 .1 .0) (q .prepare .last .1 .1 .1 .0)
     (c .read .result) (t .result) (q .prepare .ensures .named z) (c .read .ensures) (q .prepare .ensures .chains z) (t .ensures)
 
 prepare-requires : tie.Need-prepare-requires
@@ -62,10 +62,15 @@ parse-requires : tie.Need-parse-requires
 parse-requires c κs = list-good (now (c .before .before .before .before .before .before .before .before .before .before .before .before .before .before .args .index)) (indexed (c .before))
 
 tables-of-requires : tie.Need-tables-of-requires
-tables-of-requires c κs = search needs
+tables-of-requires c κs =
+    let e = c .before .before in
+    reads (now (e .before .before .before .before .before .before .before .before .before .before .before .before .before .args .index)) (indexed e) (c .parse .result) (c .parse .ensures)
 
 add-directory : tie.Need-add-directory
-add-directory c = search needs
+add-directory c =
+    let w = c .before .before in
+    let e = w .before .before in
+    omega (arith, size-short (now (e .before .before .before .before .before .before .before .before .before .before .before .before .before .args .index)) (indexed e) (w .parse .result) (w .parse .ensures))
 
 read-requires : tie.Need-read-requires
 read-requires c κs =
@@ -77,7 +82,7 @@ sub-survey-files c =
     let w = c .before .before .before .before .before .before .before in
     let e = w .before .before in
     let r = w .parse .result in
-    some-long (now (e .before .before .before .before .before .before .before .before .before .before .before .before .before .args .index)) (indexed e) (r .count) (r .flag) (r .size) (r .most) (r .start) (r .len) (w .parse .ensures)
+    some-long (now (e .before .before .before .before .before .before .before .before .before .before .before .before .before .args .index)) (indexed e) r (w .parse .ensures)
 
 slice-aggregate-survey-files : tie.Need-slice-aggregate-survey-files
 slice-aggregate-survey-files c = search needs
@@ -89,7 +94,7 @@ survey-files-requires c κs =
     let e = w .before .before in
     let s = e .before .before .before .before .before .before .before .before .before .before .before .before .before in
     let r = w .parse .result in
-    (walks d, (due-is (now (s .args .index)) (indexed e) (r .count) (r .flag) (r .size) (r .most) (r .start) (r .len) (w .parse .ensures), s .pre .1))
+    (walks d, (due-is (now (s .args .index)) (indexed e) r (w .parse .ensures), s .pre .1))
 
 same-length-3 : tie.Need-same-length-3
 same-length-3 c = c .before .before .before .before .before .before .before .before .before .before .before .before .before .before .before .before .before .before .before .before .prepare .kept .1 .1 .0

@@ -16,13 +16,22 @@ split-requires : tie.Need-split-requires
 split-requires c κs = front-readable (c .before .before .before .args .list .now) (sym (c .before .read-front .ensures) ∙ c .if1 .left)
 
 repeats-requires : tie.Need-repeats-requires
-repeats-requires c κs = places (c .before .before .before .before .before .before .before .before .before .args .list .now) _ _ _ _ _ _ (front-readable (c .before .before .before .before .before .before .before .before .before .args .list .now) (sym (c .before .before .before .before .before .before .before .read-front .ensures) ∙ c .before .before .before .before .before .before .if1 .left)) (c .before .before .before .before .before .split .ensures)
+repeats-requires c κs =
+    let p = c .before .before .before .before .before in
+    let f = p .before .before in
+    let list = f .before .before .args .list .now in
+    places list _ (front-readable list (sym (f .read-front .ensures) ∙ p .before .if1 .left)) (p .split .ensures)
 
 first-of-requires : tie.Need-first-of-requires
 first-of-requires c κs = search needs
 
 returns-2 : tie.Need-returns-2
-returns-2 c = c .first-of .ensures ∙ whole-rest (c .before .before .before .before .before .before .before .before .before .before .before .args .list .now) (c .before .before .before .before .before .before .before .before .before .read-front .result) (c .before .before .before .before .before .before .before .before .before .read-front .ensures) (c .before .before .before .before .before .before .before .before .if1 .left) (c .before .before .before .before .before .before .before .split .result .size) (c .before .before .before .before .before .before .before .split .ensures .ends) (c .before .repeats .result) (c .before .repeats .ensures)
+returns-2 c =
+    let r = c .before in
+    let p = r .before .before .before .before .before .before in
+    let f = p .before .before in
+    let list = f .before .before .args .list .now in
+    c .first-of .ensures ∙ whole-rest list (f .read-front .result) (f .read-front .ensures) (p .before .if1 .left) (p .split .result) (p .split .ensures) (r .repeats .result) (r .repeats .ensures)
 
 pub check-spec : {M : Type 1} → statement M
 check-spec =

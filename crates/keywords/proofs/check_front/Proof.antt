@@ -16,13 +16,25 @@ split-requires : tie.Need-split-requires
 split-requires c κs = front-readable (c .before .before .before .args .list .now) (sym (c .before .read-front .ensures) ∙ c .if1 .left)
 
 repeats-requires : tie.Need-repeats-requires
-repeats-requires c κs = places (c .before .before .before .before .before .before .before .before .args .list .now) _ _ _ _ _ _ (front-readable (c .before .before .before .before .before .before .before .before .args .list .now) (sym (c .before .before .before .before .before .before .read-front .ensures) ∙ c .before .before .before .before .before .if1 .left)) (c .before .before .before .before .split .ensures)
+repeats-requires c κs =
+    let p = c .before .before .before .before in
+    let f = p .before .before in
+    let list = f .before .before .args .list .now in
+    places list _ (front-readable list (sym (f .read-front .ensures) ∙ p .before .if1 .left)) (p .split .ensures)
 
 returns-2 : tie.Need-returns-2
-returns-2 c = front-alike (c .before .before .before .before .before .before .before .before .before .before .args .list .now) (c .before .before .before .before .before .before .before .before .read-front .result) (c .before .before .before .before .before .before .before .before .read-front .ensures) (c .before .before .before .before .before .before .before .if1 .left) (c .before .repeats .result) (c .before .repeats .ensures) (c .if2 .taken)
+returns-2 c =
+    let r = c .before in
+    let p = r .before .before .before .before .before .before in
+    let f = p .before in
+    front-alike (f .before .before .args .list .now) (f .read-front .result) (f .read-front .ensures) (p .if1 .left) (r .repeats .result) (r .repeats .ensures) (c .if2 .taken)
 
 returns-3 : tie.Need-returns-3
-returns-3 c = front-good (c .before .before .before .before .before .before .before .before .before .before .args .list .now) (c .before .before .before .before .before .before .before .before .read-front .result) (c .before .before .before .before .before .before .before .before .read-front .ensures) (c .before .before .before .before .before .before .before .if1 .left) (c .before .repeats .result) (c .before .repeats .ensures) (c .if2 .left)
+returns-3 c =
+    let r = c .before in
+    let p = r .before .before .before .before .before .before in
+    let f = p .before in
+    front-good (f .before .before .args .list .now) (f .read-front .result) (f .read-front .ensures) (p .if1 .left) (r .repeats .result) (r .repeats .ensures) (c .if2 .left)
 
 pub check-front-spec : {M : Type 1} → statement M
 check-front-spec =

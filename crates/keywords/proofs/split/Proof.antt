@@ -83,7 +83,7 @@ returns : tie.Need-returns Inv-loop μ-loop
 returns c =
     let at = c .before .before in
     let s = at .before .before .before in
-    reading-end (s .args .list .now) (at .loop .k) (at .loop .at) (at .loop .most) (at .loop .start) (at .loop .len) _ (s .pre) (at .loop .inv .1) (omega arith) refl
+    reading-end (s .args .list .now) (at .loop .k) (at .loop .at) (at .loop .most) (at .loop .start) (at .loop .len) (at .loop .inv .1) (omega arith) _ refl
 
 pub split-spec : {M : Type 1} → statement M
 split-spec =

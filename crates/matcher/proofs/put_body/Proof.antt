@@ -7,12 +7,11 @@ use native.Mathlib.Omega.{arith}
 use borrow.Author.Needs.{needs}
 use borrow.Rule.Slice.PartMut.{same-len-mid}
 use lib.ListN.{length, getD, length-append}
-use Rattle.spec.specs.Bytes.{splice}
+use Rattle.spec.specs.Bytes.{splice, written}
 use Rattle.spec.specs.Records.{form1, recordOf, recordBytes}
 use Rattle.spec.specs.Keywords.{folded}
 use Rattle.spec.specs.Scan.{scanBody}
 use Rattle.spec.proofs.Splices.{splice-nil}
-use Rattle.matcher.specs.Summaries.{Wrote}
 use Rattle.matcher.proofs.Bodies.{bodyRest, rest-start, few, within, place, keyword, keyword-length, next-record, no-record, record-turn, part-room}
 use Rattle.matcher.proofs.put_body.Statement.{statement}
 use Rattle.matcher.proofs.put_body.Tie as tie
@@ -23,14 +22,15 @@ Inv-loop out₀ list chunk start len count flag size₀ k₀ out size k =
     (k ≤ count)
     × (length out ≡ length out₀)
     × (size + length (bodyRest form1 list chunk k) ≡ length (scanBody form1 list chunk))
-    × (splice out size (bodyRest form1 list chunk k) ≡ splice out₀ 0 (scanBody form1 list chunk))
+    × (splice out size (bodyRest form1 list chunk k) ≡ written out₀ (scanBody form1 list chunk))
 
 abbrev μ-loop : tie.MeasureT-loop
 μ-loop out₀ list chunk start len count flag size₀ k₀ out size k = count - k
 
 -- nothing is left: the buffer is as promised
-done : (l out body rest : List ℕ) (size : ℕ) → rest ≡ [] → size + length rest ≡ length body → splice out size rest ≡ splice l 0 body → Wrote l 0 body out size
-done l out body rest size z n w = record { written = sym (splice-nil out size) ∙ (rw z at w); ends = omega (arith, ap length z) }
+done : (l out body rest : List ℕ) (size : ℕ) → rest ≡ [] → size + length rest ≡ length body → splice out size rest ≡ written l body
+    → (out ≡ written l body) × (size ≡ length body)
+done l out body rest size z n w = (sym (splice-nil out size) ∙ (rw z at w), omega (arith, ap length z))
 
 -- keyword k is a slice of the list
 slice : (c : tie.In-loop Inv-loop μ-loop) → let p = c .before in let a = p .before .before .before .before .before .before .args in

@@ -125,7 +125,7 @@ measured : (c : tie.After-put-body Inv-loop μ-loop) → let p = c .before .befo
 measured c =
     let a = c .before .before .before .before .before .before .before .before .args in
     let e = ap (λ chunk. length (scanBody form1 (a .list .now) chunk)) (c .before .before .chunk-at .ensures .holds) in
-    omega (arith, c .put-body .ensures .ends, e)
+    omega (arith, c .put-body .ensures .1, e)
 
 add-at-2 : tie.Need-add-at-2 Inv-loop μ-loop
 add-at-2 c =
@@ -157,7 +157,7 @@ loop-again c =
       regions-turn (a .list .now) (a .store .now) (s .pre .walks .checked) k (p .loop .at) l (now (w .before .before .key-at .result)) (now (b .before .before .chunk-at .result)) (b .put-body .result)
           (b .before .before .chunk-at .ensures .holds) (w .before .before .key-at .ensures)
           (p .loop .out) (b .put-body .last .0) (w .put-entry .last .0) (splice (a .out .now) (8 + length (a .list .now)) (tailBytes form1 (a .list .now) (a .store .now)))
-          (omega (arith, p .loop .inv .0 .2, s .pre .walks .counted)) (room i) (b .put-body .ensures) (w .put-entry .ensures) (p .loop .inv .1),
+          (omega (arith, p .loop .inv .0 .2, s .pre .walks .counted)) (room i) (b .put-body .ensures .0) (b .put-body .ensures .1) (w .put-entry .ensures) (p .loop .inv .1),
     )
 
 same-length : tie.Need-same-length Inv-loop μ-loop

@@ -7,6 +7,7 @@ use lib.ListN.{length, getD, length-set, take, drop, length-take, length-drop}
 use Rattle.spec.specs.Bytes.{part}
 use Rattle.spec.specs.Keywords.{folded}
 use Rattle.keywords.specs.Parsed.{Parsed}
+use Rattle.keywords.proofs.Reading.{parsed}
 use Rattle.tables.specs.Tabled.{TableOf}
 use Rattle.tables.proofs.Cells.{filled-more, placed-room, all-tables}
 use Rattle.tables.proofs.tables_of.Statement.{statement}
@@ -16,7 +17,7 @@ use Rattle.tables.proofs.tables_of.Lts as lts
 use Rattle.tables.proofs.table_of.Reads as table-of-reads
 
 abbrev Inv-loop : tie.InvT-loop
-Inv-loop list words start len tables₀ k₀ tables k = (k ≤ words .count) × Parsed list (words .count) (words .flag) (words .size) (words .most) start len × (length tables ≡ 16) × ((m : ℕ) → m < k → TableOf (folded (words .flag) (part list (getD start m 0) (getD len m 0))) (getD tables m []))
+Inv-loop list words start len tables₀ k₀ tables k = (k ≤ words .count) × Parsed list words × (length tables ≡ 16) × ((m : ℕ) → m < k → TableOf (folded (words .flag) (part list (getD start m 0) (getD len m 0))) (getD tables m []))
 
 abbrev μ-loop : tie.MeasureT-loop
 μ-loop list words start len tables₀ k₀ tables k = words .count - k
@@ -29,10 +30,10 @@ room : (c : tie.Then1 Inv-loop μ-loop) → let p = c .before .before in let a =
 room c =
     let p = c .before .before in
     let a = p .before .before .before .before .args in
-    placed-room (a .list .now) (a .words .count) (a .words .flag) (a .words .size) (a .words .most) (a .words .start) (a .words .len) (p .loop .inv .1) (p .loop .k) (c .if1 .taken)
+    placed-room (a .list .now) (a .words) (p .loop .inv .1) (p .loop .k) (c .if1 .taken)
 
 loop-holds : tie.Need-loop-holds Inv-loop μ-loop
-loop-holds c = (omega (arith, c .before .before .before .pre .few), c .before .before .before .pre, refl, λ k h. let z : ⊥ = omega arith in absurd z)
+loop-holds c = let s = c .before .before .before in (omega arith, parsed (s .args .list .now) (s .args .words) (s .pre), refl, λ k h. let z : ⊥ = omega arith in absurd z)
 
 mul-a : tie.Need-mul-a Inv-loop μ-loop
 mul-a c = omega (arith, few c)
@@ -91,7 +92,7 @@ returns : tie.Need-returns Inv-loop μ-loop
 returns c = let p = c .before .before in
     let a = p .before .before .before .before .args in
     let w = a .words in
-    all-tables (a .list .now) (w .count) (w .flag) (w .size) (w .most) (w .start) (w .len) (p .loop .inv .1) (p .loop .tables) (λ k h. p .loop .inv .3 k (omega arith))
+    all-tables (a .list .now) w (p .loop .inv .1) (p .loop .tables) (λ k h. p .loop .inv .3 k (omega arith))
 
 pub tables-of-spec : {M : Type 1} → statement M
 tables-of-spec =
