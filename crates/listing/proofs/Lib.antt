@@ -1,3 +1,4 @@
+pub mod Mapped
 pub mod Order
 pub mod Digits
 pub mod Pulling

@@ -14,11 +14,13 @@ use lib.Dec.{ltb}
 use Rattle.spec.specs.Bytes.{fieldsOf, each, keep, member, rising, sum}
 use Rattle.spec.specs.Join.{hits}
 use Rattle.spec.proofs.Tests.{le-or-lt}
+use Rattle.spec.proofs.Tabulated.{tabulated-getD}
 use Rattle.spec.proofs.RecordLaws.{no-offsets}
 use Rattle.spec.proofs.FieldLists.{length-fieldsOf}
 use Rattle.spec.proofs.Rising.{allBelow, passing-member}
-use Rattle.listing.specs.Streams.{below, unread, stream, streamOf, unreadAt, streamAt, occurrences, numbers, total, Ready, Fresh, Opened}
+use Rattle.listing.specs.Streams.{below, bits, unread, pulled, streamOf, unreadAt, occurrences, numbers, total, Ready, Fresh}
 use Rattle.listing.proofs.Digits.{bits-length}
+use Rattle.listing.proofs.Mapped.{mapped, mapped-same}
 
 pub below-same : (n : ℕ) (xs : List ℕ) → allBelow n xs ≡ below n xs
 below-same n [] = refl
@@ -122,7 +124,7 @@ total-set streams k new h =
     (sum-same _ _ 0 k (λ p u v. ap (λ (s : List ℕ). numbers s) (getD-set-other streams k p new [] (λ q. omega arith))))
     (ap (λ (s : List ℕ). numbers s) (getD-set-same streams k new [] h))
 
--- ---- streams without numbers are open as they are
+-- ---- streams without numbers
 
 sum-zero : (f : ℕ → ℕ) (a n : ℕ) → sumUp f a n ≡ 0 → (p : ℕ) → a ≤ p → p < a + n → f p ≡ 0
 sum-zero f a zero e p u v = let z : ⊥ = omega arith in absurd z
@@ -132,18 +134,17 @@ sum-zero f a (suc n) e p u v = go (λ h. sum-zero f (suc a) n (omega arith) p h 
     go rest (inl h) = let q : p ≡ a = omega arith in omega (arith, ap f q)
     go rest (inr h) = rest h
 
-module _ (index : List ℕ) (width size count : ℕ) (streams : List (List ℕ)) (many : ℕ) (ready : Ready index width size count streams) (fresh : Fresh size count streams many) where
-  pub opened-none : many ≡ 0 → Opened index width size count streams streams
-  unfolding stream
-  opened-none z =
-      let empty : (k : ℕ) → k < count → unreadAt index width streams k ≡ [] = λ k h.
-      no-offsets (unreadAt index width streams k) (unread-length index width (streamOf streams k) (ready .each k h .set)
-      ∙ sum-zero (λ j. numbers (streamOf streams j)) 0 count (sym (fresh .all) ∙ z) k (omega arith) (omega arith)) in
-      let none : (k : ℕ) → k < count → streamAt index width size streams k ≡ [] = λ k h. rw (fresh .heads k h, le-ltb size size (omega arith)) in
-      record {
-        held = record {
-          long = ready .long;
-          each = λ k h. record { up = ap rising (none k h); under = ap (below size) (none k h); inside = ready .each k h .inside; set = ready .each k h .set };
-        };
-        same = λ k h. none k h ∙ sym (empty k h);
-      }
+-- such a stream is taken to itself
+pulled-none : (index : List ℕ) (width size : ℕ) (s : List ℕ) → length s ≡ 5 → getD s 0 0 ≡ size → getD s 4 0 < 2 ^ 32 → numbers s ≡ 0 → pulled index width size s ≡ s
+unfolding pulled
+pulled-none index width size s five head small none =
+    let b : bits 32 (getD s 3 0) (getD s 4 0) ≡ [] = no-offsets _ (bits-length 32 (getD s 3 0) (getD s 4 0) small ∙ omega arith) in
+    rw (le-ltb 0 (getD s 2 0) (omega arith), b)
+    (ap {B = List ℕ} (λ (x : ℕ). x ∷ getD s 1 0 ∷ getD s 2 0 ∷ getD s 3 0 ∷ getD s 4 0 ∷ []) (sym head) ∙ tabulated-getD s 0 5 five)
+
+pub open-none : (index : List ℕ) (width size count : ℕ) (streams : List (List ℕ)) (many : ℕ) → Ready index width size count streams → Fresh size count streams many → many ≡ 0
+    → streams ≡ mapped (pulled index width size) count streams
+open-none index width size count streams many ready fresh z =
+    mapped-same (pulled index width size) [] count streams (ready .long) (λ k h.
+    pulled-none index width size (streamOf streams k) (fresh .five k h) (fresh .heads k h) (ready .each k h .set)
+    (sum-zero (λ j. numbers (streamOf streams j)) 0 count (sym (fresh .all) ∙ z) k (omega arith) (omega arith)))

@@ -1,11 +1,12 @@
 // The occurrences at one place of a file, one after the other. Each keyword has a stream of offsets in the place's chunk: first its
 // offsets inside the chunk, as the index holds them, then its starts that cross into the next chunk, as a set. The streams are merged.
 ghost use mathlib.Core.Path.{_≡_};
+ghost use mathlib.Core.List.{_++_, map};
 ghost use Prim.Native.Nat.{_+_, _≤_, _<_};
-ghost use lib.ListN.{length};
+ghost use lib.ListN.{length, take, drop};
 ghost use Rattle.spec.specs.Bytes.{splice};
 ghost use Rattle.spec.specs.Join.{occurrenceBytes};
-ghost use Rattle.listing.specs.Streams.{Readable, Ready, Fresh, Pulled, Least, Held, Opened, NextTaken, numbers, small};
+ghost use Rattle.listing.specs.Streams.{Readable, Ready, Fresh, Least, Held, pulled, nextKeyword, nextOffset, streamsAfter, numbers, small};
 
 // A stream is five numbers: its next offset (the chunk's size where it has ended); where the index has the offsets behind that, and how
 // many; where the starts are counted from, and the set of those that are left.
@@ -22,7 +23,7 @@ const SET: usize = 4;
 // The stream whose next offset is taken off what is unread.
 fn pull(index: &[u8], width: usize, size: usize, stream: [usize; 5]) -> [usize; 5]
     requires { ⌜ (width ≤ 8) × Readable (now index) width size stream ⌝ }
-    ensures { λ r. ⌜ Pulled (now (index .entry)) width size stream r ⌝ }
+    ensures { λ r. ⌜ r ≡ pulled (now (index .entry)) width size stream ⌝ }
 {
     let at = stream[AT];
     let left = stream[LEFT];
@@ -73,7 +74,9 @@ pub fn next(
     streams: &mut [[usize; 5]; 16],
 ) -> Taken
     requires { ⌜ (0 < count) × (count ≤ 16) × (width ≤ 8) × Held (now index) width size count (now streams) ⌝ }
-    ensures { λ r. ⌜ NextTaken (now (index .entry)) width size count (now (streams .entry)) (now (streams .exit)) (r .keyword) (r .offset) ⌝ }
+    ensures { λ r. ⌜ (r .keyword ≡ nextKeyword (now (index .entry)) width size count (now (streams .entry)))
+        × (r .offset ≡ nextOffset (now (index .entry)) width size count (now (streams .entry)))
+        × (now (streams .exit) ≡ streamsAfter (now (index .entry)) width size count (now (streams .entry))) ⌝ }
 {
     let k = least(streams, count);
     let s = streams[k];
@@ -101,7 +104,7 @@ pub fn open(
     streams: &mut [[usize; 5]; 16],
 )
     requires { ⌜ (count ≤ 16) × (width ≤ 8) × Ready (now index) width size count (now streams) × Fresh size count (now streams) many ⌝ }
-    ensures { λ _. ⌜ Opened (now (index .entry)) width size count (now (streams .entry)) (now (streams .exit)) ⌝ }
+    ensures { λ _. ⌜ now (streams .exit) ≡ map (pulled (now (index .entry)) width size) (take count (now (streams .entry))) ++ drop count (now (streams .entry)) ⌝ }
 {
     if many == 0 {
         return;

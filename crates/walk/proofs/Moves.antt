@@ -12,7 +12,8 @@ use Rattle.spec.specs.Records.{ChunkRecords, recordAt, inRange}
 use Rattle.spec.specs.Index.{listIn}
 use Rattle.spec.specs.Join.{Occurrence, keywordAt, joinFrom, joinFile}
 use Rattle.spec.proofs.Tests.{leb-false}
-use Rattle.listing.specs.Streams.{stream, streamOf, streamAt, occurrences, total, Held, Ready, Fresh, Opened, NextTaken}
+use Rattle.listing.specs.Streams.{stream, streamOf, streamAt, occurrences, total, Held, Ready, Fresh}
+use Rattle.listing.proofs.Stepping.{Opened, NextTaken}
 use Rattle.walk.specs.Walking.{noChunk, chunksIn, sizeOf, Keyed, Walkable, LoadedAt, Crossable, Crossed, AtPlace, coming, Moved, NextOf}
 use Rattle.walk.proofs.Entries.{chunks-length, chunk-at, proper, records-good, size-small}
 use Rattle.walk.proofs.Places.{AllGood, crossable, place-ready, place-join, occurrences-same}
@@ -93,7 +94,7 @@ module _ (index : List ℕ) (count : ℕ) (tables : List (List (List ℕ))) (chu
       moved-ready = place-ready index count tables chunks keyed good n rows rows′ (getD here 3 0) size′ more (f .ahead) l′ crossed c
 
       pub moved-fresh : (many : ℕ) → many ≡ total crossed count → Fresh (getD here 3 0) count crossed many
-      moved-fresh many e = record { heads = λ k u. ap (λ (s : List ℕ). getD s 0 0) (c .each k u); all = e }
+      moved-fresh many e = record { five = λ k u. ap length (c .each k u); heads = λ k u. ap (λ (s : List ℕ). getD s 0 0) (c .each k u); all = e }
 
       abbrev here′ : List ℕ
       here′ = set (set (set (set here 1 (getD here 1 0 + getD here 2 0)) 2 (getD here 3 0)) 0 (n + 1)) 3 size′

@@ -1,8 +1,10 @@
 -- `listing::next` meets its contract.
+use mathlib.Core.Path.{ap, _∙_}
 use native.Mathlib.Omega.{arith}
+use lib.ListN.{set}
 use Rattle.listing.specs.Streams.{streamOf}
 use Rattle.listing.proofs.Pulling.{behind}
-use Rattle.listing.proofs.Stepping.{step-ended, step-found}
+use Rattle.listing.proofs.Stepping.{next-ended, next-found}
 use borrow.Author.Needs.{needs}
 use Rattle.listing.proofs.next.Statement.{statement}
 use Rattle.listing.proofs.next.Tie as tie
@@ -26,7 +28,7 @@ array-read-y c = search needs
 returns : tie.Need-returns
 returns c = let s = c .before .before .before .before .before in
     let a = s .args in
-    step-ended (a .index .now) (a .width) (a .size) (a .count) (a .streams .now) (s .pre .3) (c .before .before .least .result) (c .before .before .least .ensures) (omega arith)
+    next-ended (a .index .now) (a .width) (a .size) (a .count) (a .streams .now) (s .pre .3) (c .before .before .least .result) (c .before .before .least .ensures) (omega arith)
 
 pull-requires : tie.Need-pull-requires
 pull-requires c κs = let s = c .before .before .before .before .before in
@@ -44,7 +46,8 @@ returns-2 : tie.Need-returns-2
 returns-2 c = let s = c .before .before .before .before .before .before in
     let a = s .args in
     let f = c .before .before .before .least in
-    step-found (a .index .now) (a .width) (a .size) (a .count) (a .streams .now) (s .pre .3) (f .result) (c .pull .result) (f .ensures) (omega arith) (c .pull .ensures)
+    let e = next-found (a .index .now) (a .width) (a .size) (a .count) (a .streams .now) (s .pre .3) (f .result) (f .ensures) (omega arith) in
+    (e .0, e .1, ap (set (a .streams .now) (f .result)) (c .pull .ensures) ∙ e .2)
 
 pub next-spec : {M : Type 1} → statement M
 next-spec =

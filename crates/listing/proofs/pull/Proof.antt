@@ -3,7 +3,7 @@ use Prim.Native.Nat.{_+_, _<_}
 use native.Mathlib.Omega.{arith}
 use lib.ListN.{getD}
 use lib.Count.{trailingZeros}
-use Rattle.listing.proofs.Pulling.{field-room, pull-field, pull-end, digit, start-in, pull-start}
+use Rattle.listing.proofs.Pulling.{field-room, field-is, end-is, digit, start-in, start-is}
 use borrow.Author.Needs.{needs}
 use Rattle.listing.proofs.pull.Statement.{statement}
 use Rattle.listing.proofs.pull.Tie as tie
@@ -48,12 +48,12 @@ sub-t25 c = search needs
 returns : tie.Need-returns
 returns c =
     let s = c .before .before .before in
-    pull-field (s .args .index .now) (s .args .width) (s .args .size) (s .args .t4) (s .pre .1) (c .before .if1 .taken) (c .read .result) (c .read .ensures)
+    field-is (s .args .index .now) (s .args .width) (s .args .size) (s .args .t4) (s .pre .1) (c .before .if1 .taken) (c .read .result) (c .read .ensures)
 
 returns-2 : tie.Need-returns-2
 returns-2 c =
     let s = c .before .before .before in
-    pull-end (s .args .index .now) (s .args .width) (s .args .size) (s .args .t4) (s .pre .1) (omega arith) (c .if2 .taken)
+    end-is (s .args .index .now) (s .args .width) (s .args .size) (s .args .t4) (s .pre .1) (omega arith) (c .if2 .taken)
 
 cast-z : tie.Need-cast-z
 cast-z c = search needs
@@ -76,7 +76,7 @@ shr-t28 c = omega (arith, low-digit c)
 returns-3 : tie.Need-returns-3
 returns-3 c =
     let s = c .before .before .before in
-    pull-start (s .args .index .now) (s .args .width) (s .args .size) (s .args .t4) (s .pre .1) (omega arith) (omega arith)
+    start-is (s .args .index .now) (s .args .width) (s .args .size) (s .args .t4) (s .pre .1) (omega arith) (omega arith)
 
 pub pull-spec : {M : Type 1} → statement M
 pull-spec =

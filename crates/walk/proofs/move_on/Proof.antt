@@ -1,6 +1,7 @@
 -- `walk::move_on` meets its contract.
 use native.Mathlib.Omega.{arith}
 use lib.ListN.{getD}
+use Rattle.listing.proofs.Stepping.{opened}
 use Rattle.walk.specs.Walking.{chunksIn}
 use Rattle.walk.proofs.Entries.{in-chunks}
 use Rattle.walk.proofs.Moves.{all-good, moved-crossable, moved-ready, moved-fresh, moved-on}
@@ -90,9 +91,12 @@ returns c =
     let t = r .load in
     let x = c .before .before .cross in
     let good = all-good (a .index .now) (a .directory) (a .entries) (a .heads .now) (a .chain .now) (a .tables .now) (a .file .now) (a .slots .now) (a .count) (s .pre .0) in
+    let more = in-chunks (a .index .now) (a .file .now) (getD (a .here .now) 0 0) (s .pre .1 .1) in
+    let ready = moved-ready (a .index .now) (a .count) (a .tables .now) chunks (s .pre .0 .keyed) good (a .here .now) (a .streams .now) (a .rows .now) (s .pre .1 .0) more
+    (t .last .1 .1 .1 .1 .1 .1 .1 .1 .1 .0) (t .result) (t .ensures) (x .last .1 .1 .1 .1 .1 .0) (x .ensures .crossed) in
     moved-on (a .index .now) (a .count) (a .tables .now) chunks (s .pre .0 .keyed) good (a .here .now) (a .streams .now) (a .rows .now) (s .pre .1 .0)
-    (in-chunks (a .index .now) (a .file .now) (getD (a .here .now) 0 0) (s .pre .1 .1)) (t .last .1 .1 .1 .1 .1 .1 .1 .1 .1 .0) (t .result) (t .ensures)
-    (x .last .1 .1 .1 .1 .1 .0) (x .ensures .crossed) (c .«open» .last .1 .1 .1 .1 .1 .0) (c .«open» .ensures)
+    more (t .last .1 .1 .1 .1 .1 .1 .1 .1 .1 .0) (t .result) (t .ensures) (x .last .1 .1 .1 .1 .1 .0) (x .ensures .crossed) (c .«open» .last .1 .1 .1 .1 .1 .0)
+    (opened (a .index .now) 2 (getD (a .here .now) 3 0) (a .count) (x .last .1 .1 .1 .1 .1 .0) (c .«open» .last .1 .1 .1 .1 .1 .0) ready (c .«open» .ensures))
 
 pub move-on-spec : {M : Type 1} → statement M
 move-on-spec =

@@ -3,6 +3,7 @@ use mathlib.Core.Path.{_≡_, refl, sym, _∙_}
 use Prim.Native.Nat.{ℕ, _-_, _/_}
 use native.Mathlib.Omega.{arith}
 use lib.ListN.{length, getD}
+use Rattle.listing.proofs.Stepping.{NextTaken, next-taken as listing-taken}
 use Rattle.walk.specs.Walking.{chunksIn, AtPlace, coming}
 use Rattle.walk.proofs.Entries.{out-chunks}
 use Rattle.walk.proofs.Moves.{still, coming-none, next-taken, next-none}
@@ -22,6 +23,17 @@ Inv-loop index directory entries heads chain tables file slots count here₀ str
 abbrev μ-loop : tie.MeasureT-loop
 μ-loop index directory entries heads chain tables file slots count here₀ streams₀ rows₀ here streams rows =
     length file / 20 - getD here 0 0
+
+-- the next occurrence of the open place is taken
+taken : (c : tie.After-next Inv-loop μ-loop) → let p = c .before .before .before in
+    let a = p .before .before .before .before .before .before .args in
+    NextTaken (a .index .now) 2 (getD (p .loop .here) 2 0) (a .count) (p .loop .streams) (c .next .last .1 .1 .1 .1 .0) (c .next .result .keyword) (c .next .result .offset)
+taken c =
+    let p = c .before .before .before in
+    let s = p .before .before .before .before .before .before in
+    let a = s .args in
+    listing-taken (a .index .now) 2 (getD (p .loop .here) 2 0) (a .count) (p .loop .streams) (p .loop .inv .0 .held) (s .pre .0 .keyed .some)
+    (c .next .last .1 .1 .1 .1 .0) (c .next .result .keyword) (c .next .result .offset) (c .next .ensures)
 
 loop-holds : tie.Need-loop-holds Inv-loop μ-loop
 loop-holds c = (c .before .before .before .before .before .pre .1, λ file. refl)
@@ -46,7 +58,7 @@ returns c = let p = c .before .before .before .before .before .before .before in
     let a = s .args in
     let chunks = chunksIn (a .index .now) (a .file .now) in
     let t = c .before .before .before .before .next in
-    next-taken (a .index .now) (a .count) chunks (p .loop .here) (p .loop .streams) (p .loop .rows) (p .loop .inv .0) (t .last .1 .1 .1 .1 .0) (t .result .keyword) (t .result .offset) (t .ensures) (a .here .now) (a .streams .now) (p .loop .inv .1) (c .before .before .if1 .taken)
+    next-taken (a .index .now) (a .count) chunks (p .loop .here) (p .loop .streams) (p .loop .rows) (p .loop .inv .0) (t .last .1 .1 .1 .1 .0) (t .result .keyword) (t .result .offset) (taken (c .before .before .before .before)) (a .here .now) (a .streams .now) (p .loop .inv .1) (c .before .before .if1 .taken)
 
 element-copy-out-if2 : tie.Need-element-copy-out-if2 Inv-loop μ-loop
 element-copy-out-if2 c = search needs
@@ -57,7 +69,7 @@ returns-2 c = let p = c .before .before .before .before .before .before .before 
     let a = s .args in
     let chunks = chunksIn (a .index .now) (a .file .now) in
     let t = c .before .before .before .before .next in
-    next-none (a .index .now) (a .count) chunks (p .loop .here) (p .loop .streams) (p .loop .rows) (p .loop .inv .0) (t .last .1 .1 .1 .1 .0) (t .result .keyword) (t .result .offset) (t .ensures) (a .here .now) (a .streams .now) (p .loop .inv .1) (c .before .before .if1 .left) (out-chunks (a .index .now) (a .file .now) (getD (p .loop .here) 0 0) (c .if2 .taken))
+    next-none (a .index .now) (a .count) chunks (p .loop .here) (p .loop .streams) (p .loop .rows) (p .loop .inv .0) (t .last .1 .1 .1 .1 .0) (t .result .keyword) (t .result .offset) (taken (c .before .before .before .before)) (a .here .now) (a .streams .now) (p .loop .inv .1) (c .before .before .if1 .left) (out-chunks (a .index .now) (a .file .now) (getD (p .loop .here) 0 0) (c .if2 .taken))
 
 move-on-requires : tie.Need-move-on-requires Inv-loop μ-loop
 move-on-requires c κs = let p = c .before .before .before .before .before .before .before .before .before .before in
@@ -65,7 +77,7 @@ move-on-requires c κs = let p = c .before .before .before .before .before .befo
     let a = s .args in
     let chunks = chunksIn (a .index .now) (a .file .now) in
     let t = c .before .before .before .before .before .before .before .next in
-    (s .pre .0, (still (a .index .now) (a .count) chunks (p .loop .here) (p .loop .streams) (p .loop .rows) (p .loop .inv .0) (t .last .1 .1 .1 .1 .0) (t .result .keyword) (t .result .offset) (t .ensures), c .before .before .before .if2 .left))
+    (s .pre .0, (still (a .index .now) (a .count) chunks (p .loop .here) (p .loop .streams) (p .loop .rows) (p .loop .inv .0) (t .last .1 .1 .1 .1 .0) (t .result .keyword) (t .result .offset) (taken (c .before .before .before .before .before .before .before)), c .before .before .before .if2 .left))
 
 loop-less : tie.Need-loop-less Inv-loop μ-loop
 loop-less c = omega (arith, c .move-on .ensures .more, c .before .before .before .before .if2 .left)
@@ -76,7 +88,7 @@ loop-again c = let p = c .before .before .before .before .before .before .before
     let a = s .args in
     let chunks = chunksIn (a .index .now) (a .file .now) in
     let t = c .before .before .before .before .before .before .before .before .next in
-    (c .move-on .ensures .at, λ file. p .loop .inv .1 file ∙ coming-none (a .index .now) (a .count) chunks (p .loop .here) (p .loop .streams) (p .loop .rows) (p .loop .inv .0) (t .last .1 .1 .1 .1 .0) (t .result .keyword) (t .result .offset) (t .ensures) (c .before .before .before .before .before .before .if1 .left) file ∙ sym (c .move-on .ensures .same file))
+    (c .move-on .ensures .at, λ file. p .loop .inv .1 file ∙ coming-none (a .index .now) (a .count) chunks (p .loop .here) (p .loop .streams) (p .loop .rows) (p .loop .inv .0) (t .last .1 .1 .1 .1 .0) (t .result .keyword) (t .result .offset) (taken (c .before .before .before .before .before .before .before .before)) (c .before .before .before .before .before .before .if1 .left) file ∙ sym (c .move-on .ensures .same file))
 
 pub next-spec : {M : Type 1} → statement M
 next-spec =
