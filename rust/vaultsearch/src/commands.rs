@@ -263,7 +263,11 @@ impl Session<'_> {
         }
         let list = self.given_keywords()?;
         make_vault::make(self.progress, &paths, folder, make_vault::cut_of(a.cut.as_deref(), a.size)?)?;
-        list.map_or(Ok(()), |list| files::write(Some(&folder.join("words.bin")), |out| out.write_all(&list)))
+        if let Some(list) = list {
+            files::write(Some(&folder.join("words.bin")), |out| out.write_all(&list))?;
+            println!("written: {}/words.bin", folder.display());
+        }
+        Ok(())
     }
 }
 
