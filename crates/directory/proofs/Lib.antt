@@ -1,3 +1,4 @@
 pub mod ChainLaws
+pub mod ChainLists
 pub mod EntryTurns
 pub mod KeyFields

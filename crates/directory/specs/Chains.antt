@@ -6,7 +6,7 @@ use mathlib.Core.List.{List, [], _∷_}
 use Prim.Native.Nat.{ℕ, suc, _+_, _*_, _-_, _%_, _≤_, _<_}
 use lib.ListN.{length, getD, drop}
 use lib.Dec.{eqb}
-use Rattle.spec.specs.Bytes.{fieldsOf, contains, twice, positionOf}
+use Rattle.spec.specs.Bytes.{fieldsOf, contains, positionOf, each}
 use Rattle.spec.specs.Directory.{Layout, keysOf}
 
 -- ---- the hash of a key
@@ -36,6 +36,15 @@ abbrev pub tailWith : ℕ → List (List ℕ) → ℕ
 tailWith h [] = 0
 tailWith h (key ∷ keys) = cond (eqb (hashOf key) h) (suc (length keys)) (tailWith h keys)
 
+-- The array of heads: for each hash, how many keys there are from the first key with it on; 0 where no key has it.
+unfoldable pub headsOf : List (List ℕ) → List ℕ
+headsOf keys = each (λ h. tailWith h keys ∷ []) 0 65536
+
+-- The array of links: for each key, how many keys there are from the next key with its hash on; 0 where there is none.
+unfoldable pub linksOf : List (List ℕ) → List ℕ
+linksOf [] = []
+linksOf (key ∷ keys) = tailWith (hashOf key) keys ∷ linksOf keys
+
 -- The position of the first key from entry e on that is the same as `key`; the number of keys where there is none.
 abbrev pub placeFrom : List ℕ → List (List ℕ) → ℕ → ℕ
 placeFrom key keys e = e + positionOf key (drop e keys)
@@ -51,15 +60,11 @@ pub record Chained (keys : List (List ℕ)) (k : ℕ) (heads next : List ℕ) : 
   pub head : (h : ℕ) → h < 65536 → getD heads h 0 ≡ tailWith h (drop k keys)
   pub links : Linked keys k next
 
--- Entry k was put in front of those from k + 1 on; `twin` tells whether its key is one of theirs.
-pub record Inserted (keys : List (List ℕ)) (k : ℕ) (heads next : List ℕ) (twin : Bool) : Type 0 where
+-- Entry k was put in front of those from k + 1 on; `twin` tells whether its key is one of theirs. Behind the keys, `next` is as it was (`next₀`).
+pub record Inserted (keys : List (List ℕ)) (k : ℕ) (next₀ heads next : List ℕ) (twin : Bool) : Type 0 where
   pub found : twin ≡ contains (getD keys k []) (drop (suc k) keys)
   pub chains : Chained keys k heads next
-
--- All entries are in the index; `twin` tells whether some two keys are the same.
-pub record Built (keys : List (List ℕ)) (heads next : List ℕ) (twin : Bool) : Type 0 where
-  pub found : twin ≡ twice keys
-  pub chains : Chained keys 0 heads next
+  pub rest : drop (length keys) next ≡ drop (length keys) next₀
 
 -- The last n of the keys begin with one of the key's hash, or are none: a place on the chain of the key's hash.
 pub record Starts (key : List ℕ) (keys : List (List ℕ)) (n : ℕ) : Type 0 where

@@ -3,9 +3,9 @@
 ghost use mathlib.Core.Path.{_≡_};
 ghost use Prim.Native.Nat.{suc, _+_, _-_, _*_, _≤_, _<_};
 ghost use lib.ListN.{length};
-ghost use Rattle.spec.specs.Bytes.{part, same, positionOf};
+ghost use Rattle.spec.specs.Bytes.{part, same, twice, positionOf, written};
 ghost use Rattle.spec.specs.Directory.{entriesCode};
-ghost use Rattle.directory.specs.Chains.{hashOf, keysFrom, placeFrom, Starts, Linked, Chained, Inserted, Built, Lies, Empty, layoutOf};
+ghost use Rattle.directory.specs.Chains.{hashOf, keysFrom, headsOf, linksOf, placeFrom, Starts, Linked, Chained, Inserted, Lies, Empty, layoutOf};
 
 // The hash of a key of 20 bytes. Its five products do not wait for each other, and one remainder is taken.
 fn hash(key: &[u8]) -> usize
@@ -103,7 +103,7 @@ fn insert(
     requires { ⌜ Lies (now bytes) start stride count ⌝ }
     requires { ⌜ Chained (keysFrom (now bytes) start stride count) (suc e) (now heads) (now next) ⌝ }
     requires { ⌜ e < count ⌝ }
-    ensures { λ r. ⌜ Inserted (keysFrom (now (bytes .entry)) start stride count) e (now (heads .exit)) (now (next .exit)) r ⌝ }
+    ensures { λ r. ⌜ Inserted (keysFrom (now (bytes .entry)) start stride count) e (now (next .entry)) (now (heads .exit)) (now (next .exit)) r ⌝ }
 {
     let probe = key(bytes, start, stride, e);
     let h = hash(probe);
@@ -124,7 +124,9 @@ pub fn build(
 ) -> bool
     requires { ⌜ Lies (now bytes) start stride count ⌝ }
     requires { ⌜ Empty (now heads) (now next) ⌝ }
-    ensures { λ r. ⌜ Built (keysFrom (now (bytes .entry)) start stride count) (now (heads .exit)) (now (next .exit)) r ⌝ }
+    ensures { λ r. ⌜ (r ≡ twice (keysFrom (now (bytes .entry)) start stride count))
+        × (now (heads .exit) ≡ headsOf (keysFrom (now (bytes .entry)) start stride count))
+        × (now (next .exit) ≡ written (now (next .entry)) (linksOf (keysFrom (now (bytes .entry)) start stride count))) ⌝ }
 {
     let mut twin = false;
     let mut e = count;

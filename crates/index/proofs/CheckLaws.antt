@@ -2,61 +2,56 @@
 use mathlib.Core.Path.{_≡_, refl, sym, ap, _∙_, subst}
 use mathlib.Core.Logic.{_≢_}
 use mathlib.Core.Bool.{Bool, true, false, _||_, not, cond}
-use mathlib.Core.List.{List, [], map}
+use mathlib.Core.List.{List, [], _∷_, map}
 use Prim.Native.Nat.{ℕ, zero, suc, _+_, _-_, _≤_, _<_}
 use native.Mathlib.Omega.{arith}
 use borrow.Author.Tests.{lt-ltb}
 use lib.Dec.{ltb}
 use lib.ListN.{length, take, drop, replicate, length-map}
-use Rattle.spec.specs.Bytes.{same, twice}
+use Rattle.spec.specs.Bytes.{same, twice, written}
+use Rattle.spec.specs.Outcome.{firstCode}
 use Rattle.spec.specs.Keywords.{keywordsOf, keywordFrontCode}
 use Rattle.spec.specs.Directory.{directoryEnd, entriesCode}
 use Rattle.spec.specs.Store.{chunkCount}
 use Rattle.spec.specs.Records.{form1}
 use Rattle.spec.specs.Index.{listIn, indexLayout, indexKeys, lengthsIn, allGood, indexCode}
+use Rattle.spec.proofs.Codes.{passed-whole, refused-whole, next-whole, last-whole, buffer-done, buffer-refused}
+use Rattle.spec.proofs.IndexChecks.{index-good, length-indexKeys}
 use Rattle.spec.proofs.KeywordLaws.{accepted}
 use Rattle.spec.proofs.Splices.{splice-read}
 use Rattle.keywords.specs.declared.Keywords.{Keywords}
 use Rattle.keywords.specs.Parsed.{parsedOf, Parsed}
 use Rattle.keywords.proofs.Reading.{parsed}
 use Rattle.bodies.proofs.Turns.{behind}
-use Rattle.directory.specs.Chains.{Built}
-use Rattle.index.specs.Stages.{headerCode, directoryCode, Opened, Lens, Examined}
+use Rattle.directory.specs.Chains.{headsOf, linksOf, Chained}
+use Rattle.directory.proofs.ChainLists.{Built, chained}
+use Rattle.index.specs.Stages.{headerCode, directoryCode, laidCode, examinedHeads, examinedLinks, Opened, Lens}
 use Rattle.index.proofs.StageLaws.{header-passed}
 
--- ---- chains of tests, cut in two
+-- ---- chains of tests, cut in parts: the first part's own number stands for it
 
--- one test before the rest
-one-stop : (b : Bool) (code rest : ℕ) → cond b code 0 ≢ 0 → cond b code 0 ≡ cond b code rest
-one-stop true code rest d = refl
-one-stop false code rest d = absurd (d refl)
+one-part : (b : Bool) (code rest : ℕ) → 0 < code → cond b code rest ≡ cond (ltb 0 (cond b code 0)) (cond b code 0) rest
+one-part true code rest h = rw (lt-ltb 0 code h)
+one-part false code rest h = refl
 
-one-pass : (b : Bool) (code rest : ℕ) → 0 < code → cond b code 0 ≡ 0 → cond b code rest ≡ rest
-one-pass true code rest h e = let z : ⊥ = omega arith in absurd z
-one-pass false code rest h e = refl
+-- a test and a whole check
+two-part : (b : Bool) (code x rest : ℕ) → 0 < code
+    → cond b code (cond (ltb 0 x) x rest) ≡ cond (ltb 0 (cond b code (cond (ltb 0 x) x 0))) (cond b code (cond (ltb 0 x) x 0)) rest
+two-part true code x rest h = rw (lt-ltb 0 code h)
+two-part false code zero rest h = refl
+two-part false code (suc x) rest h = rw (lt-ltb 0 (suc x) (omega arith), lt-ltb 0 (suc x) (omega arith))
 
--- a whole check before the rest
-whole-stop : (x rest : ℕ) → x ≢ 0 → x ≡ cond (ltb 0 x) x rest
-whole-stop zero rest d = absurd (d refl)
-whole-stop (suc x) rest d = rw (lt-ltb 0 (suc x) (omega arith))
-
-whole-pass : (x rest : ℕ) → x ≡ 0 → cond (ltb 0 x) x rest ≡ rest
-whole-pass x rest e = rw e
-
--- a test and a whole check before the rest
-two-stop : (b : Bool) (code x rest : ℕ) → cond b code (cond (ltb 0 x) x 0) ≢ 0 → cond b code (cond (ltb 0 x) x 0) ≡ cond b code (cond (ltb 0 x) x rest)
-two-stop true code x rest d = refl
-two-stop false code zero rest d = absurd (d refl)
-two-stop false code (suc x) rest d = rw (lt-ltb 0 (suc x) (omega arith))
-
-two-pass : (b : Bool) (code x rest : ℕ) → 0 < code → cond b code (cond (ltb 0 x) x 0) ≡ 0 → cond b code (cond (ltb 0 x) x rest) ≡ rest
-two-pass true code x rest h e = let z : ⊥ = omega arith in absurd z
-two-pass false code zero rest h e = refl
-two-pass false code (suc x) rest h e = let z : suc x ≡ 0 = rw (lt-ltb 0 (suc x) (omega arith)) at e in let y : ⊥ = omega arith in absurd y
+-- three whole checks
+three-part : (x y z rest : ℕ) → cond (ltb 0 x) x (cond (ltb 0 y) y (cond (ltb 0 z) z rest)) ≡ cond (ltb 0 (firstCode (x ∷ y ∷ z ∷ []))) (firstCode (x ∷ y ∷ z ∷ [])) rest
+three-part (suc x) y z rest = rw (lt-ltb 0 (suc x) (omega arith), lt-ltb 0 (suc x) (omega arith))
+three-part zero (suc y) z rest = rw (lt-ltb 0 (suc y) (omega arith), lt-ltb 0 (suc y) (omega arith))
+three-part zero zero (suc z) rest = rw (lt-ltb 0 (suc z) (omega arith), lt-ltb 0 (suc z) (omega arith))
+three-part zero zero zero rest = refl
 
 -- ---- the stages
 
 module _ (index : List ℕ) where
+  -- 12 and 13
   abbrev last : ℕ
   last = cond (twice (indexKeys index)) 12 (cond (not (allGood form1 index)) 13 0)
 
@@ -72,45 +67,75 @@ module _ (index : List ℕ) where
   abbrev marks : Bool
   marks = ltb (length index) 8 || not (same (take 4 index) (form1 .mark)) || ltb 65000 (chunkCount index)
 
-  pub stop-1 : headerCode index ≢ 0 → headerCode index ≡ indexCode form1 index
-  unfolding headerCode indexCode
-  stop-1 d = one-stop marks 10 _ d
+  -- the check is the tests before 12, then the last two
+  check-parts : indexCode form1 index ≡ cond (ltb 0 (laidCode index)) (laidCode index) last
+  unfolding indexCode laidCode headerCode directoryCode
+  check-parts =
+      one-part marks 10 _ (omega arith)
+      ∙ ap (λ (n : ℕ). cond (ltb 0 (headerCode index)) (headerCode index) (cond (ltb 0 front) front n)) (two-part cut 11 walk last (omega arith))
+      ∙ three-part (headerCode index) front (directoryCode index) last
+
+  -- the tests before 12, by the stage that refuses
+  pub header-stops : headerCode index ≢ 0 → headerCode index ≡ laidCode index
+  unfolding laidCode
+  header-stops d = refused-whole (headerCode index) _ d
 
   module _ (p1 : headerCode index ≡ 0) where
-    pass-1 : indexCode form1 index ≡ cond (ltb 0 front) front (cond cut 11 (cond (ltb 0 walk) walk last))
-    unfolding headerCode indexCode
-    pass-1 = one-pass marks 10 _ (omega arith) p1
-
-    pub stop-2 : front ≢ 0 → front ≡ indexCode form1 index
-    stop-2 d = whole-stop front _ d ∙ sym pass-1
+    pub list-stops : keywordFrontCode (listIn index) ≢ 0 → keywordFrontCode (listIn index) ≡ laidCode index
+    unfolding laidCode
+    list-stops d = refused-whole front _ d ∙ sym (next-whole (headerCode index) _ p1)
 
     module _ (p2 : keywordFrontCode (listIn index) ≡ 0) where
-      pass-2 : indexCode form1 index ≡ cond cut 11 (cond (ltb 0 walk) walk last)
-      pass-2 = pass-1 ∙ whole-pass front _ p2
+      pub directory-stops : directoryCode index ≡ laidCode index
+      unfolding laidCode
+      directory-stops = sym (next-whole (headerCode index) _ p1 ∙ next-whole front _ p2 ∙ last-whole (directoryCode index))
 
-      pub stop-3 : directoryCode index ≢ 0 → directoryCode index ≡ indexCode form1 index
-      unfolding directoryCode
-      stop-3 d = two-stop cut 11 walk last d ∙ sym pass-2
+  -- refused before 12: the arrays are as they were
+  pub refused-early : (heads chain : List ℕ) (code : ℕ) → code ≡ laidCode index → code ≢ 0
+      → (code ≡ indexCode form1 index) × (heads ≡ examinedHeads index heads) × (chain ≡ examinedLinks index chain)
+  unfolding examinedHeads examinedLinks
+  refused-early heads chain code e d =
+      let n : laidCode index ≢ 0 = λ z. d (e ∙ z) in (
+        e ∙ refused-whole (laidCode index) last n ∙ sym check-parts,
+        buffer-refused (laidCode index) (headsOf (indexKeys index)) heads n,
+        buffer-refused (laidCode index) (written chain (linksOf (indexKeys index))) chain n,
+      )
 
-      module _ (p3 : directoryCode index ≡ 0) where
-        pass-3 : indexCode form1 index ≡ last
-        unfolding directoryCode
-        pass-3 = pass-2 ∙ two-pass cut 11 walk last (omega arith) p3
+  -- the directory is whole, and the crate below built the chains
+  module _ (p : laidCode index ≡ 0) (heads₀ chain₀ heads chain : List ℕ) (t : Bool) (b : Built (indexKeys index) chain₀ heads chain t) where
+    last-two : indexCode form1 index ≡ last
+    last-two = check-parts ∙ next-whole (laidCode index) last p
 
-        -- the crate below built the chains
-        module _ {heads chain : List ℕ} (t : Bool) (b : Built (indexKeys index) heads chain t) where
-          pub stop-4 : t ≡ true → 12 ≡ indexCode form1 index
-          stop-4 e = sym (pass-3 ∙ rw (sym (b .found) ∙ e))
+    abbrev Told : ℕ → Type 0
+    Told code = (code ≡ indexCode form1 index) × (heads ≡ examinedHeads index heads₀) × (chain ≡ examinedLinks index chain₀)
 
-          pub stop-5 : t ≡ false → allGood form1 index ≡ false → 13 ≡ indexCode form1 index
-          stop-5 e g = sym (pass-3 ∙ rw (sym (b .found) ∙ e, g))
+    told : (code : ℕ) → code ≡ last → Told code
+    unfolding examinedHeads examinedLinks
+    told code e = (
+      e ∙ sym last-two,
+      b .1 ∙ buffer-done (laidCode index) (headsOf (indexKeys index)) heads₀ p,
+      b .2 ∙ buffer-done (laidCode index) (written chain₀ (linksOf (indexKeys index))) chain₀ p,
+    )
 
-          pub all-pass : t ≡ false → allGood form1 index ≡ true → Examined index heads chain 0
-          all-pass e g = record { number = sym (pass-3 ∙ rw (sym (b .found) ∙ e, g)); chains = λ _. b .chains }
+    pub twin-told : t ≡ true → Told 12
+    twin-told e = told 12 (rw (sym (b .0) ∙ e))
 
--- a number that refuses leaves no chains to speak of
-pub refused-with : (index : List ℕ) (code : ℕ) {heads chain : List ℕ} → code ≡ indexCode form1 index → code ≢ 0 → Examined index heads chain code
-refused-with index code e d = record { number = e; chains = λ z. absurd (d z) }
+    pub body-told : t ≡ false → allGood form1 index ≡ false → Told 13
+    body-told e g = told 13 (rw (sym (b .0) ∙ e, g))
+
+    pub all-told : t ≡ false → allGood form1 index ≡ true → Told 0
+    all-told e g = told 0 (rw (sym (b .0) ∙ e, g))
+
+-- where the check passes, the arrays hold the chains of the index's fingerprints
+pub index-chains : (index heads₀ chain₀ heads chain : List ℕ) → indexCode form1 index ≡ 0 → heads ≡ examinedHeads index heads₀ → chain ≡ examinedLinks index chain₀
+    → 65000 ≤ length chain₀ → Chained (indexKeys index) 0 heads chain
+unfolding examinedHeads examinedLinks
+index-chains index heads₀ chain₀ heads chain z p q l =
+    let laid = passed-whole (laidCode index) (last index) (sym (check-parts index) ∙ z) .0 in
+    chained (indexKeys index) heads chain chain₀
+    (p ∙ sym (buffer-done (laidCode index) (headsOf (indexKeys index)) heads₀ laid))
+    (q ∙ sym (buffer-done (laidCode index) (written chain₀ (linksOf (indexKeys index))) chain₀ laid))
+    (omega (arith, length-indexKeys index, index-good form1 index z .few))
 
 -- ---- what the keyword list's struct says of the index
 

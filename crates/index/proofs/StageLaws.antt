@@ -17,7 +17,8 @@ use Rattle.spec.proofs.Tests.{false-of}
 use Rattle.spec.proofs.Codes.{passed, passed-whole, or-left, or-right, last-whole}
 use Rattle.spec.proofs.EntryLaws.{entries-good}
 use Rattle.spec.proofs.Tabulated.{every-range, every-range-at}
-use Rattle.directory.specs.Chains.{layoutOf, keysFrom, Built}
+use Rattle.directory.specs.Chains.{layoutOf, keysFrom}
+use Rattle.directory.proofs.ChainLists.{Built}
 use Rattle.bodies.specs.Check.{Ready}
 use Rattle.index.specs.Stages.{headerCode, directoryCode, Opened, Laid, Lens}
 
@@ -74,8 +75,8 @@ module _ (index : List ℕ) (start count : ℕ) (o : Opened index start count) w
   keys-are = rw (o .starts, o .counts)
 
   -- what the crate below builds is of the index's fingerprints
-  pub built-of : {heads chain : List ℕ} (t : Bool) → Built (keysFrom index start 32 count) heads chain t → Built (indexKeys index) heads chain t
-  built-of {heads} {chain} t b = subst (λ (keys : List (List ℕ)). Built keys heads chain t) keys-are b
+  pub built-of : (chain₀ heads chain : List ℕ) (t : Bool) → Built (keysFrom index start 32 count) chain₀ heads chain t → Built (indexKeys index) chain₀ heads chain t
+  built-of chain₀ heads chain t b = subst (λ (keys : List (List ℕ)). Built keys chain₀ heads chain t) keys-are b
 
   pub field-is : (field e : ℕ) → fieldAt index (start + 32 * e + field) 4 ≡ entryField (indexLayout index) index field e
   field-is field e = ap (λ (l : Layout). entryField l index field e) layout-is

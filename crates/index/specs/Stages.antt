@@ -5,14 +5,14 @@ use mathlib.Core.List.{List, [], _∷_}
 use Prim.Native.Nat.{ℕ, _+_, _*_, _≤_, _<_}
 use lib.ListN.{length, take, getD}
 use lib.Dec.{ltb}
-use Rattle.spec.specs.Bytes.{same}
-use Rattle.spec.specs.Outcome.{firstOf, whole, indexMarkWrong, indexEntryWrong}
-use Rattle.spec.specs.Keywords.{listSize}
+use Rattle.spec.specs.Bytes.{same, written}
+use Rattle.spec.specs.Outcome.{firstOf, whole, firstCode, unlessRefused, indexMarkWrong, indexEntryWrong}
+use Rattle.spec.specs.Keywords.{listSize, keywordFrontCode}
 use Rattle.spec.specs.Directory.{directoryEnd, sizeAt, offsetAt, lengthAt, entriesCode}
 use Rattle.spec.specs.Store.{chunkCount, mostChunks}
 use Rattle.spec.specs.Records.{form1}
 use Rattle.spec.specs.Index.{listIn, indexLayout, indexKeys, lengthsIn, indexCode}
-use Rattle.directory.specs.Chains.{Chained}
+use Rattle.directory.specs.Chains.{headsOf, linksOf}
 
 -- Fewer than 8 bytes, another mark, or c above 65,000.
 unfoldable pub headerCode : List ℕ → ℕ
@@ -26,6 +26,18 @@ directoryCode index =
     ((ltb (length index) (directoryEnd (indexLayout index) (chunkCount index)), indexEntryWrong)
     ∷ whole (entriesCode (indexLayout index) index (form1 .longestChunk) indexEntryWrong (chunkCount index) 0 (directoryEnd (indexLayout index) (chunkCount index)))
     ∷ [])
+
+-- The number of the check's tests before 12: the header's, the keyword list's and the directory's; 0 where the directory is whole.
+unfoldable pub laidCode : List ℕ → ℕ
+laidCode index = firstCode (headerCode index ∷ keywordFrontCode (listIn index) ∷ directoryCode index ∷ [])
+
+-- The two arrays after the check: the chains of the index's fingerprints where its directory is whole (also where 12 or 13 follows); as they were
+-- where the index is refused before.
+unfoldable pub examinedHeads : List ℕ → List ℕ → List ℕ
+examinedHeads index heads = unlessRefused (laidCode index) (headsOf (indexKeys index)) heads
+
+unfoldable pub examinedLinks : List ℕ → List ℕ → List ℕ
+examinedLinks index chain = unlessRefused (laidCode index) (written chain (linksOf (indexKeys index))) chain
 
 -- `count` entries of the index start at `start`.
 pub record Opened (index : List ℕ) (start count : ℕ) : Type 0 where
@@ -47,11 +59,6 @@ pub record Lens (index : List ℕ) (words : ℕ) (lens : List ℕ) : Type 0 wher
   pub are : take words lens ≡ lengthsIn index
   pub room : words ≤ length lens
   pub each : (k : ℕ) → k < words → (1 ≤ getD lens k 0) × (getD lens k 0 ≤ 32)
-
--- The index check's number, and where it is 0 the chains of the fingerprints.
-pub record Examined (index heads chain : List ℕ) (code : ℕ) : Type 0 where
-  pub number : code ≡ indexCode form1 index
-  pub chains : code ≡ 0 → Chained (indexKeys index) 0 heads chain
 
 -- An entry of an index that passed its check.
 pub record EntryOf (index : List ℕ) (k : ℕ) : Type 0 where

@@ -12,7 +12,7 @@ ghost use Rattle.spec.specs.Index.{listIn, indexLayout, indexKeys, bodyAt, good
 ghost use Rattle.spec.specs.Lookup.{findBody, bodyStart, bodyLength, bodyOf};
 ghost use Rattle.directory.specs.Chains.{Empty};
 ghost use Rattle.directory.specs.Slices.{SliceOf};
-ghost use Rattle.index.specs.Stages.{headerCode, directoryCode, Opened, Laid, Lens, Examined, EntryOf};
+ghost use Rattle.index.specs.Stages.{headerCode, directoryCode, examinedHeads, examinedLinks, Opened, Laid, Lens, EntryOf};
 
 // Fewer than 8 bytes, another mark, or a chunk count above 65,000.
 fn header(index: &[u8]) -> u8
@@ -84,10 +84,12 @@ fn all_good(index: &[u8], start: usize, count: usize, lens: &[usize], words: usi
     true
 }
 
-// The index check; it leaves the chains of the index's fingerprints in the arrays.
+// The index check; it leaves the chains of the index's fingerprints in the arrays, once the directory is seen to be whole.
 pub fn examine(index: &[u8], heads: &mut [u32], chain: &mut [u32]) -> u8
     requires { ⌜ Empty (now heads) (now chain) ⌝ }
-    ensures { λ r. ⌜ Examined (now (index .entry)) (now (heads .exit)) (now (chain .exit)) r ⌝ }
+    ensures { λ r. ⌜ (r ≡ indexCode form1 (now (index .entry)))
+        × (now (heads .exit) ≡ examinedHeads (now (index .entry)) (now (heads .entry)))
+        × (now (chain .exit) ≡ examinedLinks (now (index .entry)) (now (chain .entry))) ⌝ }
 {
     let code = header(index);
     if code != 0 {

@@ -14,12 +14,13 @@ use Rattle.spec.specs.Directory.{entriesCode, offsetAt, lengthAt}
 use Rattle.spec.specs.Store.{storeMark, storeLayout, storeKeys, storeCode, chunkCount, chunkAt}
 use Rattle.spec.specs.Lookup.{findChunk, chunkStart, chunkLength, chunkOf}
 use Rattle.spec.proofs.Codes.{refused-whole}
-use Rattle.spec.proofs.EntryLaws.{keyIn-at}
+use Rattle.spec.proofs.EntryLaws.{length-keys, keyIn-at}
 use Rattle.spec.proofs.LookupLaws.{lookup-passed, start-found, length-found, start-refused, length-refused}
 use Rattle.spec.proofs.StoreLaws.{store-good, length-storeKeys}
 use denote.Ref.{RefT}
 use Rattle.directory.specs.Slices.{SliceOf}
-use Rattle.directory.specs.Chains.{keysFrom, Chained, Built, Lies}
+use Rattle.directory.specs.Chains.{keysFrom, Chained, Lies}
+use Rattle.directory.proofs.ChainLists.{Built, chained}
 use Rattle.store.specs.Examined.{Examined, EntryOf}
 
 -- ---- the store check
@@ -64,11 +65,12 @@ module _ (store : List ℕ) (a : 8 ≤ length store) (m : same (take 4 store) st
     sound f = sym (rest h l ∙ rw (z, f))
 
     -- all entries are in the index
-    pub examined : {heads next : List ℕ} (t : Bool) → Built (keysFrom store 8 28 c) heads next t → t ≡ false → Examined store heads next 0
+    pub examined : (next₀ heads next : List ℕ) (t : Bool) → Built (keysFrom store 8 28 c) next₀ heads next t → 65000 ≤ length next₀ → t ≡ false → Examined store heads next 0
     unfolding storeKeys
-    examined {heads} {next} t b f = record {
-      number = sound (sym (b .found) ∙ f);
-      chains = λ _. subst (λ (n : ℕ). Chained (keysFrom store 8 28 n) 0 heads next) e (b .chains);
+    examined next₀ heads next t b r f = record {
+      number = sound (sym (b .0) ∙ f);
+      chains = λ _. subst (λ (n : ℕ). Chained (keysFrom store 8 28 n) 0 heads next) e
+          (chained (keysFrom store 8 28 c) heads next next₀ (b .1) (b .2) (omega (arith, length-keys 28 c (drop 8 store))));
     }
 
 -- ---- the directory of a store, as the crate below takes it

@@ -1,4 +1,5 @@
--- `build` meets its contract. The loop goes down: the entries from e on are in the index, and `twin` is `twice` of their keys.
+-- `build` meets its contract. The loop goes down: the entries from e on are in the index, `twin` is `twice` of their keys, and behind the keys
+-- `next` is as it was. At the end that says every element of both arrays (ChainLists).
 use borrow.Author.Needs.{needs}
 use mathlib.Core.Path.{_≡_, refl, ap, _∙_, subst}
 use Prim.Native.Nat.{ℕ, suc, _-_, _≤_}
@@ -8,6 +9,7 @@ use denote.Ref.{now}
 use Rattle.spec.specs.Bytes.{twice}
 use Rattle.directory.specs.Chains.{keysFrom, Chained}
 use Rattle.directory.proofs.ChainLaws.{empty, twice-none, twice-step, length-from}
+use Rattle.directory.proofs.ChainLists.{heads-are, links-are}
 use Rattle.directory.proofs.build.Statement.{statement}
 use Rattle.directory.proofs.build.Tie as tie
 
@@ -15,6 +17,7 @@ abbrev Inv-loop : tie.InvT-loop
 Inv-loop bytes start stride count heads₀ next₀ twin₀ e₀ heads next twin e =
     let keys = keysFrom bytes start stride count in
     (e ≤ count) × (length heads ≡ length heads₀) × (length next ≡ length next₀) × (twin ≡ twice (drop e keys)) × Chained keys e heads next
+    × (drop (length keys) next ≡ drop (length keys) next₀)
 
 abbrev μ-loop : tie.MeasureT-loop
 μ-loop bytes start stride count heads₀ next₀ twin₀ e₀ heads next twin e = e
@@ -25,7 +28,7 @@ loop-holds c =
     let a = start .args in
     let keys = keysFrom (now (a .bytes)) (a .start) (a .stride) (a .count) in
     let q = length-from (now (a .bytes)) (a .start) (a .stride) (a .count) (start .pre .0) in
-    (omega arith, refl, refl, twice-none keys (a .count) q, empty keys (now (a .heads)) (now (a .next)) (a .count) q (start .pre .0 .few) (start .pre .1))
+    (omega arith, refl, refl, twice-none keys (a .count) q, empty keys (now (a .heads)) (now (a .next)) (a .count) q (start .pre .0 .few) (start .pre .1), refl)
 
 sub-e : tie.Need-sub-e Inv-loop μ-loop
 sub-e c = omega arith
@@ -56,6 +59,7 @@ loop-again c =
       twice-step keys (at .loop .e - 1) (called .insert .result) (at .loop .twin) (omega (arith, q)) (called .insert .ensures .found)
           (at .loop .inv .3 ∙ ap (λ (e : ℕ). twice (drop e keys)) s),
       called .insert .ensures .chains,
+      called .insert .ensures .rest ∙ at .loop .inv .5,
     )
 
 same-length : tie.Need-same-length Inv-loop μ-loop
@@ -70,10 +74,11 @@ returns c =
     let a = at .before .before .before .before .args in
     let keys = keysFrom (now (a .bytes)) (a .start) (a .stride) (a .count) in
     let z : at .loop .e ≡ 0 = omega arith in
-    record {
-      found = at .loop .inv .3 ∙ ap (λ (e : ℕ). twice (drop e keys)) z;
-      chains = subst (λ (e : ℕ). Chained keys e (at .loop .heads) (at .loop .next)) z (at .loop .inv .4);
-    }
+    let chains = subst (λ (e : ℕ). Chained keys e (at .loop .heads) (at .loop .next)) z (at .loop .inv .4) in (
+      at .loop .inv .3 ∙ ap (λ (e : ℕ). twice (drop e keys)) z,
+      heads-are keys (at .loop .heads) (at .loop .next) chains,
+      links-are keys (at .loop .heads) (at .loop .next) chains (now (a .next)) (at .loop .inv .5),
+    )
 
 pub build-spec : {M : Type 1} → statement M
 build-spec =

@@ -5,6 +5,7 @@ use Prim.Native.Nat.{ℕ, suc, _<_}
 use native.Mathlib.Omega.{arith}
 use lib.Dec.{ltb}
 use lib.ListN.{length, getD, drop}
+use lib.Seq.{drop-set-lt}
 use denote.Ref.{now}
 use Rattle.spec.specs.Bytes.{contains}
 use Rattle.directory.specs.Chains.{hashOf, keysFrom}
@@ -114,6 +115,7 @@ returns c =
           ∙ ap (λ (k : List ℕ). contains k (drop (suc (a .e)) keys)) (read-key (hashed .before));
       chains = inserted keys (now (a .heads)) (now (a .next)) (a .e) (hashed .hash .result) (a .count) q (start .pre .1 .1)
           (hashed .hash .ensures ∙ ap hashOf (read-key (hashed .before))) (start .pre .1 .0);
+      rest = drop-set-lt (length keys) (now (a .next)) (a .e) (getD (now (a .heads)) (hashed .hash .result) 0) (omega (arith, q, start .pre .1 .1));
     }
 
 pub insert-spec : {M : Type 1} → statement M

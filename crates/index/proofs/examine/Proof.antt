@@ -7,11 +7,12 @@ use denote.Ref.{now}
 use borrow.Author.Needs.{needs}
 use borrow.Author.Tests.{not-true, not-false}
 use Rattle.spec.specs.Keywords.{keywordFrontCode}
-use Rattle.spec.specs.Index.{listIn}
+use Rattle.spec.specs.Index.{listIn, indexKeys}
 use Rattle.keywords.specs.Parsed.{Parsed}
-use Rattle.index.specs.Stages.{headerCode, directoryCode, Opened, Laid}
+use Rattle.directory.proofs.ChainLists.{Built}
+use Rattle.index.specs.Stages.{headerCode, directoryCode, laidCode, Opened, Laid}
 use Rattle.index.proofs.StageLaws.{header-passed, laid, built-of}
-use Rattle.index.proofs.CheckLaws.{refused-with, stop-1, stop-2, stop-3, stop-4, stop-5, all-pass, list-is, listed, opened, lens}
+use Rattle.index.proofs.CheckLaws.{header-stops, list-stops, directory-stops, refused-early, twin-told, body-told, all-told, list-is, listed, opened, lens}
 use Rattle.index.proofs.examine.Statement.{statement}
 use Rattle.index.proofs.examine.Tie as tie
 
@@ -19,6 +20,13 @@ use Rattle.index.proofs.examine.Tie as tie
 
 abbrev lent : tie.Else1 → List ℕ
 lent c = now (c .before .before .before .before .before .args .index)
+
+-- the arrays as they were
+abbrev heads₀ : tie.Else1 → List ℕ
+heads₀ c = now (c .before .before .before .before .before .args .heads)
+
+abbrev chain₀ : tie.Else1 → List ℕ
+chain₀ c = now (c .before .before .before .before .before .args .chain)
 
 header-good : (c : tie.Else1) → headerCode (lent c) ≡ 0
 header-good c = sym (c .before .header .ensures) ∙ c .if1 .left
@@ -57,6 +65,26 @@ lies c =
     let n = c .before .before in
     laid (lent (behind-list n .before .before .before)) (8 + n .before .before .parse .result .size) (n .count .result) (opens n) (directory-good c)
 
+-- the header's place, seen from behind the chains
+abbrev behind-header : tie.After-build → tie.Else1
+behind-header c = behind-list (c .before .before .before .before .before) .before .before .before
+
+whole-directory : (c : tie.After-build) → laidCode (lent (behind-header c)) ≡ 0
+whole-directory c =
+    let good = c .before .before .before in
+    let l = behind-list (good .before .before) in
+    sym (directory-stops (lent (behind-header c)) (header-good (behind-header c)) (list-good l)) ∙ directory-good good
+
+-- the chains are those of the index's fingerprints
+chains : (c : tie.After-build)
+    → let h = behind-header c in
+    Built (indexKeys (lent h)) (chain₀ h) (c .build .last .1 .1 .1 .1 .0) (c .build .last .1 .1 .1 .1 .1 .0) (c .build .result)
+chains c =
+    let n = c .before .before .before .before .before in
+    let h = behind-header c in
+    built-of (lent h) (8 + n .before .before .parse .result .size) (n .count .result) (opens n) (chain₀ h) (c .build .last .1 .1 .1 .1 .0) (c .build .last .1 .1 .1 .1 .1 .0)
+    (c .build .result) (c .build .ensures)
+
 -- ---- the needs
 
 header-requires : tie.Need-header-requires
@@ -64,9 +92,9 @@ header-requires c κs = search needs
 
 returns : tie.Need-returns
 returns c =
-    let index = now (c .before .before .before .before .before .args .index) in
+    let a = c .before .before .before .before .before .args in
     let e = c .before .header .ensures in
-    refused-with index (c .before .header .result) (e ∙ stop-1 index (λ z. c .if1 .taken (e ∙ z))) (c .if1 .taken)
+    refused-early (now (a .index)) (now (a .heads)) (now (a .chain)) (c .before .header .result) (e ∙ header-stops (now (a .index)) (λ z. c .if1 .taken (e ∙ z))) (c .if1 .taken)
 
 sub-check-front : tie.Need-sub-check-front
 sub-check-front c = header-passed (lent c) (header-good c) .0
@@ -84,7 +112,7 @@ returns-2 : tie.Need-returns-2
 returns-2 c =
     let h = c .before .before .before in
     let e = front (c .before) in
-    refused-with (lent h) (c .before .check-front .result) (e ∙ stop-2 (lent h) (header-good h) (λ z. c .if2 .taken (e ∙ z))) (c .if2 .taken)
+    refused-early (lent h) (heads₀ h) (chain₀ h) (c .before .check-front .result) (e ∙ list-stops (lent h) (header-good h) (λ z. c .if2 .taken (e ∙ z))) (c .if2 .taken)
 
 sub-parse : tie.Need-sub-parse
 sub-parse c = let h = c .before .before .before in header-passed (lent h) (header-good h) .0
@@ -111,8 +139,7 @@ returns-3 : tie.Need-returns-3
 returns-3 c =
     let l = behind-list (c .before .before) in
     let h = l .before .before .before in
-    let e = c .before .entries .ensures in
-    refused-with (lent h) (c .before .entries .result) (e ∙ stop-3 (lent h) (header-good h) (list-good l) (λ z. c .if3 .taken (e ∙ z))) (c .if3 .taken)
+    refused-early (lent h) (heads₀ h) (chain₀ h) (c .before .entries .result) (c .before .entries .ensures ∙ directory-stops (lent h) (header-good h) (list-good l)) (c .if3 .taken)
 
 build-requires : tie.Need-build-requires
 build-requires c κs =
@@ -130,14 +157,9 @@ same-length-2 c = search needs
 returns-4 : tie.Need-returns-4
 returns-4 c =
     let built = c .before .before .before .before .before in
-    let good = built .before .before .before in
-    let n = good .before .before in
-    let l = behind-list n in
-    let h = l .before .before .before in
-    refused-with (lent h) 12
-    (stop-4 (lent h) (header-good h) (list-good l) (directory-good good) (built .build .result)
-    (built-of (lent h) (8 + n .before .before .parse .result .size) (n .count .result) (opens n) (built .build .result) (built .build .ensures)) (c .if4 .taken))
-    (λ z. omega arith)
+    let h = behind-header built in
+    twin-told (lent h) (whole-directory built) (heads₀ h) (chain₀ h) (built .build .last .1 .1 .1 .1 .0) (built .build .last .1 .1 .1 .1 .1 .0) (built .build .result) (chains built)
+    (c .if4 .taken)
 
 slice-aggregate-all-good : tie.Need-slice-aggregate-all-good
 slice-aggregate-all-good c =
@@ -162,15 +184,9 @@ returns-5 : tie.Need-returns-5
 returns-5 c =
     let tested = c .before .before .before .before in
     let built = tested .before .before .before .before .before in
-    let good = built .before .before .before in
-    let n = good .before .before in
-    let l = behind-list n in
-    let h = l .before .before .before in
-    refused-with (lent h) 13
-    (stop-5 (lent h) (header-good h) (list-good l) (directory-good good) (built .build .result)
-    (built-of (lent h) (8 + n .before .before .parse .result .size) (n .count .result) (opens n) (built .build .result) (built .build .ensures)) (tested .if4 .left)
-    (sym (c .before .all-good .ensures) ∙ not-true _ (c .if5 .taken)))
-    (λ z. omega arith)
+    let h = behind-header built in
+    body-told (lent h) (whole-directory built) (heads₀ h) (chain₀ h) (built .build .last .1 .1 .1 .1 .0) (built .build .last .1 .1 .1 .1 .1 .0) (built .build .result) (chains built)
+    (tested .if4 .left) (sym (c .before .all-good .ensures) ∙ not-true _ (c .if5 .taken))
 
 same-length-5 : tie.Need-same-length-5
 same-length-5 c = search needs
@@ -182,13 +198,9 @@ returns-6 : tie.Need-returns-6
 returns-6 c =
     let tested = c .before .before .before .before in
     let built = tested .before .before .before .before .before in
-    let good = built .before .before .before in
-    let n = good .before .before in
-    let l = behind-list n in
-    let h = l .before .before .before in
-    all-pass (lent h) (header-good h) (list-good l) (directory-good good) (built .build .result)
-    (built-of (lent h) (8 + n .before .before .parse .result .size) (n .count .result) (opens n) (built .build .result) (built .build .ensures)) (tested .if4 .left)
-    (sym (c .before .all-good .ensures) ∙ not-false _ (c .if5 .left))
+    let h = behind-header built in
+    all-told (lent h) (whole-directory built) (heads₀ h) (chain₀ h) (built .build .last .1 .1 .1 .1 .0) (built .build .last .1 .1 .1 .1 .1 .0) (built .build .result) (chains built)
+    (tested .if4 .left) (sym (c .before .all-good .ensures) ∙ not-false _ (c .if5 .left))
 
 pub examine-spec : {M : Type 1} → statement M
 examine-spec =

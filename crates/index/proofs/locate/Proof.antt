@@ -2,12 +2,14 @@
 use mathlib.Core.Path.{_≡_, sym, ap, _∙_, subst}
 use mathlib.Core.List.{List}
 use Prim.Native.Nat.{ℕ}
+use lib.ListN.{replicate}
 use denote.Ref.{now}
 use Rattle.spec.specs.Bytes.{positionOf}
 use Rattle.spec.specs.Records.{form1}
 use Rattle.spec.specs.Index.{indexKeys, indexCode}
 use Rattle.directory.specs.Chains.{Chained}
 use Rattle.directory.proofs.ChainLaws.{zeros}
+use Rattle.index.proofs.CheckLaws.{index-chains}
 use Rattle.index.proofs.LookupLaws.{header-there, lies-in, keys-in, refused-check, refused-length, refused-none, found-at}
 use borrow.Author.Needs.{needs}
 use Rattle.index.proofs.locate.Statement.{statement}
@@ -19,7 +21,7 @@ behind-check c = c .before .before .before .before .before .before
 
 -- the index passed its check
 passed : (c : tie.Else1) → indexCode form1 (now (c .before .before .before .before .before .before .before .before .args .index)) ≡ 0
-passed c = sym (c .before .before .before .examine .ensures .number) ∙ c .if1 .left
+passed c = sym (c .before .before .before .examine .ensures .0) ∙ c .if1 .left
 
 -- the fingerprint's place
 placed : (c : tie.After-find)
@@ -31,6 +33,15 @@ placed c =
     c .find .ensures
     ∙ ap (positionOf (now (a .fp)))
     (keys-in (now (a .index)) (passed (behind-check c)) (counted .before .start-of .result) (counted .count .result) (counted .before .start-of .ensures) (counted .count .ensures))
+
+-- the arrays hold the chains of its fingerprints
+chains : (c : tie.Else1)
+    → let called = c .before .before .before in
+    Chained (indexKeys (now (called .before .before .before .before .before .args .index))) 0 (called .examine .last .1 .0) (called .examine .last .1 .1 .0)
+chains c =
+    let called = c .before .before .before in
+    index-chains (now (called .before .before .before .before .before .args .index)) (replicate 65536 0) (replicate 65000 0) (called .examine .last .1 .0) (called .examine .last .1 .1 .0)
+    (passed c) (called .examine .ensures .1) (called .examine .ensures .2) (zeros .long)
 
 slice-aggregate-examine : tie.Need-slice-aggregate-examine
 slice-aggregate-examine c = search needs
@@ -45,7 +56,7 @@ returns : tie.Need-returns
 returns c =
     let called = c .before .before .before in
     let a = called .before .before .before .before .before .args in
-    refused-check (now (a .index)) (now (a .fp)) (called .examine .result) (called .examine .ensures .number) (c .if1 .taken)
+    refused-check (now (a .index)) (now (a .fp)) (called .examine .result) (called .examine .ensures .0) (c .if1 .taken)
 
 returns-2 : tie.Need-returns-2
 returns-2 c =
@@ -77,7 +88,7 @@ find-requires c κs =
       (
         subst (λ (keys : List (List ℕ)). Chained keys 0 (called .examine .last .1 .0) (called .examine .last .1 .1 .0))
             (sym (keys-in index (passed checked) (begun .start-of .result) (counted .count .result) (begun .start-of .ensures) (counted .count .ensures)))
-            (called .examine .ensures .chains (checked .if1 .left)),
+            (chains checked),
         begun .before .if2 .left,
       ),
     )

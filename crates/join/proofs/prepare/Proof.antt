@@ -1,6 +1,7 @@
 -- `prepare` meets its contract (Stages).
 use mathlib.Core.Path.{sym, _∙_}
 use denote.Ref.{now}
+use Rattle.index.proofs.CheckLaws.{index-chains}
 use Rattle.join.proofs.Stages.{stop-index, prepared}
 use borrow.Author.Needs.{needs}
 use Rattle.join.proofs.prepare.Statement.{statement}
@@ -20,7 +21,7 @@ returns c =
     let x = c .before .before .before .before .before in
     let a = x .before .before .before .before .before .before .before .args in
     let e = x .examine in
-    stop-index (now (a .index)) (now (a .recipes)) _ _ (e .result) (e .ensures .number) (c .if1 .taken)
+    stop-index (now (a .index)) (now (a .recipes)) _ _ (e .result) (e .ensures .0) (c .if1 .taken)
 
 check-requires : tie.Need-check-requires
 check-requires c κs = search needs
@@ -34,10 +35,12 @@ same-length-4 c = search needs
 returns-2 : tie.Need-returns-2
 returns-2 c =
     let x = c .before .before .before .before .before .before in
-    let a = x .before .before .before .before .before .before .before .args in
+    let start = x .before .before .before .before .before .before .before in
+    let a = start .args in
     let e = x .examine in
-    let z = c .before .if1 .left in
-    prepared (now (a .index)) (now (a .recipes)) _ _ (c .check .result) (sym (e .ensures .number) ∙ z) (e .ensures .chains z) (c .check .ensures)
+    let z = sym (e .ensures .0) ∙ c .before .if1 .left in
+    prepared (now (a .index)) (now (a .recipes)) _ _ (c .check .result) z
+    (index-chains (now (a .index)) (now (a .heads)) (now (a .chain)) (e .last .1 .0) (e .last .1 .1 .0) z (e .ensures .1) (e .ensures .2) (start .pre .long)) (c .check .ensures)
 
 pub prepare-spec : {M : Type 1} → statement M
 prepare-spec =

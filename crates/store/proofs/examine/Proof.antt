@@ -90,7 +90,7 @@ returns-6 c =
     let h = header opened in
     refused-with store 8
     (twin store (h .0) (h .1) (counted .count .result) (counted .count .ensures) (sized .before .if3 .left) (sized .if4 .left)
-    (sym (good .before .entries .ensures) ∙ good .if5 .left) (sym (built .build .ensures .found) ∙ c .if6 .taken))
+    (sym (good .before .entries .ensures) ∙ good .if5 .left) (sym (built .build .ensures .0) ∙ c .if6 .taken))
     (omega arith)
 
 same-length-3 : tie.Need-same-length-3
@@ -106,10 +106,12 @@ returns-7 c =
     let sized = good .before .before in
     let counted = sized .before .before in
     let opened = counted .before in
-    let store = now (opened .before .before .before .before .before .before .args .store) in
+    let start = opened .before .before .before .before .before .before in
+    let store = now (start .args .store) in
     let h = header opened in
     examined store (h .0) (h .1) (counted .count .result) (counted .count .ensures) (sized .before .if3 .left) (sized .if4 .left)
-    (sym (good .before .entries .ensures) ∙ good .if5 .left) (built .build .result) (built .build .ensures) (c .if6 .left)
+    (sym (good .before .entries .ensures) ∙ good .if5 .left) (now (start .args .next)) (built .build .last .1 .1 .1 .1 .0) (built .build .last .1 .1 .1 .1 .1 .0)
+    (built .build .result) (built .build .ensures) (start .pre .long) (c .if6 .left)
 
 pub examine-spec : {M : Type 1} → statement M
 examine-spec =
