@@ -1,3 +1,4 @@
 pub mod Measuring
 pub mod Places
 pub mod OfIndex
+pub mod Slots

@@ -1,4 +1,4 @@
--- The walk over a file's places: before place j, what the places from j on still add, and the slots of those before. Assumes nothing.
+-- The walk over a file's places: before place j, what the places from j on still add, and still write. Assumes nothing.
 use mathlib.Core.Path.{_≡_, refl, sym, ap, _∙_}
 use mathlib.Core.Logic.{_⊎_, inl, inr}
 use mathlib.Core.Bool.{Bool, true, false, _&&_, _||_, not, and-false, true≢false}
@@ -7,17 +7,17 @@ use Prim.Native.Nat.{ℕ, zero, suc, _+_, _≤_, _<_, min}
 use native.Mathlib.Nat.{zero-add}
 use native.Mathlib.Numerals.{add-one}
 use native.Mathlib.Omega.{arith}
-use borrow.Author.Count.{below-none, below-more}
 use borrow.Author.Tests.{lt-ltb, le-ltb, lt-leb, le-leb}
 use lib.Dec.{leb, ltb}
-use lib.ListN.{length, drop, getD, set, length-set, drop-of-length-le, length-drop}
-use lib.Seq.{drop-cons, getD-set-same, getD-set-other}
-use Rattle.spec.specs.Bytes.{contains, positionOf, every, sum}
+use lib.ListN.{length, take, drop, getD, set, drop-of-length-le, length-drop}
+use lib.Seq.{drop-cons}
+use Rattle.spec.specs.Bytes.{contains, positionOf, every, sum, written}
 use Rattle.spec.specs.Outcome.{firstOf}
 use Rattle.spec.specs.Recipes.{allButLast, roomy, sizesIn, fileCode}
 use Rattle.spec.proofs.Tests.{le-or-lt}
 use Rattle.spec.proofs.EntryLaws.{contains-position}
-use Rattle.files.specs.Measures.{innerShort, Measured, Tested}
+use Rattle.files.specs.Measures.{innerShort, entriesIn, Measured}
+use Rattle.files.proofs.Slots.{filled, filled-start, filled-on, filled-end, filled-missing}
 
 -- ---- inner chunks
 
@@ -60,33 +60,24 @@ module _ (keys : List (List ℕ)) (sizeOf : ℕ → ℕ) (due : ℕ) (file : Lis
   abbrev known : List (List ℕ) → Bool
   known places = every (λ key. contains key keys) places
 
-  -- slot i has the entry of place i
-  abbrev InSlot : List ℕ → ℕ → Type 0
-  InSlot slots i = i < length slots → getD slots i 0 ≡ positionOf (getD file i []) keys
-
-  pub record Measuring (j total : ℕ) (short : Bool) (slots : List ℕ) : Type 0 where
+  -- slots₀: the slots before the walk
+  pub record Measuring (slots₀ : List ℕ) (j total : ℕ) (short : Bool) (slots : List ℕ) : Type 0 where
     pub found : known (drop j file) ≡ known file
     pub few : total ≤ 4294967296
     pub long : min (total + sum (sizes (drop j file))) 4294967296 ≡ min (sum (sizes file)) 4294967296
     pub inner : (not short && roomyFrom due j (sizes (drop j file))) ≡ roomy due (sizes file)
-    pub filled : (i : ℕ) → i < j → InSlot slots i
+    pub slotted : filled keys file slots j ≡ written slots₀ (take (length slots₀) (entriesIn keys file))
 
-  pub measuring-start : (slots : List ℕ) → Measuring 0 0 false slots
-  measuring-start slots = record { found = refl; few = omega arith; long = rw zero-add; inner = refl; filled = below-none (InSlot slots) }
-
-  slot-set : (slots : List ℕ) (j k : ℕ) → k ≡ positionOf (getD file j []) keys → ((i : ℕ) → i < j → InSlot slots i) → (i : ℕ) → i < j + 1 → InSlot (set slots j k) i
-  slot-set slots j k e f =
-      below-more (InSlot (set slots j k)) j
-      (λ i h l. getD-set-other slots j i k 0 (λ q. omega arith) ∙ f i h (omega (arith, length-set slots j k)))
-      (λ l. getD-set-same slots j k 0 (omega (arith, length-set slots j k)) ∙ e)
+  pub measuring-start : (slots : List ℕ) → Measuring slots 0 0 false slots
+  measuring-start slots = record { found = refl; few = omega arith; long = rw zero-add; inner = refl; slotted = filled-start keys file slots }
 
   length-sizes : (places : List (List ℕ)) → length (sizes places) ≡ length places
   length-sizes [] = refl
   length-sizes (x ∷ xs) = ap suc (length-sizes xs)
 
   -- a fingerprint that is not there
-  measuring-missing : (j total : ℕ) (short : Bool) (slots : List ℕ) → Measuring j total short slots → (h : j < length file) → length keys ≤ positionOf (getD file j []) keys → true ≡ not (known file)
-  measuring-missing j total short slots m h l =
+  measuring-missing : (slots₀ : List ℕ) (j total : ℕ) (short : Bool) (slots : List ℕ) → Measuring slots₀ j total short slots → (h : j < length file) → length keys ≤ positionOf (getD file j []) keys → true ≡ not (known file)
+  measuring-missing slots₀ j total short slots m h l =
       rw (← m .found, drop-cons file j [] h, contains-position (getD file j []) keys, le-ltb (positionOf (getD file j []) keys) (length keys) l)
 
   or-not : (a b x : Bool) → (not (a || b) && x) ≡ (not b && (not a && x))
@@ -95,9 +86,9 @@ module _ (keys : List (List ℕ)) (sizeOf : ℕ → ℕ) (due : ℕ) (file : Lis
   or-not false true x = refl
   or-not false false x = refl
 
-  pub measuring-on : (j total : ℕ) (short : Bool) (slots : List ℕ) → Measuring j total short slots → (h : j < length file) → (k size : ℕ) → k ≡ positionOf (getD file j []) keys → k < length keys → size ≡ sizeOf k
-      → (more : ℕ) → more ≡ min (total + size) 4294967296 → (tight : Bool) → tight ≡ innerShort j (length file) size due → Measuring (j + 1) more (tight || short) (set slots j k)
-  measuring-on j total short slots m h k size e l s more f tight g =
+  pub measuring-on : (slots₀ : List ℕ) (j total : ℕ) (short : Bool) (slots : List ℕ) → Measuring slots₀ j total short slots → (h : j < length file) → (k size : ℕ) → k ≡ positionOf (getD file j []) keys → k < length keys → size ≡ sizeOf k
+      → (more : ℕ) → more ≡ min (total + size) 4294967296 → (tight : Bool) → tight ≡ innerShort j (length file) size due → Measuring slots₀ (j + 1) more (tight || short) (set slots j k)
+  measuring-on slots₀ j total short slots m h k size e l s more f tight g =
       let here : sizes (drop j file) ≡ size ∷ sizes (drop (j + 1) file) = rw (add-one, drop-cons file j [] h, ← e, ← s) in
       let there : known (drop j file) ≡ known (drop (j + 1) file) = rw (add-one, drop-cons file j [] h, contains-position (getD file j []) keys, ← e, lt-ltb k (length keys) l) in
       let behind : suc j + length (sizes (drop (j + 1) file)) ≡ length file = omega (arith, length-sizes (drop (j + 1) file), length-drop (j + 1) file) in
@@ -108,7 +99,7 @@ module _ (keys : List (List ℕ)) (sizeOf : ℕ → ℕ) (due : ℕ) (file : Lis
         few = omega arith;
         long = omega (arith, ap sum here, m .long, f);
         inner = or-not tight short (roomyFrom due (j + 1) (sizes (drop (j + 1) file))) ∙ ap (λ (x : Bool). not short && x) (sym step ∙ ap (λ (x : List ℕ). roomyFrom due j x) (sym here)) ∙ m .inner;
-        filled = slot-set slots j k e (m .filled);
+        slotted = filled-on keys file slots j h k e l ∙ m .slotted;
       }
 
   roomy-none : (j : ℕ) → roomyFrom due j [] ≡ true
@@ -119,20 +110,20 @@ module _ (keys : List (List ℕ)) (sizeOf : ℕ → ℕ) (due : ℕ) (file : Lis
   not-not true = refl
   not-not false = refl
 
-  pub measuring-end : (j total : ℕ) (short : Bool) (slots : List ℕ) → Measuring j total short slots → length file ≤ j → Measured keys sizeOf due file slots false total short
-  measuring-end j total short slots m h =
+  pub measuring-end : (slots₀ : List ℕ) (j total : ℕ) (short : Bool) (slots : List ℕ) → Measuring slots₀ j total short slots → length file ≤ j → Measured keys sizeOf due file slots₀ slots false total short
+  measuring-end slots₀ j total short slots m h =
       let z : drop j file ≡ [] = drop-of-length-le file h in
       record {
         lacks = rw (← m .found, z);
         long = λ e. omega (arith, m .few, rw z at (m .long));
         tight = λ e. not-not short ∙ ap not (ap (λ (x : Bool). not short && x) (sym (rw z (roomy-none j))) ∙ m .inner);
-        kept = λ e. record { each = λ i l. m .filled i (omega arith) };
+        kept = filled-end keys file slots j h ∙ m .slotted;
       }
 
-  pub measured-missing : (j total : ℕ) (short : Bool) (slots : List ℕ) → Measuring j total short slots → j < length file → length keys ≤ positionOf (getD file j []) keys
-      → Measured keys sizeOf due file slots true total short
-  measured-missing j total short slots m h l =
-      record { lacks = measuring-missing j total short slots m h l; long = λ e. absurd (true≢false e); tight = λ e. absurd (true≢false e); kept = λ e. absurd (true≢false e) }
+  pub measured-missing : (slots₀ : List ℕ) (j total : ℕ) (short : Bool) (slots : List ℕ) → Measuring slots₀ j total short slots → (h : j < length file) → length keys ≤ positionOf (getD file j []) keys
+      → Measured keys sizeOf due file slots₀ slots true total short
+  measured-missing slots₀ j total short slots m h l =
+      record { lacks = measuring-missing slots₀ j total short slots m h l; long = λ e. absurd (true≢false e); tight = λ e. absurd (true≢false e); kept = filled-missing keys file slots j h l ∙ m .slotted }
 
   -- ---- the tests in their order
 
@@ -143,18 +134,13 @@ module _ (keys : List (List ℕ)) (sizeOf : ℕ → ℕ) (due : ℕ) (file : Lis
       go (inl h) = rw (le-ltb 4294967295 n h, le-ltb 4294967295 (min n 4294967296) (omega arith))
       go (inr h) = rw (lt-ltb 4294967295 n h, lt-ltb 4294967295 (min n 4294967296) (omega arith))
 
-  measured-code : (slots : List ℕ) (missing : Bool) (total : ℕ) (short : Bool) → Measured keys sizeOf due file slots missing total short
+  measured-code : (slots₀ slots : List ℕ) (missing : Bool) (total : ℕ) (short : Bool) → Measured keys sizeOf due file slots₀ slots missing total short
       → firstOf ((missing, 15) ∷ (ltb 4294967295 total, 16) ∷ (short, 17) ∷ []) ≡ fileCode keys sizeOf due file
   unfolding fileCode
-  measured-code slots true total short m = rw (← m .lacks)
-  measured-code slots false total short m = rw (← m .lacks, m .long refl, m .tight refl, cap (sum (sizes file)))
+  measured-code slots₀ slots true total short m = rw (← m .lacks)
+  measured-code slots₀ slots false total short m = rw (← m .lacks, m .long refl, m .tight refl, cap (sum (sizes file)))
 
-  -- no number is 0
-  none-missing : (missing : Bool) (rest : List (Bool × ℕ)) → firstOf ((missing, 15) ∷ rest) ≡ 0 → missing ≡ false
-  none-missing true rest e = let z : ⊥ = omega arith in absurd z
-  none-missing false rest e = refl
-
-  pub tested : (slots : List ℕ) (missing : Bool) (total : ℕ) (short : Bool) (code : ℕ) → Measured keys sizeOf due file slots missing total short
-      → code ≡ firstOf ((missing, 15) ∷ (ltb 4294967295 total, 16) ∷ (short, 17) ∷ []) → Tested keys sizeOf due file slots code
-  tested slots missing total short code m e =
-      record { number = e ∙ measured-code slots missing total short m; slotted = λ z. m .kept (none-missing missing ((ltb 4294967295 total, 16) ∷ (short, 17) ∷ []) (sym e ∙ z)) }
+  pub tested : (slots₀ slots : List ℕ) (missing : Bool) (total : ℕ) (short : Bool) (code : ℕ) → Measured keys sizeOf due file slots₀ slots missing total short
+      → code ≡ firstOf ((missing, 15) ∷ (ltb 4294967295 total, 16) ∷ (short, 17) ∷ [])
+      → (code ≡ fileCode keys sizeOf due file) × (slots ≡ written slots₀ (take (length slots₀) (entriesIn keys file)))
+  tested slots₀ slots missing total short code m e = (e ∙ measured-code slots₀ slots missing total short m, m .kept)

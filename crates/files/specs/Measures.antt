@@ -1,13 +1,13 @@
 -- What one walk over a file's places finds out for the three tests of the file, and what it leaves.
 use mathlib.Core.Path.{_≡_}
-use mathlib.Core.Bool.{Bool, false, _&&_, not}
-use mathlib.Core.List.{List, []}
+use mathlib.Core.Bool.{Bool, false, _&&_, not, cond}
+use mathlib.Core.List.{List, [], _∷_}
 use Prim.Native.Nat.{ℕ, suc, _/_, _<_, min}
 use lib.Dec.{ltb}
-use lib.ListN.{length, getD}
-use Rattle.spec.specs.Bytes.{contains, positionOf, every, sum}
+use lib.ListN.{length, take, getD}
+use Rattle.spec.specs.Bytes.{contains, positionOf, every, sum, written}
 use Rattle.spec.specs.Directory.{keysOf, sizeAt}
-use Rattle.spec.specs.Recipes.{roomy, sizesIn, fileCode}
+use Rattle.spec.specs.Recipes.{roomy, sizesIn}
 use Rattle.directory.specs.Chains.{keysFrom, layoutOf}
 
 -- The fingerprints, and the chunks' lengths by entry, of an index whose directory has `count` entries from `start` on.
@@ -25,18 +25,19 @@ innerShort j n size due = ltb 0 j && ltb (suc j) n && ltb size due
 abbrev pub named : List ℕ → List (List ℕ)
 named file = keysOf 20 (length file / 20) file
 
+-- The entries of a file's places, up to the first fingerprint that is missing.
+unfoldable pub entriesIn : List (List ℕ) → List (List ℕ) → List ℕ
+entriesIn keys [] = []
+entriesIn keys (place ∷ places) = cond (contains place keys) (positionOf place keys ∷ entriesIn keys places) []
+
 -- The slots have the entries of a file's first places, as many as there are slots.
 pub record Slotted (keys file : List (List ℕ)) (slots : List ℕ) : Type 0 where
   pub each : (j : ℕ) → j < length file → j < length slots → getD slots j 0 ≡ positionOf (getD file j []) keys
 
--- The length is known up to 4294967296. Of a file with a fingerprint that is missing, only that is told.
-pub record Measured (keys : List (List ℕ)) (sizeOf : ℕ → ℕ) (due : ℕ) (file : List (List ℕ)) (slots : List ℕ) (missing : Bool) (total : ℕ) (short : Bool) : Type 0 where
+-- The length is known up to 4294967296. Of a file with a fingerprint that is missing, only that is told, and the slots have the entries before it.
+-- slots₀: the slots before the walk.
+pub record Measured (keys : List (List ℕ)) (sizeOf : ℕ → ℕ) (due : ℕ) (file : List (List ℕ)) (slots₀ slots : List ℕ) (missing : Bool) (total : ℕ) (short : Bool) : Type 0 where
   pub lacks : missing ≡ not (every (λ key. contains key keys) file)
   pub long : missing ≡ false → total ≡ min (sum (sizesIn keys sizeOf due file)) 4294967296
   pub tight : missing ≡ false → short ≡ not (roomy due (sizesIn keys sizeOf due file))
-  pub kept : missing ≡ false → Slotted keys file slots
-
--- The file's code, and where it is 0 the slots.
-pub record Tested (keys : List (List ℕ)) (sizeOf : ℕ → ℕ) (due : ℕ) (file : List (List ℕ)) (slots : List ℕ) (code : ℕ) : Type 0 where
-  pub number : code ≡ fileCode keys sizeOf due file
-  pub slotted : code ≡ 0 → Slotted keys file slots
+  pub kept : slots ≡ written slots₀ (take (length slots₀) (entriesIn keys file))

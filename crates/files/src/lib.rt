@@ -4,12 +4,13 @@
 ghost use mathlib.Core.Path.{_≡_};
 ghost use mathlib.Core.List.{[], _∷_};
 ghost use Prim.Native.Nat.{_+_, _*_, _≤_, _<_, min};
-ghost use lib.ListN.{length, set};
-ghost use Rattle.spec.specs.Bytes.{part, positionOf};
+ghost use lib.ListN.{length, take, set};
+ghost use Rattle.spec.specs.Bytes.{part, positionOf, written};
 ghost use Rattle.spec.specs.Outcome.{firstOf};
 ghost use Rattle.spec.specs.Directory.{sizeAt};
+ghost use Rattle.spec.specs.Recipes.{fileCode};
 ghost use Rattle.directory.specs.Chains.{keysFrom, Lies, Chained, layoutOf};
-ghost use Rattle.files.specs.Measures.{named, keysAt, sizesAt, innerShort, Measured, Tested};
+ghost use Rattle.files.specs.Measures.{named, keysAt, sizesAt, innerShort, entriesIn, Measured};
 
 // The entry of fingerprint j of a file; `count` where there is none.
 fn entry_of(
@@ -104,7 +105,7 @@ fn measure_file(
 ) -> Measure
     requires { ⌜ Lies (now index) start 32 count ⌝ }
     requires { ⌜ Chained (keysAt (now index) start count) 0 (now heads) (now next) ⌝ }
-    ensures { λ r. ⌜ Measured (keysAt (now (index .entry)) start count) (sizesAt (now (index .entry)) start) due (named (now (file .entry))) (now (slots .exit)) (r .missing) (r .total) (r .short) ⌝ }
+    ensures { λ r. ⌜ Measured (keysAt (now (index .entry)) start count) (sizesAt (now (index .entry)) start) due (named (now (file .entry))) (now (slots .entry)) (now (slots .exit)) (r .missing) (r .total) (r .short) ⌝ }
 {
     let n = file.len() / 20;
     let mut total: usize = 0;
@@ -149,7 +150,7 @@ fn first_of(a: bool, x: u8, b: bool, y: u8, c: bool, z: u8) -> u8
     0
 }
 
-// The code of a file. Where it is 0, the slots have the entries of the file's first places.
+// The code of a file. It leaves the entries of the file's first places in the slots, up to the first fingerprint that is missing.
 pub fn file_code(
     file: &[u8],
     index: &[u8],
@@ -162,7 +163,8 @@ pub fn file_code(
 ) -> u8
     requires { ⌜ Lies (now index) start 32 count ⌝ }
     requires { ⌜ Chained (keysAt (now index) start count) 0 (now heads) (now next) ⌝ }
-    ensures { λ r. ⌜ Tested (keysAt (now (index .entry)) start count) (sizesAt (now (index .entry)) start) due (named (now (file .entry))) (now (slots .exit)) r ⌝ }
+    ensures { λ r. ⌜ (r ≡ fileCode (keysAt (now (index .entry)) start count) (sizesAt (now (index .entry)) start) due (named (now (file .entry))))
+        × (now (slots .exit) ≡ written (now (slots .entry)) (take (length (now (slots .entry))) (entriesIn (keysAt (now (index .entry)) start count) (named (now (file .entry)))))) ⌝ }
 {
     let m = measure_file(file, index, start, count, heads, next, due, slots);
     let long = 4294967295 < m.total;

@@ -12,7 +12,7 @@ use Rattle.files.proofs.measure_file.Tie as tie
 
 abbrev Inv-loop : tie.InvT-loop
 Inv-loop file index start count heads next due slots₀ n total₀ short₀ j₀ slots total short j =
-    (j ≤ length file / 20) × (n ≡ length file / 20) × (length slots ≡ length slots₀) × Before file index start count due j total short slots
+    (j ≤ length file / 20) × (n ≡ length file / 20) × (length slots ≡ length slots₀) × Before file index start count due slots₀ j total short slots
 
 abbrev μ-loop : tie.MeasureT-loop
 μ-loop file index start count heads next due slots₀ n total₀ short₀ j₀ slots total short j = n - j
@@ -36,7 +36,7 @@ returns c =
     let a = p .before .before .before .before .before .before .args in
     let l = p .loop in
     let e = c .before .entry-of in
-    place-missing (now (a .file)) (now (a .index)) (a .start) (a .count) (a .due) (l .j) (l .total) (l .short) (l .slots) (l .inv .3) (omega arith) (e .result) (e .ensures) (c .if1 .taken)
+    place-missing (now (a .file)) (now (a .index)) (a .start) (a .count) (a .due) (now (a .slots)) (l .j) (l .total) (l .short) (l .slots) (l .inv .3) (omega arith) (e .result) (e .ensures) (c .if1 .taken)
 
 keep-requires : tie.Need-keep-requires Inv-loop μ-loop
 keep-requires c κs =
@@ -73,7 +73,7 @@ loop-again c =
       omega arith,
       l .inv .1,
       k .keep .kept .0 ∙ l .inv .2,
-      place-on (now (a .file)) (now (a .index)) (a .start) (a .count) (a .due) (l .j) (l .total) (l .short) (l .slots) (l .inv .3) (omega arith) (f .result) (z .result) (f .ensures) (e .if1 .left) (z .ensures)
+      place-on (now (a .file)) (now (a .index)) (a .start) (a .count) (a .due) (now (a .slots)) (l .j) (l .total) (l .short) (l .slots) (l .inv .3) (omega arith) (f .result) (z .result) (f .ensures) (e .if1 .left) (z .ensures)
           (t .result) (t .ensures) (c .inner-short .result) (c .inner-short .ensures) (k .keep .last .0) (k .keep .ensures),
     )
 
@@ -85,7 +85,7 @@ returns-2 c =
     let p = c .before in
     let a = p .before .before .before .before .before .before .args in
     let l = p .loop in
-    place-end (now (a .file)) (now (a .index)) (a .start) (a .count) (a .due) (l .j) (l .total) (l .short) (l .slots) (l .inv .3) (omega arith)
+    place-end (now (a .file)) (now (a .index)) (a .start) (a .count) (a .due) (now (a .slots)) (l .j) (l .total) (l .short) (l .slots) (l .inv .3) (omega arith)
 
 pub measure-file-spec : {M : Type 1} → statement M
 measure-file-spec =

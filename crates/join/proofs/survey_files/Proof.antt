@@ -8,13 +8,13 @@ use Rattle.spec.specs.Bytes.{fieldAt}
 use Rattle.spec.specs.Directory.{sizeAt}
 use Rattle.spec.specs.Records.{form1}
 use Rattle.spec.specs.Index.{listIn, indexLayout, indexKeys}
-use Rattle.spec.specs.Recipes.{fileCount}
+use Rattle.spec.specs.Recipes.{fileCount, fileCode}
 use Rattle.spec.specs.Join.{due}
 use Rattle.recipes.proofs.Files.{walk-file, accepted}
-use Rattle.files.specs.Measures.{named, Tested}
+use Rattle.files.specs.Measures.{named, Slotted}
 use Rattle.walk.proofs.Entries.{lies}
 use Rattle.join.proofs.FileLaws.{file-walks, file-next}
-use Rattle.join.proofs.Turns.{tested-in, Surveying, survey-start, survey-refused, survey-on, survey-end}
+use Rattle.join.proofs.Turns.{tested-code, tested-slots, Surveying, survey-start, survey-refused, survey-on, survey-end}
 use borrow.Author.Needs.{needs}
 use Rattle.join.proofs.survey_files.Statement.{statement}
 use Rattle.join.proofs.survey_files.Tie as tie
@@ -36,12 +36,23 @@ room c =
 
 -- what its test says
 test : (c : tie.After-file-code Inv-loop μ-loop) → let f = c .before .before in let s = f .before .before .before .before .before .before .before .before .before .before in let index = now (s .args .index) in
-    Tested (indexKeys index) (sizeAt (indexLayout index) index) (due form1 (listIn index)) (named (now (f .file-at .result))) (c .file-code .last .1 .1 .1 .1 .1 .1 .1 .0) (c .file-code .result)
+    c .file-code .result ≡ fileCode (indexKeys index) (sizeAt (indexLayout index) index) (due form1 (listIn index)) (named (now (f .file-at .result)))
 test c =
     let f = c .before .before in
     let s = f .before .before .before .before .before .before .before .before .before .before in
     let a = s .args in
-    tested-in (now (a .index)) (a .directory) (a .entries) (now (a .heads)) (now (a .chain)) (a .least) (named (now (f .file-at .result))) (c .file-code .last .1 .1 .1 .1 .1 .1 .1 .0) (c .file-code .result) (s .pre .0 .looked) (s .pre .1 .0) (c .file-code .ensures)
+    tested-code (now (a .index)) (a .directory) (a .entries) (now (a .heads)) (now (a .chain)) (a .least) (named (now (f .file-at .result))) (f .before .before .loop .slots)
+    (c .file-code .last .1 .1 .1 .1 .1 .1 .1 .0) (c .file-code .result) (s .pre .0 .looked) (c .file-code .ensures) (s .pre .1 .0)
+
+-- and what it leaves
+slots : (c : tie.After-file-code Inv-loop μ-loop) → let f = c .before .before in let s = f .before .before .before .before .before .before .before .before .before .before in let index = now (s .args .index) in
+    c .file-code .result ≡ 0 → Slotted (indexKeys index) (named (now (f .file-at .result))) (c .file-code .last .1 .1 .1 .1 .1 .1 .1 .0)
+slots c =
+    let f = c .before .before in
+    let s = f .before .before .before .before .before .before .before .before .before .before in
+    let a = s .args in
+    tested-slots (now (a .index)) (a .directory) (a .entries) (now (a .heads)) (now (a .chain)) (a .least) (named (now (f .file-at .result))) (f .before .before .loop .slots)
+    (c .file-code .last .1 .1 .1 .1 .1 .1 .1 .0) (c .file-code .result) (s .pre .0 .looked) (c .file-code .ensures)
 
 count-at-requires : tie.Need-count-at-requires Inv-loop μ-loop
 count-at-requires c κs =
@@ -78,7 +89,7 @@ returns c =
     let f = t .before .before in
     let p = f .before .before in
     let a = p .before .before .before .before .before .before .before .before .args in
-    survey-refused (now (a .index)) (now (a .recipes)) (p .loop .k) (p .loop .at) (omega arith) (now (f .file-at .result)) (f .file-at .ensures) (p .loop .some) (p .loop .total) (p .loop .inv .3) (t .file-code .result) (test t .number) (c .if1 .taken)
+    survey-refused (now (a .index)) (now (a .recipes)) (p .loop .k) (p .loop .at) (omega arith) (now (f .file-at .result)) (f .file-at .ensures) (p .loop .some) (p .loop .total) (p .loop .inv .3) (t .file-code .result) (test t) (c .if1 .taken)
 
 count-file-requires : tie.Need-count-file-requires Inv-loop μ-loop
 count-file-requires c κs =
@@ -91,7 +102,7 @@ count-file-requires c κs =
     let z = e .if1 .left in (
       s .pre .0 .looked,
       (
-        file-walks (now (a .index)) (now (a .recipes)) (p .loop .k) (p .loop .at) (p .loop .inv .3 .walk) (omega arith) (now (f .file-at .result)) (f .file-at .ensures) (t .file-code .last .1 .1 .1 .1 .1 .1 .1 .0) (sym (test t .number) ∙ z) (test t .slotted z),
+        file-walks (now (a .index)) (now (a .recipes)) (p .loop .k) (p .loop .at) (p .loop .inv .3 .walk) (omega arith) (now (f .file-at .result)) (f .file-at .ensures) (t .file-code .last .1 .1 .1 .1 .1 .1 .1 .0) (sym (test t) ∙ z) (slots t z),
         s .pre .0 .keyed,
       ),
     )
@@ -134,7 +145,7 @@ loop-again c =
       l .inv .0,
       t .file-code .kept .1 .1 .1 .1 .1 .1 .1 .0 ∙ l .inv .1,
       length-set (l .some) (l .k) (c .mark-of .result) ∙ l .inv .2,
-      survey-on (now (a .index)) (now (a .recipes)) (l .k) (l .at) (omega arith) (now (f .file-at .result)) (f .file-at .ensures) (l .some) (l .total) (l .inv .3) (t .file-code .result) (test t .number) (e .if1 .left)
+      survey-on (now (a .index)) (now (a .recipes)) (l .k) (l .at) (omega arith) (now (f .file-at .result)) (f .file-at .ensures) (l .some) (l .total) (l .inv .3) (t .file-code .result) (test t) (e .if1 .left)
           (n .result) (c .mark-of .result) (n .ensures) (c .mark-of .ensures) (omega (arith, l .inv .0, l .inv .2, l .inv .3 .few, s .pre .1 .1)),
     )
 
