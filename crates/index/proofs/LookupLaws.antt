@@ -6,7 +6,6 @@ use Prim.Native.Nat.{ℕ, _+_, _*_, _-_, _≤_}
 use native.Mathlib.Nat.{add-sub-cancel-left}
 use native.Mathlib.Omega.{arith}
 use lib.ListN.{length, take, drop}
-use denote.Ref.{RefT}
 use Rattle.spec.specs.Bytes.{part, fieldAt, positionOf}
 use Rattle.spec.specs.Keywords.{listSize, keywordFrontCode}
 use Rattle.spec.specs.Directory.{entryField, offsetAt, lengthAt}
@@ -21,7 +20,6 @@ use Rattle.spec.proofs.LookupLaws.{refuses, finds, done-code, refused-number, l
 use Rattle.spec.proofs.KeywordLaws.{accepted}
 use Rattle.spec.proofs.IndexChecks.{index-good, length-indexKeys}
 use Rattle.directory.specs.Chains.{keysFrom, Lies}
-use Rattle.directory.specs.Slices.{SliceOf}
 use Rattle.keywords.specs.declared.Keywords.{Keywords}
 use Rattle.keywords.specs.Parsed.{parsedOf}
 use Rattle.index.specs.Stages.{Opened, EntryOf}
@@ -148,14 +146,13 @@ module _ (index fp : List ℕ) (k : ℕ) (z : findBody form1 index fp ≡ 0) (q 
   unfolding bodyLength findBody indexLayout
   length-there = length-found (indexCode form1 index) (indexKeys index) fp (indexLayout index) index k z q
 
-  pub slice-there : {whole r : RefT (List ℕ)} → SliceOf whole r (bodyAt index k) (offsetAt (indexLayout index) index k)
-      → SliceOf whole r (bodyOf form1 index fp) (bodyStart form1 index fp)
+  pub body-there : {bytes : List ℕ} → bytes ≡ bodyAt index k → bytes ≡ bodyOf form1 index fp
   unfolding bodyAt bodyOf indexLayout
-  slice-there s = record {
-    holds = s .holds ∙ ap₂ (part index) start-there length-there;
-    block = s .block;
-    place = s .place ∙ rw start-there;
-  }
+  body-there e = e ∙ ap₂ (part index) start-there length-there
+
+  pub offset-there : offsetAt (indexLayout index) index k ≡ bodyStart form1 index fp
+  unfolding indexLayout
+  offset-there = start-there
 
 module _ (index fp : List ℕ) (d : findBody form1 index fp ≢ 0) where
   pub start-none : 0 ≡ bodyStart form1 index fp

@@ -11,7 +11,6 @@ ghost use Rattle.spec.specs.Directory.{entryField, offsetAt};
 ghost use Rattle.spec.specs.Index.{listIn, indexLayout, indexKeys, bodyAt, goodAt, allGood, indexCode};
 ghost use Rattle.spec.specs.Lookup.{findBody, bodyStart, bodyLength, bodyOf};
 ghost use Rattle.directory.specs.Chains.{Empty};
-ghost use Rattle.directory.specs.Slices.{SliceOf};
 ghost use Rattle.index.specs.Stages.{headerCode, directoryCode, examinedHeads, examinedLinks, Opened, Laid, Lens, EntryOf};
 
 // Fewer than 8 bytes, another mark, or a chunk count above 65,000.
@@ -178,7 +177,9 @@ fn entry_field(index: &[u8], k: usize, at: usize) -> usize
 // The body of entry k: the index's own slice.
 fn body_at(index: &[u8], k: usize) -> &[u8]
     requires { ⌜ EntryOf (now index) k ⌝ }
-    ensures { λ r. ⌜ SliceOf (index .entry) r (bodyAt (now (index .entry)) k) (offsetAt (indexLayout (now (index .entry))) (now (index .entry)) k) ⌝ }
+    ensures { λ r. ⌜ (now r ≡ bodyAt (now (index .entry)) k)
+        × (r .ptr .0 ≡ index .entry .ptr .0)
+        × (r .ptr .1 ≡ offsetAt (indexLayout (now (index .entry))) (now (index .entry)) k + index .entry .ptr .1) ⌝ }
 {
     let at = entry_field(index, k, 24);
     let n = entry_field(index, k, 28);
@@ -207,7 +208,9 @@ pub fn body_length(index: &[u8], fp: &[u8]) -> usize
 
 // The body of a fingerprint: a slice of the index itself, never of the fingerprint; the empty slice at the index's start on a refusal.
 pub fn body<'a, 'b>(index: &'a [u8], fp: &'b [u8]) -> &'a [u8]
-    ensures { λ r. ⌜ SliceOf (index .entry) r (bodyOf form1 (now (index .entry)) (now (fp .entry))) (bodyStart form1 (now (index .entry)) (now (fp .entry))) ⌝ }
+    ensures { λ r. ⌜ (now r ≡ bodyOf form1 (now (index .entry)) (now (fp .entry)))
+        × (r .ptr .0 ≡ index .entry .ptr .0)
+        × (r .ptr .1 ≡ bodyStart form1 (now (index .entry)) (now (fp .entry)) + index .entry .ptr .1) ⌝ }
 {
     match locate(index, fp) {
         spec::Outcome::Done(k) => body_at(index, k),

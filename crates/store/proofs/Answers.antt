@@ -17,8 +17,6 @@ use Rattle.spec.proofs.Codes.{refused-whole}
 use Rattle.spec.proofs.EntryLaws.{length-keys, keyIn-at}
 use Rattle.spec.proofs.LookupLaws.{lookup-passed, start-found, length-found, start-refused, length-refused}
 use Rattle.spec.proofs.StoreLaws.{store-good, length-storeKeys}
-use denote.Ref.{RefT}
-use Rattle.directory.specs.Slices.{SliceOf}
 use Rattle.directory.specs.Chains.{keysFrom, Chained, Lies}
 use Rattle.directory.proofs.ChainLists.{Built, chained}
 use Rattle.store.specs.Examined.{Examined, EntryOf}
@@ -118,13 +116,9 @@ module _ (store fp : List ℕ) (k : ℕ) (z : findChunk store fp ≡ 0) (q : k �
   unfolding chunkLength findChunk
   chunk-length-found = length-found (storeCode store) (storeKeys store) fp storeLayout store k z q
 
-  pub slice-found : {whole r : RefT (List ℕ)} → SliceOf whole r (chunkAt store k) (offsetAt storeLayout store k) → SliceOf whole r (chunkOf store fp) (chunkStart store fp)
+  pub chunk-found : {bytes : List ℕ} → bytes ≡ chunkAt store k → bytes ≡ chunkOf store fp
   unfolding chunkAt chunkOf
-  slice-found s = record {
-    holds = s .holds ∙ ap₂ (part store) chunk-start-found chunk-length-found;
-    block = s .block;
-    place = s .place ∙ rw chunk-start-found;
-  }
+  chunk-found e = e ∙ ap₂ (part store) chunk-start-found chunk-length-found
 
 module _ (store fp : List ℕ) (d : findChunk store fp ≢ 0) where
   pub chunk-start-refused : 0 ≡ chunkStart store fp

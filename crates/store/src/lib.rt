@@ -9,7 +9,6 @@ ghost use Rattle.spec.specs.Directory.{entryField, offsetAt};
 ghost use Rattle.spec.specs.Store.{storeMark, storeLayout, storeKeys, storeCode, chunkCount, chunkAt};
 ghost use Rattle.spec.specs.Lookup.{findChunk, chunkStart, chunkLength, chunkOf};
 ghost use Rattle.directory.specs.Chains.{Empty};
-ghost use Rattle.directory.specs.Slices.{SliceOf};
 ghost use Rattle.store.specs.Examined.{Examined, EntryOf};
 
 // 44 56 31 0A
@@ -118,7 +117,9 @@ pub fn key_at(store: &[u8], k: usize) -> &[u8]
 // The chunk of entry k: the store's own slice, uncopied.
 pub fn chunk_at(store: &[u8], k: usize) -> &[u8]
     requires { ⌜ EntryOf (now store) k ⌝ }
-    ensures { λ r. ⌜ SliceOf (store .entry) r (chunkAt (now (store .entry)) k) (offsetAt storeLayout (now (store .entry)) k) ⌝ }
+    ensures { λ r. ⌜ (now r ≡ chunkAt (now (store .entry)) k)
+        × (r .ptr .0 ≡ store .entry .ptr .0)
+        × (r .ptr .1 ≡ offsetAt storeLayout (now (store .entry)) k + store .entry .ptr .1) ⌝ }
 {
     let at = entry_field(store, k, 20);
     let n = entry_field(store, k, 24);
@@ -147,7 +148,9 @@ pub fn chunk_length(store: &[u8], fp: &[u8]) -> usize
 
 // The chunk of a fingerprint: a slice of the store itself, never of the fingerprint; the empty slice at the store's start on a refusal.
 pub fn chunk<'a, 'b>(store: &'a [u8], fp: &'b [u8]) -> &'a [u8]
-    ensures { λ r. ⌜ SliceOf (store .entry) r (chunkOf (now (store .entry)) (now (fp .entry))) (chunkStart (now (store .entry)) (now (fp .entry))) ⌝ }
+    ensures { λ r. ⌜ (now r ≡ chunkOf (now (store .entry)) (now (fp .entry)))
+        × (r .ptr .0 ≡ store .entry .ptr .0)
+        × (r .ptr .1 ≡ chunkStart (now (store .entry)) (now (fp .entry)) + store .entry .ptr .1) ⌝ }
 {
     match locate(store, fp) {
         spec::Outcome::Done(k) => chunk_at(store, k),

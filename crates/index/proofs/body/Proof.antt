@@ -7,7 +7,7 @@ use Rattle.spec.specs.Bytes.{positionOf}
 use Rattle.spec.specs.Records.{form1}
 use Rattle.spec.specs.Index.{indexKeys}
 use Rattle.spec.specs.Lookup.{findBody}
-use Rattle.index.proofs.LookupLaws.{told-done, told-refused, found-entry, slice-there, slice-none, start-none}
+use Rattle.index.proofs.LookupLaws.{told-done, told-refused, found-entry, body-there, offset-there, slice-none, start-none}
 use borrow.Author.Needs.{needs}
 use Rattle.index.proofs.body.Statement.{statement}
 use Rattle.index.proofs.body.Tie as tie
@@ -43,18 +43,22 @@ returns : tie.Need-returns
 returns c =
     let a = c .before .before .before .before .before .before .before .args in
     let t = told (c .before) in
-    slice-there (now (a .index)) (now (a .fp)) (c .before .before .k .given .0 .0) (t .0) (t .1) (c .body-at .ensures)
+    let k = c .before .before .k .given .0 .0 in
+    let s = c .body-at .ensures in (
+      body-there (now (a .index)) (now (a .fp)) k (t .0) (t .1) (s .0),
+      s .1,
+      s .2 ∙ ap (λ (n : ℕ). n + a .index .ptr .1) (offset-there (now (a .index)) (now (a .fp)) k (t .0) (t .1)),
+    )
 
 returns-2 : tie.Need-returns-2
 returns-2 c =
     let called = c .before .before .before in
     let a = called .before .before .before .args in
-    let d = told-refused (now (a .index)) (now (a .fp)) (c .before .enum-told .given .0 .0) (sym (c .before .enum-told .given .1) ∙ called .locate .ensures) .1 in
-    record {
-      holds = slice-none (now (a .index)) (now (a .fp)) d;
-      block = refl;
-      place = sym (zero-add (a .index .ptr .1)) ∙ ap (λ (n : ℕ). n + a .index .ptr .1) (start-none (now (a .index)) (now (a .fp)) d);
-    }
+    let d = told-refused (now (a .index)) (now (a .fp)) (c .before .enum-told .given .0 .0) (sym (c .before .enum-told .given .1) ∙ called .locate .ensures) .1 in (
+      slice-none (now (a .index)) (now (a .fp)) d,
+      refl,
+      sym (zero-add (a .index .ptr .1)) ∙ ap (λ (n : ℕ). n + a .index .ptr .1) (start-none (now (a .index)) (now (a .fp)) d),
+    )
 
 pub body-spec : {M : Type 1} → statement M
 body-spec =

@@ -41,12 +41,11 @@ returns c =
     let s = first .before .before in
     let index = now (s .args .index) in
     let at = first .entry-field .result in
-    let n = both .entry-field2 .result in
-    record {
-      holds = body-slice index (s .args .k) (s .pre) at n (first .entry-field .ensures) (both .entry-field2 .ensures);
-      block = refl;
-      place = ap (λ (x : ℕ). x + s .args .index .ptr .1) (offset-found index (s .args .k) (s .pre) at n (first .entry-field .ensures) (both .entry-field2 .ensures));
-    }
+    let n = both .entry-field2 .result in (
+      body-slice index (s .args .k) (s .pre) at n (first .entry-field .ensures) (both .entry-field2 .ensures),
+      refl,
+      ap (λ (x : ℕ). x + s .args .index .ptr .1) (offset-found index (s .args .k) (s .pre) at n (first .entry-field .ensures) (both .entry-field2 .ensures)),
+    )
 
 pub body-at-spec : {M : Type 1} → statement M
 body-at-spec =

@@ -38,7 +38,7 @@ body-size-requires c κs =
     let s = p .before .before .before in
     record {
       reads = s .pre .reads;
-      short = omega (arith, ap length (c .chunk-at .ensures .holds), body-short (s .args .list .now) (s .args .store .now) (s .pre .checked) (s .pre .reads .accepted) (p .loop .j) (within (c .before)));
+      short = omega (arith, ap length (c .chunk-at .ensures .0), body-short (s .args .list .now) (s .args .store .now) (s .pre .checked) (s .pre .reads .accepted) (p .loop .j) (within (c .before)));
     }
 
 -- the body measured is the first of those left
@@ -48,7 +48,7 @@ step : (c : tie.After-body-size Inv-loop μ-loop)
 step c =
     let p = c .before .before .before in
     let a = p .before .before .before .args in
-    let e = c .body-size .ensures ∙ ap (λ chunk. length (scanBody form1 (a .list .now) chunk)) (c .before .chunk-at .ensures .holds) in
+    let e = c .body-size .ensures ∙ ap (λ chunk. length (scanBody form1 (a .list .now) chunk)) (c .before .chunk-at .ensures .0) in
     omega (arith, e, bodies-length form1 (a .list .now) (a .store .now) (p .loop .j) (within (c .before .before)))
 
 add-size : tie.Need-add-size Inv-loop μ-loop

@@ -85,7 +85,7 @@ put-body-requires c κs =
     let i = c .before .before in
     let p = i .before in
     let s = p .before .before .before .before in
-    let e = ap (λ chunk. length (scanBody form1 (s .args .list .now) chunk)) (c .before .chunk-at .ensures .holds) in
+    let e = ap (λ chunk. length (scanBody form1 (s .args .list .now) chunk)) (c .before .chunk-at .ensures .0) in
     record {
       reads = s .pre .walks .reads;
       room = part-room (p .loop .out) (p .loop .at) _ (omega (arith, e, room i));
@@ -124,7 +124,7 @@ measured : (c : tie.After-put-body Inv-loop μ-loop) → let p = c .before .befo
     c .put-body .result ≡ length (body form1 (a .list .now) (a .store .now) (p .loop .k))
 measured c =
     let a = c .before .before .before .before .before .before .before .before .args in
-    let e = ap (λ chunk. length (scanBody form1 (a .list .now) chunk)) (c .before .before .chunk-at .ensures .holds) in
+    let e = ap (λ chunk. length (scanBody form1 (a .list .now) chunk)) (c .before .before .chunk-at .ensures .0) in
     omega (arith, c .put-body .ensures .1, e)
 
 add-at-2 : tie.Need-add-at-2 Inv-loop μ-loop
@@ -155,7 +155,7 @@ loop-again c =
         omega (arith, measured b, bodies-length form1 (a .list .now) (a .store .now) k l, p .loop .inv .0 .3),
       ),
       regions-turn (a .list .now) (a .store .now) (s .pre .walks .checked) k (p .loop .at) l (now (w .before .before .key-at .result)) (now (b .before .before .chunk-at .result)) (b .put-body .result)
-          (b .before .before .chunk-at .ensures .holds) (w .before .before .key-at .ensures)
+          (b .before .before .chunk-at .ensures .0) (w .before .before .key-at .ensures)
           (p .loop .out) (b .put-body .last .0) (w .put-entry .last .0) (splice (a .out .now) (8 + length (a .list .now)) (tailBytes form1 (a .list .now) (a .store .now)))
           (omega (arith, p .loop .inv .0 .2, s .pre .walks .counted)) (room i) (b .put-body .ensures .0) (b .put-body .ensures .1) (w .put-entry .ensures) (p .loop .inv .1),
     )

@@ -7,7 +7,7 @@ use Rattle.spec.specs.Bytes.{positionOf}
 use Rattle.spec.specs.Store.{storeKeys}
 use Rattle.spec.specs.Lookup.{findChunk}
 use Rattle.spec.proofs.LookupLaws.{done-code, refused-number}
-use Rattle.store.proofs.Answers.{found-entry, slice-found, slice-refused, chunk-start-refused}
+use Rattle.store.proofs.Answers.{found-entry, chunk-start-found, chunk-found, slice-refused, chunk-start-refused}
 use borrow.Author.Needs.{needs}
 use Rattle.store.proofs.chunk.Statement.{statement}
 use Rattle.store.proofs.chunk.Tie as tie
@@ -43,18 +43,22 @@ returns : tie.Need-returns
 returns c =
     let a = c .before .before .before .before .before .before .before .args in
     let t = told (c .before) in
-    slice-found (now (a .store)) (now (a .fp)) (c .before .before .k .given .0 .0) (t .0) (t .1) (c .chunk-at .ensures)
+    let k = c .before .before .k .given .0 .0 in
+    let s = c .chunk-at .ensures in (
+      chunk-found (now (a .store)) (now (a .fp)) k (t .0) (t .1) (s .0),
+      s .1,
+      s .2 ∙ ap (λ (n : ℕ). n + a .store .ptr .1) (chunk-start-found (now (a .store)) (now (a .fp)) k (t .0) (t .1)),
+    )
 
 returns-2 : tie.Need-returns-2
 returns-2 c =
     let called = c .before .before .before in
     let a = called .before .before .before .args in
-    let d = refused-number (c .before .enum-told .given .0 .0) (findChunk (now (a .store)) (now (a .fp))) (positionOf (now (a .fp)) (storeKeys (now (a .store)))) (sym (c .before .enum-told .given .1) ∙ called .locate .ensures) .1 in
-    record {
-      holds = slice-refused (now (a .store)) (now (a .fp)) d;
-      block = refl;
-      place = sym (zero-add (a .store .ptr .1)) ∙ ap (λ (n : ℕ). n + a .store .ptr .1) (chunk-start-refused (now (a .store)) (now (a .fp)) d);
-    }
+    let d = refused-number (c .before .enum-told .given .0 .0) (findChunk (now (a .store)) (now (a .fp))) (positionOf (now (a .fp)) (storeKeys (now (a .store)))) (sym (c .before .enum-told .given .1) ∙ called .locate .ensures) .1 in (
+      slice-refused (now (a .store)) (now (a .fp)) d,
+      refl,
+      sym (zero-add (a .store .ptr .1)) ∙ ap (λ (n : ℕ). n + a .store .ptr .1) (chunk-start-refused (now (a .store)) (now (a .fp)) d),
+    )
 
 pub chunk-spec : {M : Type 1} → statement M
 chunk-spec =

@@ -36,12 +36,11 @@ part-result-end c = let r = room c in search needs
 returns : tie.Need-returns
 returns c =
     let sized = c .before in
-    let a = sized .before .before .before .args in
-    record {
-      holds = chunk-slice (now (a .store)) (a .k) (sized .before .before .before .pre) (sized .before .entry-field .result) (sized .entry-field2 .result) (sized .before .entry-field .ensures) (sized .entry-field2 .ensures);
-      block = refl;
-      place = ap (λ (n : ℕ). n + a .store .ptr .1) (sized .before .entry-field .ensures);
-    }
+    let a = sized .before .before .before .args in (
+      chunk-slice (now (a .store)) (a .k) (sized .before .before .before .pre) (sized .before .entry-field .result) (sized .entry-field2 .result) (sized .before .entry-field .ensures) (sized .entry-field2 .ensures),
+      refl,
+      ap (λ (n : ℕ). n + a .store .ptr .1) (sized .before .entry-field .ensures),
+    )
 
 pub chunk-at-spec : {M : Type 1} → statement M
 chunk-at-spec =
