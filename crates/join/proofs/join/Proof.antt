@@ -1,4 +1,5 @@
 -- `join` meets its contract: one law for each way out (Answers).
+use mathlib.Core.Path.{refl}
 use Prim.Native.Nat.{ℕ}
 use native.Mathlib.Omega.{arith}
 use lib.ListN.{length-replicate}
@@ -11,13 +12,13 @@ use Rattle.join.proofs.join.Statement.{statement}
 use Rattle.join.proofs.join.Tie as tie
 
 slice-aggregate-make-plan : tie.Need-slice-aggregate-make-plan
-slice-aggregate-make-plan c = search needs
+slice-aggregate-make-plan c = refl
 
 slice-aggregate-make-plan-2 : tie.Need-slice-aggregate-make-plan-2
-slice-aggregate-make-plan-2 c = search needs
+slice-aggregate-make-plan-2 c = refl
 
 slice-aggregate-make-plan-3 : tie.Need-slice-aggregate-make-plan-3
-slice-aggregate-make-plan-3 c = search needs
+slice-aggregate-make-plan-3 c = refl
 
 make-plan-requires : tie.Need-make-plan-requires
 make-plan-requires c κs = (zeros, omega (arith, length-replicate {A = ℕ} 65535 0))
