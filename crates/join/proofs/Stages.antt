@@ -20,7 +20,7 @@ use Rattle.keywords.specs.Parsed.{parsedOf, Reads, Parsed}
 use Rattle.directory.specs.Chains.{Chained}
 use Rattle.index.proofs.CheckLaws.{list-is, listed}
 use Rattle.files.proofs.OfIndex.{index-keys}
-use Rattle.tables.specs.Tabled.{Tabled}
+use Rattle.tables.specs.Tabled.{tablesOf}
 use Rattle.join.specs.Joining.{Prepared, Joinable, allFilesCode, Surveyed, Planned}
 
 -- ---- the checks
@@ -89,7 +89,7 @@ module _ (index : List ℕ) (i : indexCode form1 index ≡ 0) where
 
     -- all files can be walked
     pub joinable : (recipes heads chain : List ℕ) (entries : ℕ) (tables : List (List (List ℕ))) → recipesCode recipes ≡ 0 → entries ≡ chunkCount index → Chained (indexKeys index) 0 heads chain
-        → Tabled (foldedKeywords (take (length index - 8) (drop 8 index))) tables → Joinable index recipes (8 + words .size) entries heads chain (words .count) tables
+        → tables ≡ tablesOf (foldedKeywords (take (length index - 8) (drop 8 index))) → Joinable index recipes (8 + words .size) entries heads chain (words .count) tables
     joinable recipes heads chain entries tables r c l t =
         record {
           named = r;
@@ -103,7 +103,7 @@ module _ (index : List ℕ) (i : indexCode form1 index ≡ 0) where
             counts = read .counts ∙ sym (accepted (listIn index) (good .list) .count) ∙ sym (folded-count (listIn index));
             some = read .some;
             few = read .few;
-            tabled = subst (λ (l : List ℕ). Tabled (foldedKeywords l) tables) (list-is index) t;
+            tabled = t ∙ ap (λ (l : List ℕ). tablesOf (foldedKeywords l)) (list-is index);
           };
         }
 

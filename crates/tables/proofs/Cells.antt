@@ -1,28 +1,30 @@
--- A cell by comparisons of parts of the keyword, and its set by going through the starts. Assumes nothing.
-use mathlib.Core.Path.{_≡_, sym, ap, _∙_, subst}
-use mathlib.Core.Bool.{Bool, true, false, _&&_, and-comm}
-use mathlib.Core.List.{List, [], _∷_}
+-- A cell by comparisons of parts of the keyword, and its set by going through the starts; then what the arrays hold. Assumes nothing.
+use mathlib.Core.Path.{_≡_, sym, ap, _∙_}
+use mathlib.Core.Bool.{Bool, true, false, _&&_, and-comm, and-false}
+use mathlib.Core.List.{List, []}
 use Prim.Native.Nat.{ℕ, zero, suc, _+_, _-_, _*_, _%_, _^_, _≤_, _<_}
-use native.Mathlib.Nat.{one-mul, zero-mul, zero-add, add-comm, pow-suc}
+use native.Mathlib.Nat.{add-sub-cancel-left, one-mul, zero-mul, zero-add, add-comm, pow-suc}
 use native.Mathlib.Numerals.{add-one}
 use native.Mathlib.Omega.{arith}
-use borrow.Author.Count.{below-more}
-use lib.ListN.{length, take, drop, getD, set, length-drop, length-take}
-use lib.Seq.{take-all, getD-set-same, getD-set-other}
+use borrow.Author.Tests.{lt-ltb, le-ltb}
+use lib.ListN.{length, take, drop, getD, replicate, length-drop, List·getD-eq-default}
+use lib.Seq.{take-all}
 use lib.Pow.{shl-exact, pow-mono}
-use Rattle.spec.specs.Bytes.{begins, occursAt, part}
-use Rattle.spec.specs.Keywords.{folded, countOf, readKeywords, keywordsOf, foldedKeywords}
+use Rattle.spec.specs.Bytes.{begins, occursAt}
+use Rattle.spec.specs.Keywords.{folded, foldedKeywords}
 use Rattle.spec.specs.Table.{inCell, setOf}
 use Rattle.spec.specs.Join.{crosses, keywordAt}
 use Rattle.spec.proofs.Tests.{leb-true}
+use Rattle.spec.proofs.Tabulated.{length-tabulated, tabulated-at}
 use Rattle.spec.proofs.Folding.{folded-take, folded-drop, folded-length}
 use Rattle.spec.proofs.Point.{starts, crosses-split}
 use Rattle.spec.proofs.Stream.{cell-edge}
 use Rattle.spec.proofs.Sets.{set-lt}
-use Rattle.spec.proofs.KeywordLaws.{folded-count, folded-keyword}
+use Rattle.spec.proofs.KeywordLaws.{accepted, folded-count, folded-keyword}
 use Rattle.keywords.specs.declared.Keywords.{Keywords}
-use Rattle.keywords.specs.Parsed.{Parsed}
-use Rattle.tables.specs.Tabled.{cellSet, TableOf, Tabled}
+use Rattle.keywords.specs.Parsed.{Reads, Parsed}
+use Rattle.keywords.proofs.Reading.{parsed}
+use Rattle.tables.specs.Tabled.{cellSet, cellIn, cellsOf, tableOf, tablesOf, cellAt}
 
 -- ---- one start
 
@@ -75,41 +77,84 @@ cell-ends flag word i j m hj l h =
     let e : i - m + m ≡ i = omega arith in
     sym (set-beyond (inCell (folded flag word) i j) m (i - m) (λ s u. cell-edge (folded flag word) i j s (omega (arith, n)) (omega (arith, n)))) ∙ ap (setOf (inCell (folded flag word) i j)) e
 
--- ---- arrays
+-- ---- the elements of the arrays
 
--- a loop that fills an array from the front
-pub filled-more : {A : Type 0} (P : ℕ → A → Type 0) (xs : List A) (j : ℕ) (v d : A) → j < length xs → ((k : ℕ) → k < j → P k (getD xs k d)) → P j v
-    → (k : ℕ) → k < j + 1 → P k (getD (set xs j v) k d)
-filled-more P xs j v d h all here =
-    below-more (λ (k : ℕ). P k (getD (set xs j v) k d)) j
-    (λ k l. subst (P k) (sym (getD-set-other xs j k v d (λ e. omega arith))) (all k l))
-    (subst (P j) (sym (getD-set-same xs j v d h)) here)
+module _ (keyword : List ℕ) where
+  pub length-cells : (i : ℕ) → length (cellsOf keyword i) ≡ 32
+  unfolding cellsOf
+  length-cells i = length-tabulated (cellIn keyword i) 0 32
+
+  pub length-table : length (tableOf keyword) ≡ 32
+  unfolding tableOf
+  length-table = length-tabulated (cellsOf keyword) 0 32
+
+  cells-at : (i j : ℕ) → j < 32 → getD (cellsOf keyword i) j 0 ≡ cellIn keyword i j
+  unfolding cellsOf
+  cells-at i j h = tabulated-at (cellIn keyword i) 0 32 j 0 h ∙ rw zero-add
+
+  pub row-at : (i : ℕ) (d : List ℕ) → i < 32 → getD (tableOf keyword) i d ≡ cellsOf keyword i
+  unfolding tableOf
+  row-at i d h = tabulated-at (cellsOf keyword) 0 32 i d h ∙ rw zero-add
+
+  -- within the keyword's length, and behind it
+  pub cell-inside : (i j : ℕ) → i < length keyword → j < length keyword → length keyword ≤ 32 → getD (cellsOf keyword i) j 0 ≡ cellSet keyword i j
+  unfolding cellIn
+  cell-inside i j h l n = cells-at i j (omega arith) ∙ rw (lt-ltb i (length keyword) h, lt-ltb j (length keyword) l)
+
+  pub cell-behind : (i j : ℕ) → length keyword ≤ j → j < 32 → getD (cellsOf keyword i) j 0 ≡ 0
+  unfolding cellIn
+  cell-behind i j h l = cells-at i j l ∙ rw (le-ltb j (length keyword) h, and-false)
+
+  pub row-behind : (i : ℕ) → length keyword ≤ i → i < 32 → getD (tableOf keyword) i (replicate 32 0) ≡ replicate 32 0
+  unfolding cellsOf cellIn
+  row-behind i h l = row-at i (replicate 32 0) l ∙ rw (le-ltb i (length keyword) h)
+
+module _ (keywords : List (List ℕ)) where
+  pub length-tables : length (tablesOf keywords) ≡ 16
+  unfolding tablesOf
+  length-tables = length-tabulated (λ k. tableOf (keywordAt keywords k)) 0 16
+
+  pub table-at : (k : ℕ) (d : List (List ℕ)) → k < 16 → getD (tablesOf keywords) k d ≡ tableOf (keywordAt keywords k)
+  unfolding tablesOf
+  table-at k d h = tabulated-at (λ m. tableOf (keywordAt keywords m)) 0 16 k d h ∙ rw zero-add
+
+  pub table-behind : (k : ℕ) → length keywords ≤ k → k < 16 → getD (tablesOf keywords) k (replicate 32 (replicate 32 0)) ≡ replicate 32 (replicate 32 0)
+  unfolding tableOf cellsOf cellIn
+  table-behind k h l = table-at k (replicate 32 (replicate 32 0)) l ∙ rw (List·getD-eq-default keywords [] h)
+
+  -- what callers read
+  pub cell-at : (tables : List (List (List ℕ))) → tables ≡ tablesOf keywords → (k i j : ℕ) → k < 16 → length (keywordAt keywords k) ≤ 32
+      → i < length (keywordAt keywords k) → j < length (keywordAt keywords k) → cellAt tables k i j ≡ cellSet (keywordAt keywords k) i j
+  cell-at tables e k i j h n l m =
+      rw (e, table-at k [] h, row-at (keywordAt keywords k) i [] (omega arith)) (cell-inside (keywordAt keywords k) i j l m n)
 
 -- ---- the keywords of a list
 
-read-few : (count : ℕ) (bytes : List ℕ) → length (readKeywords count bytes) ≤ count
-read-few zero bytes = omega arith
-read-few (suc count) [] = omega arith
-read-few (suc count) (n ∷ bytes) = omega (arith, read-few count (drop n bytes))
+module _ (list : List ℕ) (words : Keywords) (r : Reads list words) where
+  read : Parsed list words
+  read = parsed list words r
 
-module _ (list : List ℕ) (words : Keywords) (p : Parsed list words) where
-  few : (k : ℕ) → k < length (foldedKeywords list) → k < words .count
-  unfolding keywordsOf
-  few k h = omega (arith, folded-count list, read-few (countOf list) (drop 2 list), p .counts)
+  pub words-few : words .count ≤ 16
+  words-few = read .few
+
+  pub words-all : length (foldedKeywords list) ≡ words .count
+  words-all = folded-count list ∙ accepted list (r .accepted) .count ∙ sym (read .counts)
 
   pub placed-room : (k : ℕ) → k < words .count → getD (words .start) k 0 + getD (words .len) k 0 ≤ length list
-  placed-room k h = omega (arith, p .placed k h .room, p .ends, p .room)
+  placed-room k h = omega (arith, read .placed k h .room, read .ends, read .room)
 
-  pub placed-length : (k : ℕ) → k < words .count → length (part list (getD (words .start) k 0) (getD (words .len) k 0)) ≤ 32
-  placed-length k h = omega (arith, length-take (getD (words .len) k 0) (drop (getD (words .start) k 0) list), p .placed k h .most)
+  pub placed-most : (k : ℕ) → k < words .count → getD (words .len) k 0 ≤ 32
+  placed-most k h = read .placed k h .most
 
-  -- the keyword as it compares
-  placed-is : (k : ℕ) → k < words .count → folded (words .flag) (part list (getD (words .start) k 0) (getD (words .len) k 0)) ≡ keywordAt (foldedKeywords list) k
-  placed-is k h = rw (p .flags, p .placed k h .bytes) (sym (folded-keyword list k))
+  -- the keyword as the code hands it on, a slice of the list
+  slice-is : (k : ℕ) → k < words .count
+      → let at = getD (words .start) k 0 in
+      folded (words .flag) (take (at + getD (words .len) k 0 - at) (drop at list)) ≡ keywordAt (foldedKeywords list) k
+  slice-is k h = rw (add-sub-cancel-left, read .flags, read .placed k h .bytes) (sym (folded-keyword list k))
 
-  pub all-tables : (tables : List (List (List ℕ))) → ((k : ℕ) → k < words .count → TableOf (folded (words .flag) (part list (getD (words .start) k 0) (getD (words .len) k 0))) (getD tables k [])) → Tabled (foldedKeywords list) tables
-  all-tables tables t =
-      record {
-        short = λ k h. omega (arith, ap length (placed-is k (few k h)), folded-length (words .flag) (part list (getD (words .start) k 0) (getD (words .len) k 0)), placed-length k (few k h));
-        table = λ k h. subst (λ (w : List ℕ). TableOf w (getD tables k [])) (placed-is k (few k h)) (t k (few k h));
-      }
+  -- its table is the one at k
+  pub table-is : (k : ℕ) → k < words .count → k < 16 → (table : List (List ℕ))
+      → let at = getD (words .start) k 0 in
+      table ≡ tableOf (folded (words .flag) (take (at + getD (words .len) k 0 - at) (drop at list)))
+      → table ≡ getD (tablesOf (foldedKeywords list)) k (replicate 32 (replicate 32 0))
+  table-is k h l table e = e ∙ ap tableOf (slice-is k h) ∙ sym (table-at (foldedKeywords list) k (replicate 32 (replicate 32 0)) l)

@@ -6,7 +6,7 @@ ghost use lib.ListN.{length};
 ghost use Rattle.spec.specs.Keywords.{folded, foldedKeywords};
 ghost use Rattle.spec.specs.Table.{inCell};
 ghost use Rattle.keywords.specs.Parsed.{Reads};
-ghost use Rattle.tables.specs.Tabled.{cellSet, RowOf, TableOf, Tabled};
+ghost use Rattle.tables.specs.Tabled.{cellSet, cellsOf, tableOf, tablesOf};
 
 // Whether the keyword starts at s in its first i bytes followed by its last j.
 fn in_cell(flag: u8, keyword: &[u8], i: usize, j: usize, s: usize) -> bool
@@ -45,7 +45,7 @@ fn cell_of(flag: u8, keyword: &[u8], i: usize, j: usize) -> u32
 // The cells for i, by j.
 fn row_of(flag: u8, keyword: &[u8], i: usize) -> [u32; 32]
     requires { ⌜ (i < length (now keyword)) × (length (now keyword) ≤ 32) ⌝ }
-    ensures { λ r. ⌜ RowOf (folded flag (now (keyword .entry))) i r ⌝ }
+    ensures { λ r. ⌜ r ≡ cellsOf (folded flag (now (keyword .entry))) i ⌝ }
 {
     let mut row = [0u32; 32];
     let mut j: usize = 0;
@@ -59,7 +59,7 @@ fn row_of(flag: u8, keyword: &[u8], i: usize) -> [u32; 32]
 // The table of one keyword.
 fn table_of(flag: u8, keyword: &[u8]) -> [[u32; 32]; 32]
     requires { ⌜ length (now keyword) ≤ 32 ⌝ }
-    ensures { λ r. ⌜ TableOf (folded flag (now (keyword .entry))) r ⌝ }
+    ensures { λ r. ⌜ r ≡ tableOf (folded flag (now (keyword .entry))) ⌝ }
 {
     let mut table = [[0u32; 32]; 32];
     let mut i: usize = 0;
@@ -73,7 +73,7 @@ fn table_of(flag: u8, keyword: &[u8]) -> [[u32; 32]; 32]
 // The tables of all keywords of a list.
 pub fn tables_of(list: &[u8], words: keywords::Keywords) -> [[[u32; 32]; 32]; 16]
     requires { ⌜ Reads (now list) words ⌝ }
-    ensures { λ r. ⌜ Tabled (foldedKeywords (now (list .entry))) r ⌝ }
+    ensures { λ r. ⌜ r ≡ tablesOf (foldedKeywords (now (list .entry))) ⌝ }
 {
     let start = words.start;
     let len = words.len;

@@ -26,6 +26,7 @@ use Rattle.spec.proofs.Stream.{atPlace, stream, cell-no-suffix}
 use Rattle.spec.proofs.RecordRanges.{passing-rises, passing-every}
 use Rattle.spec.proofs.RecordLaws.{prefix-in, suffix-in, offsets-rise, offsets-in, offsets-count}
 use Rattle.tables.specs.Tabled.{cellSet, cellAt}
+use Rattle.tables.proofs.Cells.{cell-at}
 use Rattle.listing.specs.Streams.{below, bits, unread, streamOf, unreadAt, occurrences, numbers, total, Ready}
 use Rattle.listing.proofs.Digits.{bits-set}
 use Rattle.listing.proofs.Totals.{total-set}
@@ -162,7 +163,8 @@ module _ (index : List ℕ) (count : ℕ) (tables : List (List (List ℕ))) (chu
   cell-is k u =
       let v = in-keywords k u in
       rw (l .each k u h .prefix, l′ .suffix k u)
-      (keyed .tabled .table k v .row (recordAt here k .prefix) (prefix-small keywords chunks good n h k v) .cell (firstSuffix rest k) (suffix-small keywords chunks good (n + 1) k v))
+      (cell-at keywords tables (keyed .tabled) k (recordAt here k .prefix) (firstSuffix rest k) (omega (arith, keyed .few)) (good .proper k v .1)
+      (prefix-small keywords chunks good n h k v) (suffix-small keywords chunks good (n + 1) k v))
 
   module _ (streams : List (List ℕ)) (c : Crossed size count tables rows rows′ streams) where
     unread-is : (k : ℕ) → k < count → unreadAt index 2 streams k ≡ passing (test k) 0 size

@@ -13,7 +13,7 @@ use Rattle.spec.specs.Join.{Occurrence, joinFrom, joinFile, fileRecords, listBy
 use Rattle.directory.specs.Chains.{keysFrom, Chained}
 use Rattle.files.specs.Measures.{named, Slotted}
 use Rattle.loader.specs.Loaded.{Row, rowOf}
-use Rattle.tables.specs.Tabled.{cellAt, Tabled}
+use Rattle.tables.specs.Tabled.{cellAt, tablesOf}
 use Rattle.listing.specs.Streams.{Held, streamOf, streamAt, occurrences, total}
 
 -- ---- a file's chunks
@@ -58,7 +58,7 @@ pub record Keyed (index : List ℕ) (count : ℕ) (tables : List (List (List ℕ
   pub counts : count ≡ length (foldedKeywords (listIn index))
   pub some : 0 < count
   pub few : count ≤ 16
-  pub tabled : Tabled (foldedKeywords (listIn index)) tables
+  pub tabled : tables ≡ tablesOf (foldedKeywords (listIn index))
 
 pub record Walkable (index : List ℕ) (directory entries : ℕ) (heads chain : List ℕ) (tables : List (List (List ℕ))) (file slots : List ℕ) (count : ℕ) : Type 0 where
   pub known : Directory index directory entries heads chain

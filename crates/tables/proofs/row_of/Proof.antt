@@ -1,12 +1,14 @@
 -- `tables::row_of` meets its contract.
-use mathlib.Core.Path.{_≡_, refl, _∙_}
-use Prim.Native.Nat.{ℕ, _-_, _≤_, _<_}
+use mathlib.Core.Path.{sym, _∙_}
+use mathlib.Core.List.{List}
+use Prim.Native.Nat.{ℕ, _-_, _≤_}
 use native.Mathlib.Omega.{arith}
-use lib.ListN.{length, getD, length-set}
+use lib.ListN.{length}
 use Rattle.spec.specs.Keywords.{folded}
 use Rattle.spec.proofs.Folding.{folded-length}
-use Rattle.tables.specs.Tabled.{cellSet}
-use Rattle.tables.proofs.Cells.{filled-more}
+use Rattle.tables.specs.Tabled.{cellsOf}
+use Rattle.tables.proofs.Cells.{length-cells, cell-inside, cell-behind}
+use Rattle.tables.proofs.Filling.{Filled, filled-none, filled-more, filled-all}
 use Rattle.tables.proofs.row_of.Statement.{statement}
 use Rattle.tables.proofs.row_of.Tie as tie
 use Rattle.tables.proofs.row_of.Reads as reads
@@ -14,13 +16,13 @@ use Rattle.tables.proofs.row_of.Lts as lts
 use Rattle.tables.proofs.cell_of.Reads as cell-of-reads
 
 abbrev Inv-loop : tie.InvT-loop
-Inv-loop flag keyword i row₀ j₀ row j = (j ≤ length keyword) × (length row ≡ 32) × ((k : ℕ) → k < j → getD row k 0 ≡ cellSet (folded flag keyword) i k)
+Inv-loop flag keyword i row₀ j₀ row j = (j ≤ length keyword) × Filled (cellsOf (folded flag keyword) i) 0 32 row j
 
 abbrev μ-loop : tie.MeasureT-loop
 μ-loop flag keyword i row₀ j₀ row j = length keyword - j
 
 loop-holds : tie.Need-loop-holds Inv-loop μ-loop
-loop-holds c = (omega arith, refl, λ k h. let z : ⊥ = omega arith in absurd z)
+loop-holds c = let a = c .before .args in (omega arith, filled-none (cellsOf (folded (a .flag) (a .keyword .now)) (a .i)) 0 32)
 
 cell-of-requires : tie.Need-cell-of-requires Inv-loop μ-loop
 cell-of-requires c κs = omega arith
@@ -40,16 +42,21 @@ loop-less c = omega arith
 loop-again : tie.Need-loop-again Inv-loop μ-loop
 loop-again c =
     let p = c .before .before in
-    let a = p .before .before .args in (
+    let a = p .before .before .args in
+    let w : List ℕ = folded (a .flag) (a .keyword .now) in
+    let n = folded-length (a .flag) (a .keyword .now) in (
       omega arith,
-      length-set (p .loop .row) (p .loop .j) (c .cell-of .result) ∙ p .loop .inv .1,
-      filled-more (λ (k x : ℕ). x ≡ cellSet (folded (a .flag) (a .keyword .now)) (a .i) k) (p .loop .row) (p .loop .j) (c .cell-of .result) 0 (omega arith) (p .loop .inv .2) (c .cell-of .ensures),
+      filled-more (cellsOf w (a .i)) 0 32 (p .loop .row) (p .loop .j) (c .cell-of .result) (p .loop .inv .1) (omega arith)
+          (c .cell-of .ensures ∙ sym (cell-inside w (a .i) (p .loop .j) (omega (arith, n)) (omega (arith, n)) (omega (arith, n)))),
     )
 
 returns : tie.Need-returns Inv-loop μ-loop
 returns c =
-    let a = c .before .before .before .args in
-    record { cell = λ j h. c .before .loop .inv .2 j (omega (arith, folded-length (a .flag) (a .keyword .now))) }
+    let p = c .before in
+    let a = p .before .before .args in
+    let w : List ℕ = folded (a .flag) (a .keyword .now) in
+    filled-all (cellsOf w (a .i)) 0 32 (p .loop .row) (p .loop .j) (p .loop .inv .1) (length-cells w (a .i))
+    (λ k h l. cell-behind w (a .i) k (omega (arith, folded-length (a .flag) (a .keyword .now))) l)
 
 pub row-of-spec : {M : Type 1} → statement M
 row-of-spec =

@@ -1,13 +1,14 @@
 -- `tables::table_of` meets its contract.
-use mathlib.Core.Path.{_≡_, refl, _∙_}
-use mathlib.Core.List.{List, []}
-use Prim.Native.Nat.{ℕ, _-_, _≤_, _<_}
+use mathlib.Core.Path.{sym, _∙_}
+use mathlib.Core.List.{List}
+use Prim.Native.Nat.{ℕ, _-_, _≤_}
 use native.Mathlib.Omega.{arith}
-use lib.ListN.{length, getD, length-set}
+use lib.ListN.{length, replicate}
 use Rattle.spec.specs.Keywords.{folded}
 use Rattle.spec.proofs.Folding.{folded-length}
-use Rattle.tables.specs.Tabled.{RowOf}
-use Rattle.tables.proofs.Cells.{filled-more}
+use Rattle.tables.specs.Tabled.{tableOf}
+use Rattle.tables.proofs.Cells.{length-table, row-at, row-behind}
+use Rattle.tables.proofs.Filling.{Filled, filled-none, filled-more, filled-all}
 use Rattle.tables.proofs.table_of.Statement.{statement}
 use Rattle.tables.proofs.table_of.Tie as tie
 use Rattle.tables.proofs.table_of.Reads as reads
@@ -15,13 +16,13 @@ use Rattle.tables.proofs.table_of.Lts as lts
 use Rattle.tables.proofs.row_of.Reads as row-of-reads
 
 abbrev Inv-loop : tie.InvT-loop
-Inv-loop flag keyword table₀ i₀ table i = (i ≤ length keyword) × (length table ≡ 32) × ((k : ℕ) → k < i → RowOf (folded flag keyword) k (getD table k []))
+Inv-loop flag keyword table₀ i₀ table i = (i ≤ length keyword) × Filled (tableOf (folded flag keyword)) (replicate 32 0) 32 table i
 
 abbrev μ-loop : tie.MeasureT-loop
 μ-loop flag keyword table₀ i₀ table i = length keyword - i
 
 loop-holds : tie.Need-loop-holds Inv-loop μ-loop
-loop-holds c = (omega arith, refl, λ k h. let z : ⊥ = omega arith in absurd z)
+loop-holds c = let a = c .before .args in (omega arith, filled-none (tableOf (folded (a .flag) (a .keyword .now))) (replicate 32 0) 32)
 
 row-of-requires : tie.Need-row-of-requires Inv-loop μ-loop
 row-of-requires c κs = omega arith
@@ -41,16 +42,20 @@ loop-less c = omega arith
 loop-again : tie.Need-loop-again Inv-loop μ-loop
 loop-again c =
     let p = c .before .before in
-    let a = p .before .before .args in (
+    let a = p .before .before .args in
+    let w : List ℕ = folded (a .flag) (a .keyword .now) in (
       omega arith,
-      length-set (p .loop .table) (p .loop .i) (c .row-of .result) ∙ p .loop .inv .1,
-      filled-more (λ (k : ℕ) (row : List ℕ). RowOf (folded (a .flag) (a .keyword .now)) k row) (p .loop .table) (p .loop .i) (c .row-of .result) [] (omega arith) (p .loop .inv .2) (c .row-of .ensures),
+      filled-more (tableOf w) (replicate 32 0) 32 (p .loop .table) (p .loop .i) (c .row-of .result) (p .loop .inv .1) (omega arith)
+          (c .row-of .ensures ∙ sym (row-at w (p .loop .i) (replicate 32 0) (omega arith))),
     )
 
 returns : tie.Need-returns Inv-loop μ-loop
 returns c =
-    let a = c .before .before .before .args in
-    record { row = λ i h. c .before .loop .inv .2 i (omega (arith, folded-length (a .flag) (a .keyword .now))) }
+    let p = c .before in
+    let a = p .before .before .args in
+    let w : List ℕ = folded (a .flag) (a .keyword .now) in
+    filled-all (tableOf w) (replicate 32 0) 32 (p .loop .table) (p .loop .i) (p .loop .inv .1) (length-table w)
+    (λ k h l. row-behind w k (omega (arith, folded-length (a .flag) (a .keyword .now))) l)
 
 pub table-of-spec : {M : Type 1} → statement M
 table-of-spec =

@@ -1,39 +1,50 @@
 -- `tables::tables_of` meets its contract.
-use mathlib.Core.Path.{_≡_, refl, _∙_, subst}
-use mathlib.Core.List.{List, []}
+use mathlib.Core.List.{List}
 use Prim.Native.Nat.{ℕ, _+_, _-_, _≤_, _<_}
 use native.Mathlib.Omega.{arith}
-use lib.ListN.{length, getD, length-set, take, drop, length-take, length-drop}
-use Rattle.spec.specs.Bytes.{part}
-use Rattle.spec.specs.Keywords.{folded}
-use Rattle.keywords.specs.Parsed.{Parsed}
-use Rattle.keywords.proofs.Reading.{parsed}
-use Rattle.tables.specs.Tabled.{TableOf}
-use Rattle.tables.proofs.Cells.{filled-more, placed-room, all-tables}
+use lib.ListN.{length, getD, replicate, length-take, length-drop}
+use Rattle.spec.specs.Keywords.{foldedKeywords}
+use Rattle.tables.specs.Tabled.{tablesOf}
+use Rattle.tables.proofs.Cells.{length-tables, table-behind, words-few, words-all, placed-room, placed-most, table-is}
+use Rattle.tables.proofs.Filling.{Filled, filled-none, filled-more, filled-all}
 use Rattle.tables.proofs.tables_of.Statement.{statement}
 use Rattle.tables.proofs.tables_of.Tie as tie
 use Rattle.tables.proofs.tables_of.Reads as reads
 use Rattle.tables.proofs.tables_of.Lts as lts
 use Rattle.tables.proofs.table_of.Reads as table-of-reads
 
+-- a table with no cell set
+abbrev none : List (List ℕ)
+none = replicate 32 (replicate 32 0)
+
 abbrev Inv-loop : tie.InvT-loop
-Inv-loop list words start len tables₀ k₀ tables k = (k ≤ words .count) × Parsed list words × (length tables ≡ 16) × ((m : ℕ) → m < k → TableOf (folded (words .flag) (part list (getD start m 0) (getD len m 0))) (getD tables m []))
+Inv-loop list words start len tables₀ k₀ tables k = (k ≤ words .count) × Filled (tablesOf (foldedKeywords list)) none 16 tables k
 
 abbrev μ-loop : tie.MeasureT-loop
 μ-loop list words start len tables₀ k₀ tables k = words .count - k
 
 few : (c : tie.Then1 Inv-loop μ-loop) → c .before .before .loop .k < 16
-few c = omega (arith, c .before .before .loop .inv .1 .few, c .if1 .taken)
+few c =
+    let s = c .before .before .before .before .before in
+    omega (arith, words-few (s .before .args .list .now) (s .before .args .words) (s .before .pre), c .if1 .taken)
 
+-- the keyword is a slice of the list, of at most 32 bytes
 room : (c : tie.Then1 Inv-loop μ-loop) → let p = c .before .before in let a = p .before .before .before .before .args in
     getD (a .words .start) (p .loop .k) 0 + getD (a .words .len) (p .loop .k) 0 ≤ length (a .list .now)
 room c =
     let p = c .before .before in
-    let a = p .before .before .before .before .args in
-    placed-room (a .list .now) (a .words) (p .loop .inv .1) (p .loop .k) (c .if1 .taken)
+    let s = p .before .before .before .before in
+    placed-room (s .args .list .now) (s .args .words) (s .pre) (p .loop .k) (c .if1 .taken)
+
+short : (c : tie.Then1 Inv-loop μ-loop) → let p = c .before .before in let a = p .before .before .before .before .args in
+    getD (a .words .len) (p .loop .k) 0 ≤ 32
+short c =
+    let p = c .before .before in
+    let s = p .before .before .before .before in
+    placed-most (s .args .list .now) (s .args .words) (s .pre) (p .loop .k) (c .if1 .taken)
 
 loop-holds : tie.Need-loop-holds Inv-loop μ-loop
-loop-holds c = let s = c .before .before .before in (omega arith, parsed (s .args .list .now) (s .args .words) (s .pre), refl, λ k h. let z : ⊥ = omega arith in absurd z)
+loop-holds c = let s = c .before .before .before in (omega arith, filled-none (tablesOf (foldedKeywords (s .args .list .now))) none 16)
 
 mul-a : tie.Need-mul-a Inv-loop μ-loop
 mul-a c = omega (arith, few c)
@@ -60,8 +71,7 @@ part-table-of-end : tie.Need-part-table-of-end Inv-loop μ-loop
 part-table-of-end c = omega (arith, room c)
 
 table-of-requires : tie.Need-table-of-requires Inv-loop μ-loop
-table-of-requires c κs = let p = c .before .before .before in
-    simp (length-take, length-drop) (omega (arith, p .loop .inv .1 .placed (p .loop .k) (c .before .if1 .taken) .most))
+table-of-requires c κs = simp (length-take, length-drop) (omega (arith, short (c .before)))
 
 mul-tables : tie.Need-mul-tables Inv-loop μ-loop
 mul-tables c = omega (arith, few (c .before .before))
@@ -76,23 +86,23 @@ loop-less : tie.Need-loop-less Inv-loop μ-loop
 loop-less c = omega arith
 
 loop-again : tie.Need-loop-again Inv-loop μ-loop
-loop-again c = let p = c .before .before .before .before in
-    let a = p .before .before .before .before .args in
-    let w = a .words in
-    let at = getD (w .start) (p .loop .k) 0 in
-    let e : at + getD (w .len) (p .loop .k) 0 - at ≡ getD (w .len) (p .loop .k) 0 = omega arith in (
-      omega (arith, c .before .before .if1 .taken),
-      p .loop .inv .1,
-      length-set (p .loop .tables) (p .loop .k) (c .table-of .result) ∙ p .loop .inv .2,
-      filled-more (λ (k : ℕ) (t : List (List ℕ)). TableOf (folded (w .flag) (part (a .list .now) (getD (w .start) k 0) (getD (w .len) k 0))) t) (p .loop .tables) (p .loop .k) (c .table-of .result) [] (omega (arith, few (c .before .before), p .loop .inv .2)) (p .loop .inv .3)
-          (subst (λ (n : ℕ). TableOf (folded (w .flag) (take n (drop at (a .list .now)))) (c .table-of .result)) e (c .table-of .ensures)),
+loop-again c =
+    let p = c .before .before .before .before in
+    let s = p .before .before .before .before in
+    let t = c .before .before .if1 .taken in (
+      omega (arith, t),
+      filled-more (tablesOf (foldedKeywords (s .args .list .now))) none 16 (p .loop .tables) (p .loop .k) (c .table-of .result) (p .loop .inv .1) (few (c .before .before))
+          (table-is (s .args .list .now) (s .args .words) (s .pre) (p .loop .k) t (few (c .before .before)) (c .table-of .result) (c .table-of .ensures)),
     )
 
 returns : tie.Need-returns Inv-loop μ-loop
-returns c = let p = c .before .before in
-    let a = p .before .before .before .before .args in
-    let w = a .words in
-    all-tables (a .list .now) w (p .loop .inv .1) (p .loop .tables) (λ k h. p .loop .inv .3 k (omega arith))
+returns c =
+    let p = c .before .before in
+    let s = p .before .before .before .before in
+    let list = s .args .list .now in
+    let n = words-all list (s .args .words) (s .pre) in
+    filled-all (tablesOf (foldedKeywords list)) none 16 (p .loop .tables) (p .loop .k) (p .loop .inv .1) (length-tables (foldedKeywords list))
+    (λ k h l. table-behind (foldedKeywords list) k (omega (arith, n)) l)
 
 pub tables-of-spec : {M : Type 1} → statement M
 tables-of-spec =
