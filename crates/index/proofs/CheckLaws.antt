@@ -1,5 +1,5 @@
 -- The index check puts its stages together: the first that refuses gives the answer. Assumes nothing.
-use mathlib.Core.Path.{_≡_, refl, sym, ap, _∙_, subst}
+use mathlib.Core.Path.{_≡_, refl, sym, ap, _∙_}
 use mathlib.Core.Logic.{_≢_}
 use mathlib.Core.Bool.{Bool, true, false, _||_, not, cond}
 use mathlib.Core.List.{List, [], _∷_, map}
@@ -163,8 +163,9 @@ module _ (index : List ℕ) (words : Keywords) (good : keywordFrontCode (listIn 
   lengths : take (words .count) (words .len) ≡ map length (keywordsOf (listIn index))
   unfolding parsedOf
   lengths =
-      let n : words .count ≡ length (map length (keywordsOf (listIn index))) = omega (arith, listed .counts, accepted (listIn index) good .count, length-map (keywordsOf (listIn index)) length) in
-      rw (n, is-parsed) (splice-read (replicate 16 0) 0 (map length (keywordsOf (listIn index))) (omega arith))
+      let v : List ℕ = map length (keywordsOf (listIn index)) in
+      let n : words .count ≡ length v = omega (arith, listed .counts, accepted (listIn index) good .count, length-map (keywordsOf (listIn index)) length) in
+      rw (n, is-parsed) (splice-read (replicate 16 0) 0 v (omega arith))
 
   pub lens : Lens index (words .count) (words .len)
   unfolding lengthsIn

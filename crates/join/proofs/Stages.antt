@@ -80,7 +80,8 @@ module _ (index : List ℕ) (i : indexCode form1 index ≡ 0) where
     pub some-long : 1 ≤ words .most
     some-long =
         let a = accepted (listIn index) (good .list) in
-        let l : length (getD (keywordsOf (listIn index)) 0 []) ≤ words .most = rw (read .longer) (longest-at (keywordsOf (listIn index)) 0 (omega (arith, a .count, a .some))) in
+        let l : length (getD (keywordsOf (listIn index)) 0 []) ≤ words .most =
+        rw (read .longer) (longest-at (keywordsOf (listIn index)) 0 (omega (arith, a .count, a .some))) in
         omega (arith, a .proper 0 (omega (arith, a .some)) .0)
 
     pub due-is : words .most - 1 ≡ due form1 (listIn index)
@@ -88,8 +89,10 @@ module _ (index : List ℕ) (i : indexCode form1 index ≡ 0) where
     due-is = ap (λ (m : ℕ). m - 1) (read .longer)
 
     -- all files can be walked
-    pub joinable : (recipes heads chain : List ℕ) (entries : ℕ) (tables : List (List (List ℕ))) → recipesCode recipes ≡ 0 → entries ≡ chunkCount index → Chained (indexKeys index) 0 heads chain
-        → tables ≡ tablesOf (foldedKeywords (take (length index - 8) (drop 8 index))) → Joinable index recipes (8 + words .size) entries heads chain (words .count) tables
+    pub joinable : (recipes heads chain : List ℕ) (entries : ℕ) (tables : List (List (List ℕ)))
+        → recipesCode recipes ≡ 0 → entries ≡ chunkCount index → Chained (indexKeys index) 0 heads chain
+        → tables ≡ tablesOf (foldedKeywords (take (length index - 8) (drop 8 index)))
+        → Joinable index recipes (8 + words .size) entries heads chain (words .count) tables
     joinable recipes heads chain entries tables r c l t =
         record {
           named = r;

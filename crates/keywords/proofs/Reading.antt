@@ -89,7 +89,8 @@ tail-of : (l : List (List ℕ)) (k : ℕ) (x : List ℕ) (xs : List (List ℕ)) 
 tail-of l k x xs e = ap (λ (m : List (List ℕ)). drop 1 m) e ∙ drop-drop 1 k l
 
 -- what is left to write begins with the keyword
-module _ (keywords : List (List ℕ)) (k at n : ℕ) (keyword : List ℕ) (rest : List (List ℕ)) (whole : length keyword ≡ n) (keys : keyword ∷ rest ≡ drop k keywords) where
+module _ (keywords : List (List ℕ)) (k at n : ℕ) (keyword : List ℕ) (rest : List (List ℕ)) (whole : length keyword ≡ n)
+    (keys : keyword ∷ rest ≡ drop k keywords) where
   starts-on : startsFrom at (drop k keywords) ≡ (at + 1) ∷ startsFrom (at + 1 + n) (drop (k + 1) keywords)
   unfolding startsFrom
   starts-on = rw (← keys, ← tail-of keywords k keyword rest keys, ← whole)

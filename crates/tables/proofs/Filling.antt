@@ -1,6 +1,6 @@
 -- Arrays that a loop fills from the front: up to j the elements are those of `full`, behind it they are d. The rows, the tables and the
 -- array of tables are all such arrays. Assumes nothing.
-use mathlib.Core.Path.{_≡_, sym, ap, _∙_}
+use mathlib.Core.Path.{_≡_, sym, _∙_}
 use mathlib.Core.Logic.{_⊎_, inl, inr}
 use mathlib.Core.List.{List}
 use Prim.Native.Nat.{ℕ, _+_, _≤_, _<_}

@@ -1,6 +1,7 @@
 -- `make_plan` meets its contract: each return by the tests that led there (Stages).
 use mathlib.Core.Path.{refl, _≡_}
-use Prim.Native.Nat.{_+_}
+use mathlib.Core.List.{List}
+use Prim.Native.Nat.{ℕ, _+_}
 use native.Mathlib.Omega.{arith}
 use denote.Ref.{now}
 use Rattle.spec.specs.Records.{form1}
@@ -11,8 +12,11 @@ use borrow.Author.Needs.{needs}
 use Rattle.join.proofs.make_plan.Statement.{statement}
 use Rattle.join.proofs.make_plan.Tie as tie
 
--- the index passed its check
-indexed : (c : tie.Else1) → let q = c .before .before .before .before .before in indexCode form1 (now (q .before .before .before .before .before .before .before .before .args .index)) ≡ 0
+-- the index, and that it passed its check
+abbrev lent : tie.Else1 → List ℕ
+lent c = now (c .before .before .before .before .before .before .before .before .before .before .before .before .before .args .index)
+
+indexed : (c : tie.Else1) → indexCode form1 (lent c) ≡ 0
 indexed c = c .before .before .before .before .before .prepare .ensures .indexed (c .if1 .left)
 
 -- all files can be walked
@@ -50,39 +54,39 @@ returns c =
     plan-refused (now (a .index)) (now (a .recipes)) _ _ (r .result) (r .ensures) _ _ _ _ _ _ (c .if1 .taken)
 
 sub-list : tie.Need-sub-list
-sub-list c = header (now (c .before .before .before .before .before .before .before .before .before .before .before .before .before .args .index)) (indexed c)
+sub-list c = header (lent c) (indexed c)
 
 part-list-start : tie.Need-part-list-start
-part-list-start c = header (now (c .before .before .before .before .before .before .before .before .before .before .before .before .before .args .index)) (indexed c)
+part-list-start c = header (lent c) (indexed c)
 
 part-list-end : tie.Need-part-list-end
 part-list-end c = search needs
 
 parse-requires : tie.Need-parse-requires
-parse-requires c κs = list-good (now (c .before .before .before .before .before .before .before .before .before .before .before .before .before .before .args .index)) (indexed (c .before))
+parse-requires c κs = list-good (lent (c .before)) (indexed (c .before))
 
 tables-of-requires : tie.Need-tables-of-requires
 tables-of-requires c κs =
     let e = c .before .before in
-    reads (now (e .before .before .before .before .before .before .before .before .before .before .before .before .before .args .index)) (indexed e) (c .parse .result) (c .parse .ensures)
+    reads (lent e) (indexed e) (c .parse .result) (c .parse .ensures)
 
 add-directory : tie.Need-add-directory
 add-directory c =
     let w = c .before .before in
     let e = w .before .before in
-    omega (arith, size-short (now (e .before .before .before .before .before .before .before .before .before .before .before .before .before .args .index)) (indexed e) (w .parse .result) (w .parse .ensures))
+    omega (arith, size-short (lent e) (indexed e) (w .parse .result) (w .parse .ensures))
 
 read-requires : tie.Need-read-requires
 read-requires c κs =
     let e = c .before .before .before .before in
-    (omega arith, header (now (e .before .before .before .before .before .before .before .before .before .before .before .before .before .args .index)) (indexed e))
+    (omega arith, header (lent e) (indexed e))
 
 sub-survey-files : tie.Need-sub-survey-files
 sub-survey-files c =
     let w = c .before .before .before .before .before .before .before in
     let e = w .before .before in
     let r = w .parse .result in
-    some-long (now (e .before .before .before .before .before .before .before .before .before .before .before .before .before .args .index)) (indexed e) r (w .parse .ensures)
+    some-long (lent e) (indexed e) r (w .parse .ensures)
 
 slice-aggregate-survey-files : tie.Need-slice-aggregate-survey-files
 slice-aggregate-survey-files c = refl

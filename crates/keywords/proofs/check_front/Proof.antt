@@ -27,14 +27,16 @@ returns-2 c =
     let r = c .before in
     let p = r .before .before .before .before .before .before in
     let f = p .before in
-    front-alike (f .before .before .args .list .now) (f .read-front .result) (f .read-front .ensures) (p .if1 .left) (r .repeats .result) (r .repeats .ensures) (c .if2 .taken)
+    front-alike (f .before .before .args .list .now) (f .read-front .result) (f .read-front .ensures) (p .if1 .left)
+    (r .repeats .result) (r .repeats .ensures) (c .if2 .taken)
 
 returns-3 : tie.Need-returns-3
 returns-3 c =
     let r = c .before in
     let p = r .before .before .before .before .before .before in
     let f = p .before in
-    front-good (f .before .before .args .list .now) (f .read-front .result) (f .read-front .ensures) (p .if1 .left) (r .repeats .result) (r .repeats .ensures) (c .if2 .left)
+    front-good (f .before .before .args .list .now) (f .read-front .result) (f .read-front .ensures) (p .if1 .left)
+    (r .repeats .result) (r .repeats .ensures) (c .if2 .left)
 
 pub check-front-spec : {M : Type 1} → statement M
 check-front-spec =

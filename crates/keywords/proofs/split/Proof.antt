@@ -73,8 +73,11 @@ loop-less c = search needs
 loop-again : tie.Need-loop-again Inv-loop μ-loop
 loop-again c =
     let at = c .before .before .before in
-    let s = at .before .before .before in
-    (refl, reading-on (s .args .list .now) (at .loop .k) (at .loop .at) (at .loop .most) (at .loop .start) (at .loop .len) (at .loop .inv .1) (omega arith) (s .pre .most) _ (c .larger .result) refl (c .larger .ensures))
+    let s = at .before .before .before in (
+      refl,
+      reading-on (s .args .list .now) (at .loop .k) (at .loop .at) (at .loop .most) (at .loop .start) (at .loop .len) (at .loop .inv .1) (omega arith)
+          (s .pre .most) _ (c .larger .result) refl (c .larger .ensures),
+    )
 
 shared-slice-read-t10 : tie.Need-shared-slice-read-t10 Inv-loop μ-loop
 shared-slice-read-t10 c = search needs

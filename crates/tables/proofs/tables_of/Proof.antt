@@ -89,10 +89,11 @@ loop-again : tie.Need-loop-again Inv-loop μ-loop
 loop-again c =
     let p = c .before .before .before .before in
     let s = p .before .before .before .before in
-    let t = c .before .before .if1 .taken in (
+    let t = c .before .before .if1 .taken in
+    let f = few (c .before .before) in (
       omega (arith, t),
-      filled-more (tablesOf (foldedKeywords (s .args .list .now))) none 16 (p .loop .tables) (p .loop .k) (c .table-of .result) (p .loop .inv .1) (few (c .before .before))
-          (table-is (s .args .list .now) (s .args .words) (s .pre) (p .loop .k) t (few (c .before .before)) (c .table-of .result) (c .table-of .ensures)),
+      filled-more (tablesOf (foldedKeywords (s .args .list .now))) none 16 (p .loop .tables) (p .loop .k) (c .table-of .result) (p .loop .inv .1) f
+          (table-is (s .args .list .now) (s .args .words) (s .pre) (p .loop .k) t f (c .table-of .result) (c .table-of .ensures)),
     )
 
 returns : tie.Need-returns Inv-loop μ-loop
