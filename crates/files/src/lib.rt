@@ -13,7 +13,7 @@ ghost use Rattle.directory.specs.Chains.{keysFrom, Lies, Chained, layoutOf};
 ghost use Rattle.files.specs.Measures.{named, keysAt, sizesAt, innerShort, entriesIn, Measured};
 
 // The entry of fingerprint j of a file; `count` where there is none.
-fn entry_of(
+pub fn entry_of(
     file: &[u8],
     j: usize,
     index: &[u8],

@@ -2,7 +2,7 @@
 use mathlib.Core.Path.{_≡_, refl, sym, ap, _∙_}
 use mathlib.Core.Logic.{_≢_}
 use mathlib.Core.List.{List, [], _∷_, _++_, map}
-use Prim.Native.Nat.{ℕ, _+_, _*_, _≤_, _<_, min}
+use Prim.Native.Nat.{ℕ, _+_, _*_, _^_, _≤_, _<_, min}
 use native.Mathlib.Nat.{zero-add}
 use native.Mathlib.Omega.{arith}
 use borrow.Author.Count.{below-none, below-more}
@@ -23,7 +23,8 @@ use Rattle.recipes.proofs.Files.{Walk, accepted}
 use Rattle.files.specs.Measures.{named, keysAt, sizesAt, entriesIn, Slotted}
 use Rattle.files.proofs.OfIndex.{index-code, index-slotted}
 use Rattle.spec.proofs.ListBytes.{length-list, list-nil, list-append}
-use Rattle.walk.specs.Walking.{chunksIn, Directory, Counted, Listed}
+use Rattle.walk.specs.Walking.{chunksIn, Directory}
+use Rattle.walk.proofs.Counts.{count-any}
 use Rattle.join.specs.Joining.{allFilesCode, listOf, Surveyed}
 use Rattle.join.proofs.FileLaws.{keywords, codeOf, left, left-start, left-end, codes, codes-step, codes-end, list-is, file-next, left-step}
 
@@ -96,21 +97,23 @@ module _ (index recipes : List ℕ) where
             marked = λ z. absurd (h z);
           }
 
-      pub survey-on : code ≡ 0 → (n mark : ℕ) → Counted index file n → mark ≡ min n 1 → k < length some → Surveying (set some k mark) (k + 1) (at + 4 + length file) (total + n)
+      pub survey-on : code ≡ 0 → (n mark : ℕ) → n ≡ length (joinFile 0 (foldedKeywords (listIn index)) (chunksIn index file)) → n < 2 ^ 36 → mark ≡ min n 1 → k < length some
+          → Surveying (set some k mark) (k + 1) (at + 4 + length file) (total + n)
       unfolding filesCode
-      survey-on z n mark m e l =
+      survey-on z n mark c₀ few e l =
           let here : List Occurrence = joinFile k (keywords index recipes) (chunksIn index file) in
+          let m : n ≡ length here = c₀ ∙ sym (count-any index file k) in
           let s : length (left index recipes k) ≡ n + length (left index recipes (k + 1))
-          = ap length (left-step index recipes k at (g .walk) turn file f) ∙ length-append here (left index recipes (k + 1)) ∙ ap (λ (x : ℕ). x + length (left index recipes (k + 1))) (sym (m .exact k)) in
+          = ap length (left-step index recipes k at (g .walk) turn file f) ∙ length-append here (left index recipes (k + 1)) ∙ ap (λ (x : ℕ). x + length (left index recipes (k + 1))) (sym m) in
           record {
             walk = file-next index recipes k at (g .walk) turn file f;
             few = g .few;
             coded = sym (step ∙ next-code (codeOf index (named file)) rest (sym c ∙ z)) ∙ g .coded;
             sums = omega (arith, s, g .sums);
-            small = omega (arith, g .small, m .few);
+            small = omega (arith, g .small, few);
             marks = below-more (MarkedAt (set some k mark)) k
                 (λ j h u. g .marks j h (sym (getD-set-other some k j mark 0 (λ q. omega arith)) ∙ u))
-                (λ u. list-is index recipes k at (g .walk) turn file f ∙ empty here (omega (arith, m .exact k, e, getD-set-same some k mark 0 l)));
+                (λ u. list-is index recipes k at (g .walk) turn file f ∙ empty here (omega (arith, m, e, getD-set-same some k mark 0 l)));
           }
 
     module _ (out₀ out : List ℕ) (place : ℕ) (g : Listing out₀ out k at place) (room : 9 * length (joinList form1 index recipes) ≤ length out₀) where
@@ -131,13 +134,13 @@ module _ (index recipes : List ℕ) where
             going-room out₀ out 0 place (listBytes (joinList form1 index recipes)) (listBytes (left index recipes k)) (g .going) (listBytes here) (listBytes (left index recipes (k + 1))) whole-room bytes-step,
           )
 
-      pub listing-on : (out′ : List ℕ) (end : ℕ) → Listed index file k out out′ place end → Listing out₀ out′ (k + 1) (at + 4 + length file) end
+      pub listing-on : (out′ : List ℕ) (end : ℕ) → (end ≡ place + 9 * length here) × (out′ ≡ splice out place (listBytes here)) → Listing out₀ out′ (k + 1) (at + 4 + length file) end
       listing-on out′ end l =
           record {
             walk = file-next index recipes k at (g .walk) turn file f;
             going =
                 going-on out₀ out 0 place (listBytes (joinList form1 index recipes)) (listBytes (left index recipes k)) (g .going) out′ (listBytes here) (listBytes (left index recipes (k + 1))) end whole-room
-                bytes-step (l .ends ∙ ap (λ (x : ℕ). place + x) (sym (length-list here))) (l .bytes);
+                bytes-step (l .0 ∙ ap (λ (x : ℕ). place + x) (sym (length-list here))) (l .1);
           }
 
   pub survey-end : (some : List ℕ) (k at total : ℕ) → Surveying some k at total → fileCount recipes ≤ k → 65535 ≤ length some → Surveyed index recipes some 0 total
@@ -155,9 +158,7 @@ module _ (index recipes : List ℕ) where
 
 -- a file without occurrences: nothing is written
 pub listed-none : (index file : List ℕ) (number : ℕ) (out : List ℕ) (place : ℕ) → joinFile number (foldedKeywords (listIn index)) (chunksIn index file) ≡ []
-    → Listed index file number out out place place
+    → (place ≡ place + 9 * length (joinFile number (foldedKeywords (listIn index)) (chunksIn index file)))
+    × (out ≡ splice out place (listBytes (joinFile number (foldedKeywords (listIn index)) (chunksIn index file))))
 listed-none index file number out place e =
-    record {
-      bytes = sym (ap (λ (l : List Occurrence). splice out place (listBytes l)) e ∙ ap (splice out place) list-nil ∙ splice-nil out place);
-      ends = omega (arith, ap length e);
-    }
+    (omega (arith, ap length e), sym (ap (λ (l : List Occurrence). splice out place (listBytes l)) e ∙ ap (splice out place) list-nil ∙ splice-nil out place))

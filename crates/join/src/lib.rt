@@ -10,7 +10,7 @@ ghost use Rattle.spec.specs.Records.{form1};
 ghost use Rattle.spec.specs.Index.{listIn};
 ghost use Rattle.spec.specs.Join.{due, joinFile, joinList, listBytes, countOutcome, joinOutcome, joinBuffer};
 ghost use Rattle.directory.specs.Chains.{Empty};
-ghost use Rattle.walk.specs.Walking.{chunksIn, Directory, File, Keyed, Listed};
+ghost use Rattle.walk.specs.Walking.{chunksIn, Directory, File, Keyed};
 ghost use Rattle.join.specs.Joining.{Prepared, Joinable, allFilesCode, Marked, Surveyed, Planned};
 
 // The index check, then 14. It leaves the chains of the index's fingerprints in the arrays.
@@ -125,7 +125,8 @@ fn list_marked(
     requires { ⌜ File (now index) (now file) [] ⌝ }
     requires { ⌜ Keyed (now index) count (now tables) ⌝ }
     requires { ⌜ place + 9 * length (joinFile number (foldedKeywords (listIn (now index))) (chunksIn (now index) (now file))) ≤ length (now out) ⌝ }
-    ensures { λ r. ⌜ Listed (now (index .entry)) (now (file .entry)) number (now (out .entry)) (now (out .exit)) place r ⌝ }
+    ensures { λ r. ⌜ (r ≡ place + 9 * length (joinFile number (foldedKeywords (listIn (now (index .entry)))) (chunksIn (now (index .entry)) (now (file .entry)))))
+        × (now (out .exit) ≡ splice (now (out .entry)) place (listBytes (joinFile number (foldedKeywords (listIn (now (index .entry)))) (chunksIn (now (index .entry)) (now (file .entry)))))) ⌝ }
 {
     if mark == 0 {
         return place;

@@ -3,8 +3,8 @@ use mathlib.Core.Path.{_≡_, refl, sym, ap, ap₂, _∙_}
 use mathlib.Core.Logic.{_⊎_, inl, inr}
 use mathlib.Core.Bool.{Bool, true, false, _&&_}
 use mathlib.Core.List.{List, [], _∷_}
-use Prim.Native.Nat.{ℕ, zero, suc, _+_, _*_, _^_, _≤_, _<_}
-use native.Mathlib.Nat.{zero-add, add-zero, add-mul, one-mul}
+use Prim.Native.Nat.{ℕ, zero, suc, _+_, _^_, _≤_, _<_}
+use native.Mathlib.Nat.{zero-add, add-zero}
 use native.Mathlib.Numerals.{add-one}
 use native.Mathlib.Omega.{arith}
 use borrow.Author.Tests.{le-ltb}
@@ -53,13 +53,6 @@ sum-last f a (suc n) =
     let e : suc a + n ≡ a + suc n = omega arith in
     omega (arith, sum-last f (suc a) n, ap f e)
 
-sum-most : (f : ℕ → ℕ) (most a n : ℕ) → ((p : ℕ) → a ≤ p → p < a + n → f p ≤ most) → sumUp f a n ≤ n * most
-sum-most f most a zero h = omega arith
-sum-most f most a (suc n) h = omega (arith, h a (omega arith) (omega arith), sum-most f most (suc a) n (λ p u v. h p (omega arith) (omega arith)), add-mul 1 n most, one-mul most, step)
-  where
-    step : suc n * most ≡ most + n * most
-    step = let e : suc n ≡ 1 + n = omega arith in rw (e, add-mul, one-mul)
-
 length-each {ℓ} : {A : Type ℓ} (f : ℕ → List A) (a n : ℕ) → length (each f a n) ≡ sumUp (λ p. length (f p)) a n
 length-each f a zero = refl
 length-each f a (suc n) = length-append (f a) (each f (suc a) n) ∙ ap (λ (x : ℕ). length (f a) + x) (length-each f (suc a) n)
@@ -67,10 +60,6 @@ length-each f a (suc n) = length-append (f a) (each f (suc a) n) ∙ ap (λ (x :
 length-keep {ℓ m} : {A : Type ℓ} {B : Type m} (b : Bool) (x : A) (y : B) → length (keep b x) ≡ length (keep b y)
 length-keep true x y = refl
 length-keep false x y = refl
-
-keep-le : (b : Bool) (x : ℕ) → length (keep b x) ≤ 1
-keep-le true x = omega arith
-keep-le false x = omega arith
 
 -- ---- occurrences and numbers
 
@@ -81,10 +70,6 @@ module _ (size : ℕ) where
   stream-length : (xs : List ℕ) → rising xs ≡ true → below size xs ≡ true → sumUp (at-offset xs) 0 size ≡ length xs
   stream-length xs up under =
       sym (length-each (λ p. keep (member p xs) p) 0 size) ∙ ap length (passing-member size 0 xs up (rw zero-add (below-same size xs ∙ under)) (λ _. omega arith))
-
-  -- a stream has at most one number for each offset
-  length-le : (xs : List ℕ) → rising xs ≡ true → below size xs ≡ true → length xs ≤ size
-  length-le xs up under = omega (arith, stream-length xs up under, sum-most (at-offset xs) 1 0 size (λ p _ _. keep-le (member p xs) p))
 
   -- by swapping the sum over offsets and the one over keywords
   sum-is : (file count base : ℕ) (s : ℕ → List ℕ) → ((k : ℕ) → k < count → rising (s k) ≡ true) → ((k : ℕ) → k < count → below size (s k) ≡ true)
@@ -102,18 +87,10 @@ unread-length index width s h =
     length-append (fieldsOf width (getD s 2 0) (drop (getD s 1 0) index)) _ ∙ ap₂ (λ (x y : ℕ). x + y) (length-fieldsOf width (getD s 2 0) (drop (getD s 1 0) index)) (bits-length 32 (getD s 3 0) (getD s 4 0) h)
 
 module _ (index : List ℕ) (width size count : ℕ) (streams : List (List ℕ)) (ready : Ready index width size count streams) where
-  numbers-le : (k : ℕ) → k < count → numbers (streamOf streams k) ≤ size
-  numbers-le k h =
-      let r = ready .each k h in
-      omega (arith, unread-length index width (streamOf streams k) (r .set), length-le size (unreadAt index width streams k) (r .up) (r .under))
-
   pub total-is : (file base : ℕ) → total streams count ≡ length (occurrences file count base size (unreadAt index width streams))
   total-is file base =
       sum-same _ _ 0 count (λ k u v. sym (unread-length index width (streamOf streams k) (ready .each k (omega arith) .set)))
       ∙ sym (sum-is size file count base (unreadAt index width streams) (λ k h. ready .each k h .up) (λ k h. ready .each k h .under))
-
-  pub total-le : total streams count ≤ count * size
-  total-le = sum-most (λ k. numbers (streamOf streams k)) size 0 count (λ k u v. numbers-le k (omega arith))
 
 -- ---- filling one stream after the other
 

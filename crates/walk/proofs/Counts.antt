@@ -3,7 +3,7 @@ use mathlib.Core.Path.{_≡_, refl, sym, ap, ap₂, _∙_, subst}
 use mathlib.Core.Bool.{Bool, true, false}
 use mathlib.Core.List.{List, [], _∷_}
 use Prim.Native.Nat.{ℕ, zero, suc, _+_, _*_, _^_, _≤_, _<_}
-use native.Mathlib.Nat.{add-zero, add-suc, suc-add, zero-lt-suc, mul-le-mul-right}
+use native.Mathlib.Nat.{add-zero, add-suc, suc-add, suc-mul, mul-one, zero-lt-suc, mul-le-mul-left}
 use native.Mathlib.Omega.{arith}
 use lib.ListN.{length, getD, set, drop, drop-of-length-le, length-append, replicate, length-replicate}
 use Rattle.spec.specs.Bytes.{splice, each, keep}
@@ -14,10 +14,10 @@ use Rattle.spec.specs.Join.{Occurrence, hits, listed, joinFrom, joinFile, occur
 use Rattle.spec.proofs.Writing.{Going, going-start, going-room, going-on, going-end, going-place}
 use Rattle.spec.proofs.ListBytes.{length-occurrence, length-list, list-cons, list-nil}
 use Rattle.listing.specs.Streams.{streamOf, unreadAt, occurrences, total, Ready}
-use Rattle.listing.proofs.Totals.{total-is, total-le}
-use Rattle.walk.specs.Walking.{chunksIn, sizeOf, Directory, File, Keyed, Walkable, LoadedAt, Crossed, AtPlace, coming, Counted}
+use Rattle.listing.proofs.Totals.{total-is}
+use Rattle.walk.specs.Walking.{chunksIn, sizeOf, Directory, File, Keyed, Walkable, LoadedAt, Crossed, AtPlace, coming}
 use Rattle.walk.proofs.Places.{AllGood, place-ready, place-join}
-use Rattle.walk.proofs.Moves.{size-next, start-place, start-coming}
+use Rattle.walk.proofs.Moves.{start-place, start-coming}
 
 pub walkable : (index : List ℕ) (directory entries : ℕ) (heads chain : List ℕ) (tables : List (List (List ℕ))) (file slots : List ℕ) (count : ℕ)
     → Directory index directory entries heads chain → File index file slots → Keyed index count tables → Walkable index directory entries heads chain tables file slots count
@@ -50,14 +50,49 @@ join-length keywords (here ∷ rest) file base file′ base′ =
     (join-length keywords rest file (base + here .size) file′ (base′ + here .size))
     ∙ sym (length-append (each (λ at. hits file′ (length keywords) (listed keywords here rest at) (base′ + at)) 0 (here .size)) _)
 
+-- THE COUNT DOES NOT HANG ON THE FILE'S NUMBER
+pub count-any : (index file : List ℕ) (number : ℕ)
+    → length (joinFile number (foldedKeywords (listIn index)) (chunksIn index file)) ≡ length (joinFile 0 (foldedKeywords (listIn index)) (chunksIn index file))
+count-any index file number = join-length (foldedKeywords (listIn index)) (chunksIn index file) number 0 0 0
+
+-- ---- no more occurrences than keywords at each offset
+
+each-most : {A : Type 0} (f : ℕ → List A) (most a n : ℕ) → ((p : ℕ) → length (f p) ≤ most) → length (each f a n) ≤ n * most
+each-most f most a zero h = omega arith
+each-most f most a (suc n) h = omega (arith, length-append (f a) (each f (suc a) n), h a, each-most f most (suc a) n h, suc-mul n most)
+
+keep-most : {A : Type 0} (b : Bool) (x : A) → length (keep b x) ≤ 1
+keep-most true x = omega arith
+keep-most false x = omega arith
+
+hits-most : (file count offset : ℕ) (t : ℕ → Bool) → length (hits file count t offset) ≤ count
+unfolding hits
+hits-most file count offset t =
+    let f : ℕ → List Occurrence = λ k. keep (t k) (record { file = file; offset = offset; keyword = k }) in
+    rw mul-one at (each-most f 1 0 count (λ k. keep-most (t k) (record { file = file; offset = offset; keyword = k })))
+
+join-most : (keywords : List (List ℕ)) (chunks : List ChunkRecords) (base : ℕ) → length keywords ≤ 16 → length (joinFrom 0 keywords base chunks) ≤ 16 * sizeOf chunks
+unfolding joinFrom
+join-most keywords [] base few = omega arith
+join-most keywords (here ∷ rest) base few =
+    omega (
+      arith,
+      length-append (each (λ at. hits 0 (length keywords) (listed keywords here rest at) (base + at)) 0 (here .size)) (joinFrom 0 keywords (base + here .size) rest),
+      each-most (λ at. hits 0 (length keywords) (listed keywords here rest at) (base + at)) (length keywords) 0 (here .size) (λ p. hits-most 0 (length keywords) (base + p) (listed keywords here rest p)),
+      mul-le-mul-left {m = length keywords} {n = 16} (here .size) few,
+      join-most keywords rest (base + here .size) few,
+    )
+
+-- THE COUNT OF A FILE IS SMALL
+pub count-few : (index : List ℕ) (count : ℕ) (tables : List (List (List ℕ))) (file slots : List ℕ) → Keyed index count tables → File index file slots
+    → length (joinFile 0 (foldedKeywords (listIn index)) (chunksIn index file)) < 2 ^ 36
+count-few index count tables file slots k f =
+    omega (arith, join-most (foldedKeywords (listIn index)) (chunksIn index file) 0 (omega (arith, k .few, k .counts)), f .small)
+
 -- ---- while a file is counted: n places are
 
-pub record Counting (index : List ℕ) (chunks : List ChunkRecords) (n sum : ℕ) : Type 0 where
-  pub exact : sum + length (joinFrom 0 (foldedKeywords (listIn index)) 0 (drop n chunks)) ≡ length (joinFrom 0 (foldedKeywords (listIn index)) 0 chunks)
-  pub most : sum + 16 * sizeOf (drop n chunks) ≤ 16 * sizeOf chunks
-
-pub counting-start : (index : List ℕ) (chunks : List ChunkRecords) → Counting index chunks 0 0
-counting-start index chunks = record { exact = omega arith; most = omega arith }
+abbrev pub Counting : List ℕ → List ChunkRecords → ℕ → ℕ → Type 0
+Counting index chunks n sum = sum + length (joinFrom 0 (foldedKeywords (listIn index)) 0 (drop n chunks)) ≡ length (joinFrom 0 (foldedKeywords (listIn index)) 0 chunks)
 
 module _ (index : List ℕ) (count : ℕ) (tables : List (List (List ℕ))) (chunks : List ChunkRecords) (keyed : Keyed index count tables) (good : AllGood (foldedKeywords (listIn index)) chunks)
     (n : ℕ) (rows rows′ : List (List ℕ)) (size size′ : ℕ) (h : n < length chunks) (l : LoadedAt index count chunks n rows size) (l′ : LoadedAt index count chunks (n + 1) rows′ size′)
@@ -68,9 +103,6 @@ module _ (index : List ℕ) (count : ℕ) (tables : List (List (List ℕ))) (chu
   ready : Ready index 2 size count streams
   ready = place-ready index count tables chunks keyed good n rows rows′ size size′ h l l′ streams c
 
-  rest-size : sizeOf (drop n chunks) ≡ size + sizeOf (drop (n + 1) chunks)
-  rest-size = size-next index count chunks n rows size h l
-
   rest-count : length (joinFrom 0 keywords 0 (drop n chunks)) ≡ total streams count + length (joinFrom 0 keywords 0 (drop (n + 1) chunks))
   rest-count =
       ap length (place-join index count tables chunks keyed good n rows rows′ size size′ h l l′ streams c 0 0)
@@ -78,21 +110,14 @@ module _ (index : List ℕ) (count : ℕ) (tables : List (List (List ℕ))) (chu
       ∙ ap₂ (λ (x y : ℕ). x + y) (sym (total-is index 2 size count streams ready 0 0)) (join-length keywords (drop (n + 1) chunks) 0 (0 + size) 0 0)
 
   pub counting-on : (m : ℕ) → m ≡ total streams count → Counting index chunks (n + 1) (sum + m)
-  counting-on m e =
-      record {
-        exact = omega (arith, at .exact, rest-count);
-        most = omega (arith, at .most, rest-size, total-le index 2 size count streams ready, mul-le-mul-right {m = count} {n = 16} size (keyed .few));
-      }
+  counting-on m e = omega (arith, at, rest-count)
 
-pub counting-end : (index file : List ℕ) (n sum : ℕ) → sizeOf (chunksIn index file) < 2 ^ 32 → length (chunksIn index file) ≤ n → Counting index (chunksIn index file) n sum → Counted index file sum
+pub counting-end : (index file : List ℕ) (n sum : ℕ) → length (chunksIn index file) ≤ n → Counting index (chunksIn index file) n sum
+    → sum ≡ length (joinFile 0 (foldedKeywords (listIn index)) (chunksIn index file))
 unfolding joinFrom
-counting-end index file n sum s h c =
-    let keywords = foldedKeywords (listIn index) in
-    let z : length (joinFrom 0 keywords 0 (drop n (chunksIn index file))) ≡ 0 = ap (λ (l : List ChunkRecords). length (joinFrom 0 keywords 0 l)) (drop-of-length-le (chunksIn index file) h) in
-    record {
-      exact = λ number. omega (arith, c .exact, z, join-length keywords (chunksIn index file) number 0 0 0);
-      few = omega (arith, c .most);
-    }
+counting-end index file n sum h c =
+    let z = ap (λ (l : List ChunkRecords). length (joinFrom 0 (foldedKeywords (listIn index)) 0 l)) (drop-of-length-le (chunksIn index file) h) in
+    omega (arith, c, z)
 
 -- ---- while a list is written
 

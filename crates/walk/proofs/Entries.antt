@@ -22,7 +22,6 @@ use Rattle.spec.proofs.IndexChecks.{IndexGood, index-good}
 use Rattle.spec.proofs.RecordLaws.{allPositive, good-is-written}
 use Rattle.spec.proofs.ScanLaws.{positive-lengths}
 use Rattle.directory.specs.Chains.{keysFrom, Lies}
-use Rattle.files.proofs.Places.{slice-part}
 use Rattle.loader.specs.Loaded.{Row, rowOf, Loadable}
 use Rattle.loader.proofs.Loading.{Loaded}
 use Rattle.loader.proofs.Fitting.{good-body-fits}
@@ -154,15 +153,9 @@ module _ (index : List ℕ) (directory entries : ℕ) (heads chain : List ℕ) (
 -- ---- place n of a file
 
 module _ (index : List ℕ) (directory entries : ℕ) (heads chain file slots : List ℕ) (d : Directory index directory entries heads chain) (f : File index file slots) (n : ℕ) (h : n < length file / 20) where
-  pub place-inside : 20 * n + 20 ≤ length file
-  place-inside = omega arith
-
-  -- its entry, from its slot or by its fingerprint
+  -- its entry, from its slot
   pub slot-is : n < length slots → getD slots n 0 ≡ positionOf (part file (20 * n) 20) (indexKeys index)
   slot-is l = f .slotted .each n (rw (length-keys 20 (length file / 20) file) h) l ∙ ap (λ (key : List ℕ). positionOf key (indexKeys index)) (key-at 20 (length file / 20) n file h)
-
-  pub found-is : (e : ℕ) → e ≡ positionOf (take (20 * n + 20 - 20 * n) (drop (20 * n) file)) (keysFrom index directory 32 entries) → e ≡ positionOf (part file (20 * n) 20) (indexKeys index)
-  found-is e found = found ∙ ap₂ positionOf (slice-part file (20 * n)) (keys-are index directory entries heads chain d)
 
   module _ (e : ℕ) (entry-is : e ≡ positionOf (part file (20 * n) 20) (indexKeys index)) where
     pub entry-in : e < chunkCount index

@@ -4,12 +4,12 @@ use mathlib.Core.Path.{_≡_}
 use mathlib.Core.List.{List, [], _∷_, _++_, map}
 use Prim.Native.Nat.{ℕ, _+_, _-_, _*_, _/_, _^_, _≤_, _<_}
 use lib.ListN.{length, getD, drop}
-use Rattle.spec.specs.Bytes.{part, splice, positionOf, sum}
+use Rattle.spec.specs.Bytes.{part, positionOf, sum}
 use Rattle.spec.specs.Keywords.{listSize, foldedKeywords}
 use Rattle.spec.specs.Store.{chunkCount}
 use Rattle.spec.specs.Records.{ChunkRecords, recordAt, form1}
 use Rattle.spec.specs.Index.{listIn, indexKeys, indexCode}
-use Rattle.spec.specs.Join.{Occurrence, joinFrom, joinFile, fileRecords, listBytes}
+use Rattle.spec.specs.Join.{Occurrence, joinFrom, fileRecords}
 use Rattle.directory.specs.Chains.{keysFrom, Chained}
 use Rattle.files.specs.Measures.{named, Slotted}
 use Rattle.loader.specs.Loaded.{Row, rowOf}
@@ -119,15 +119,3 @@ pub record NextOf (index : List ℕ) (count : ℕ) (chunks : List ChunkRecords) 
   pub found : keyword < count → (file : ℕ) → coming file index count chunks here streams ≡ record { file = file; offset = offset; keyword = keyword } ∷ coming file index count chunks here′ streams′
   pub small : keyword < count → offset < 2 ^ 32
   pub ended : count ≤ keyword → (file : ℕ) → coming file index count chunks here streams ≡ []
-
--- ---- a whole file
-
--- How many occurrences it has.
-pub record Counted (index file : List ℕ) (n : ℕ) : Type 0 where
-  pub exact : (number : ℕ) → n ≡ length (joinFile number (foldedKeywords (listIn index)) (chunksIn index file))
-  pub few : n < 2 ^ 36
-
--- Its list lies in the buffer from a place on.
-pub record Listed (index file : List ℕ) (number : ℕ) (entry exit : List ℕ) (place end : ℕ) : Type 0 where
-  pub bytes : exit ≡ splice entry place (listBytes (joinFile number (foldedKeywords (listIn index)) (chunksIn index file)))
-  pub ends : end ≡ place + 9 * length (joinFile number (foldedKeywords (listIn index)) (chunksIn index file))

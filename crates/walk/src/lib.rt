@@ -3,12 +3,12 @@
 ghost use mathlib.Core.Path.{_≡_};
 ghost use Prim.Native.Nat.{_+_, _*_, _/_, _^_, _≤_, _<_};
 ghost use lib.ListN.{length, getD};
-ghost use Rattle.spec.specs.Bytes.{part, positionOf};
+ghost use Rattle.spec.specs.Bytes.{part, splice, positionOf};
 ghost use Rattle.spec.specs.Records.{form1};
 ghost use Rattle.spec.specs.Keywords.{foldedKeywords};
 ghost use Rattle.spec.specs.Index.{listIn, indexKeys};
-ghost use Rattle.spec.specs.Join.{joinFile};
-ghost use Rattle.walk.specs.Walking.{chunksIn, Directory, File, Keyed, Walkable, LoadedAt, Crossable, Filled, AtPlace, Moved, NextOf, Counted, Listed};
+ghost use Rattle.spec.specs.Join.{joinFile, listBytes};
+ghost use Rattle.walk.specs.Walking.{chunksIn, Directory, File, Keyed, Walkable, LoadedAt, Crossable, Filled, AtPlace, Moved, NextOf};
 
 // Bytes of an offset.
 const WIDTH: usize = 2;
@@ -41,15 +41,7 @@ fn entry_at(
     if n < slots.len() {
         return slots[n] as usize;
     }
-    directory::find(
-        index,
-        directory,
-        32,
-        entries,
-        heads,
-        chain,
-        &file[20 * n..20 * n + 20],
-    )
+    files::entry_of(file, n, index, directory, entries, heads, chain)
 }
 
 // Loads place n of a file, and returns its size. Behind the last place nothing is to be crossed into.
@@ -228,7 +220,7 @@ pub fn count_file(
     requires { ⌜ Directory (now index) directory entries (now heads) (now chain) ⌝ }
     requires { ⌜ File (now index) (now file) (now slots) ⌝ }
     requires { ⌜ Keyed (now index) count (now tables) ⌝ }
-    ensures { λ r. ⌜ Counted (now (index .entry)) (now (file .entry)) r ⌝ }
+    ensures { λ r. ⌜ r ≡ length (joinFile 0 (foldedKeywords (listIn (now (index .entry)))) (chunksIn (now (index .entry)) (now (file .entry)))) ⌝ }
 {
     let mut rows = [[0usize; 4]; 16];
     let mut streams = [[0usize; 5]; 16];
@@ -286,7 +278,8 @@ pub fn list_file(
     requires { ⌜ File (now index) (now file) (now slots) ⌝ }
     requires { ⌜ Keyed (now index) count (now tables) ⌝ }
     requires { ⌜ place + 9 * length (joinFile number (foldedKeywords (listIn (now index))) (chunksIn (now index) (now file))) ≤ length (now out) ⌝ }
-    ensures { λ r. ⌜ Listed (now (index .entry)) (now (file .entry)) number (now (out .entry)) (now (out .exit)) place r ⌝ }
+    ensures { λ r. ⌜ (r ≡ place + 9 * length (joinFile number (foldedKeywords (listIn (now (index .entry)))) (chunksIn (now (index .entry)) (now (file .entry)))))
+        × (now (out .exit) ≡ splice (now (out .entry)) place (listBytes (joinFile number (foldedKeywords (listIn (now (index .entry)))) (chunksIn (now (index .entry)) (now (file .entry)))))) ⌝ }
 {
     let mut here = [0usize; 4];
     let mut streams = [[0usize; 5]; 16];

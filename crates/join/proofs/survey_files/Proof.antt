@@ -1,6 +1,6 @@
 -- `survey_files` meets its contract: the walk along the files (Turns).
 use mathlib.Core.Path.{_≡_, refl, sym, _∙_}
-use Prim.Native.Nat.{_+_, _-_, _≤_}
+use Prim.Native.Nat.{_+_, _-_, _^_, _≤_, _<_}
 use native.Mathlib.Omega.{arith}
 use lib.ListN.{length, length-set}
 use denote.Ref.{now}
@@ -12,7 +12,9 @@ use Rattle.spec.specs.Recipes.{fileCount, fileCode}
 use Rattle.spec.specs.Join.{due}
 use Rattle.recipes.proofs.Files.{walk-file, accepted}
 use Rattle.files.specs.Measures.{named, Slotted}
+use Rattle.walk.specs.Walking.{File}
 use Rattle.walk.proofs.Entries.{lies}
+use Rattle.walk.proofs.Counts.{count-few}
 use Rattle.join.proofs.FileLaws.{file-walks, file-next}
 use Rattle.join.proofs.Turns.{tested-code, tested-slots, Surveying, survey-start, survey-refused, survey-on, survey-end}
 use borrow.Author.Needs.{needs}
@@ -91,21 +93,23 @@ returns c =
     let a = p .before .before .before .before .before .before .before .before .args in
     survey-refused (now (a .index)) (now (a .recipes)) (p .loop .k) (p .loop .at) (omega arith) (now (f .file-at .result)) (f .file-at .ensures) (p .loop .some) (p .loop .total) (p .loop .inv .3) (t .file-code .result) (test t) (c .if1 .taken)
 
-count-file-requires : tie.Need-count-file-requires Inv-loop μ-loop
-count-file-requires c κs =
-    let e = c .before in
+-- the file that passed can be walked
+walks : (e : tie.Else1 Inv-loop μ-loop) → let t = e .before .before .before in
+    let f = t .before .before in
+    File (now (f .before .before .before .before .before .before .before .before .before .before .args .index)) (now (f .file-at .result)) (t .file-code .last .1 .1 .1 .1 .1 .1 .1 .0)
+walks e =
     let t = e .before .before .before in
     let f = t .before .before in
     let p = f .before .before in
-    let s = p .before .before .before .before .before .before .before .before in
-    let a = s .args in
-    let z = e .if1 .left in (
-      s .pre .0 .looked,
-      (
-        file-walks (now (a .index)) (now (a .recipes)) (p .loop .k) (p .loop .at) (p .loop .inv .3 .walk) (omega arith) (now (f .file-at .result)) (f .file-at .ensures) (t .file-code .last .1 .1 .1 .1 .1 .1 .1 .0) (sym (test t) ∙ z) (slots t z),
-        s .pre .0 .keyed,
-      ),
-    )
+    let a = p .before .before .before .before .before .before .before .before .args in
+    let z = e .if1 .left in
+    file-walks (now (a .index)) (now (a .recipes)) (p .loop .k) (p .loop .at) (p .loop .inv .3 .walk) (omega arith) (now (f .file-at .result)) (f .file-at .ensures)
+    (t .file-code .last .1 .1 .1 .1 .1 .1 .1 .0) (sym (test t) ∙ z) (slots t z)
+
+count-file-requires : tie.Need-count-file-requires Inv-loop μ-loop
+count-file-requires c κs =
+    let s = c .before .before .before .before .before .before .before .before .before .before .before .before .before .before .before .before in
+    (s .pre .0 .looked, (walks (c .before), s .pre .0 .keyed))
 
 mark-of-requires : tie.Need-mark-of-requires Inv-loop μ-loop
 mark-of-requires c κs = search needs
@@ -115,10 +119,20 @@ slice-write-some c =
     let p = c .before .before .before .before .before .before .before .before .before .before in
     omega (arith, p .loop .inv .0, p .loop .inv .2, p .loop .inv .3 .few, p .before .before .before .before .before .before .before .before .pre .1 .1)
 
+-- the file's count is small
+small : (c : tie.After-count-file Inv-loop μ-loop) → c .count-file .result < 2 ^ 36
+small c =
+    let e = c .before .before in
+    let t = e .before .before .before in
+    let f = t .before .before in
+    let s = f .before .before .before .before .before .before .before .before .before .before in
+    let a = s .args in
+    omega (arith, c .count-file .ensures, count-few (now (a .index)) (a .count) (now (a .tables)) (now (f .file-at .result)) (t .file-code .last .1 .1 .1 .1 .1 .1 .1 .0) (s .pre .0 .keyed) (walks e))
+
 add-total : tie.Need-add-total Inv-loop μ-loop
 add-total c =
     let p = c .before .before .before .before .before .before .before .before .before .before in
-    omega (arith, p .loop .inv .3 .small, p .loop .inv .3 .few, c .before .count-file .ensures .few)
+    omega (arith, p .loop .inv .3 .small, p .loop .inv .3 .few, small (c .before))
 
 add-at : tie.Need-add-at Inv-loop μ-loop
 add-at c = omega (arith, room (c .before .before .before .before .before .before .before .before), c .before .before .before .before .before .before .before .before .before .before .before .before .before .before .before .before .before .before)
@@ -146,7 +160,7 @@ loop-again c =
       t .file-code .kept .1 .1 .1 .1 .1 .1 .1 .0 ∙ l .inv .1,
       length-set (l .some) (l .k) (c .mark-of .result) ∙ l .inv .2,
       survey-on (now (a .index)) (now (a .recipes)) (l .k) (l .at) (omega arith) (now (f .file-at .result)) (f .file-at .ensures) (l .some) (l .total) (l .inv .3) (t .file-code .result) (test t) (e .if1 .left)
-          (n .result) (c .mark-of .result) (n .ensures) (c .mark-of .ensures) (omega (arith, l .inv .0, l .inv .2, l .inv .3 .few, s .pre .1 .1)),
+          (n .result) (c .mark-of .result) (n .ensures) (small (c .before)) (c .mark-of .ensures) (omega (arith, l .inv .0, l .inv .2, l .inv .3 .few, s .pre .1 .1)),
     )
 
 same-length-3 : tie.Need-same-length-3 Inv-loop μ-loop

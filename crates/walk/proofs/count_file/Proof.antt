@@ -6,7 +6,7 @@ use Rattle.walk.specs.Walking.{chunksIn, LoadedAt}
 use Rattle.walk.proofs.Entries.{in-chunks, out-chunks}
 use Rattle.walk.proofs.Places.{crossable}
 use Rattle.walk.proofs.Moves.{all-good}
-use Rattle.walk.proofs.Counts.{walkable, Counting, counting-start, counting-on, counting-end}
+use Rattle.walk.proofs.Counts.{walkable, count-few, Counting, counting-on, counting-end}
 use Rattle.walk.proofs.count_file.Statement.{statement}
 use Rattle.walk.proofs.count_file.Tie as tie
 use Rattle.walk.proofs.count_file.Reads as reads
@@ -44,7 +44,7 @@ load-requires c κs = let s = c .before .before .before .before .before .before 
 
 loop-holds : tie.Need-loop-holds Inv-loop μ-loop
 loop-holds c = let s = c .before .before .before .before .before .before .before in
-    (omega arith, s .pre .1 .1 .few, c .load .ensures, counting-start (s .args .index .now) (chunksIn (s .args .index .now) (s .args .file .now)))
+    (omega arith, s .pre .1 .1 .few, c .load .ensures, omega arith)
 
 add-load : tie.Need-add-load Inv-loop μ-loop
 add-load c = omega (arith, c .loop-test .taken, c .before .before .before .before .before .before .before .before .before)
@@ -70,7 +70,10 @@ cross-requires c κs =
     )
 
 add-sum : tie.Need-add-sum Inv-loop μ-loop
-add-sum c = omega (arith, turn c .most, c .before .before .before .before .before .before .before .before .before .before .before .before .before .before .before .pre .1 .0 .small)
+add-sum c =
+    let s = c .before .before .before .before .before .before .before .before .before .before .before .before .before .before .before in
+    let a = s .args in
+    omega (arith, turn c, count-few (a .index .now) (a .count) (a .tables .now) (a .file .now) (a .slots .now) (s .pre .1 .1) (s .pre .1 .0))
 
 add-n : tie.Need-add-n Inv-loop μ-loop
 add-n c = omega (arith, c .before .before .before .before .before .before .loop-test .taken, c .before .before .before .before .before .before .before .before .before .before .before .before .before .before .before)
@@ -85,7 +88,7 @@ returns : tie.Need-returns Inv-loop μ-loop
 returns c = let p = c .before in
     let s = p .before .before .before .before .before .before .before .before in
     let a = s .args in
-    counting-end (a .index .now) (a .file .now) (p .loop .n) (p .loop .sum) (s .pre .1 .0 .small) (out-chunks (a .index .now) (a .file .now) (p .loop .n) (c .loop-test .left)) (p .loop .inv .3)
+    counting-end (a .index .now) (a .file .now) (p .loop .n) (p .loop .sum) (out-chunks (a .index .now) (a .file .now) (p .loop .n) (c .loop-test .left)) (p .loop .inv .3)
 
 pub count-file-spec : {M : Type 1} → statement M
 count-file-spec =

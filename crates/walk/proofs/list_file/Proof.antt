@@ -57,7 +57,10 @@ returns c = let p = c .before .before .before .before .before .before in
     let chunks = chunksIn (a .index .now) (a .file .now) in
     let n = c .before .before .next in
     let e = n .ensures .ended (c .if1 .taken) (a .number) in
-    record { bytes = list-bytes (a .out .now) (p .loop .out) (a .place) (p .loop .p) (joinFile (a .number) keywords chunks) (coming (a .number) (a .index .now) (a .count) chunks (p .loop .here) (p .loop .streams)) (p .loop .inv .1) e; ends = list-ends (a .out .now) (p .loop .out) (a .place) (p .loop .p) (joinFile (a .number) keywords chunks) (coming (a .number) (a .index .now) (a .count) chunks (p .loop .here) (p .loop .streams)) (p .loop .inv .1) e }
+    let still = coming (a .number) (a .index .now) (a .count) chunks (p .loop .here) (p .loop .streams) in (
+      list-ends (a .out .now) (p .loop .out) (a .place) (p .loop .p) (joinFile (a .number) keywords chunks) still (p .loop .inv .1) e,
+      list-bytes (a .out .now) (p .loop .out) (a .place) (p .loop .p) (joinFile (a .number) keywords chunks) still (p .loop .inv .1) e,
+    )
 
 put-requires : tie.Need-put-requires Inv-loop μ-loop
 put-requires c κs = let p = c .before .before .before .before .before .before .before in
