@@ -11,7 +11,6 @@ use lib.Seq.{getD-set-same, getD-set-other}
 use Rattle.spec.specs.Bytes.{part, fieldAt, splice, written}
 use Rattle.spec.specs.Outcome.{firstCode}
 use Rattle.spec.specs.Directory.{sizeAt}
-use Rattle.spec.specs.Keywords.{foldedKeywords}
 use Rattle.spec.specs.Records.{form1}
 use Rattle.spec.specs.Index.{listIn, indexLayout, indexKeys}
 use Rattle.spec.specs.Recipes.{fileCount, filesOf, recipesCode, fileCode, filesCode}
@@ -23,7 +22,7 @@ use Rattle.recipes.proofs.Files.{Walk, accepted}
 use Rattle.files.specs.Measures.{named, keysAt, sizesAt, entriesIn, Slotted}
 use Rattle.files.proofs.OfIndex.{index-code, index-slotted}
 use Rattle.spec.proofs.ListBytes.{length-list, list-nil, list-append}
-use Rattle.walk.specs.Walking.{chunksIn, Directory}
+use Rattle.walk.specs.Walking.{chunksIn, fileList, Directory}
 use Rattle.walk.proofs.Counts.{count-any}
 use Rattle.join.specs.Joining.{allFilesCode, listOf, Surveyed}
 use Rattle.join.proofs.FileLaws.{keywords, codeOf, left, left-start, left-end, codes, codes-step, codes-end, list-is, file-next, left-step}
@@ -97,14 +96,15 @@ module _ (index recipes : List ℕ) where
             marked = λ z. absurd (h z);
           }
 
-      pub survey-on : code ≡ 0 → (n mark : ℕ) → n ≡ length (joinFile 0 (foldedKeywords (listIn index)) (chunksIn index file)) → n < 2 ^ 36 → mark ≡ min n 1 → k < length some
+      pub survey-on : code ≡ 0 → (n mark : ℕ) → n ≡ length (fileList 0 index file) → n < 2 ^ 36 → mark ≡ min n 1 → k < length some
           → Surveying (set some k mark) (k + 1) (at + 4 + length file) (total + n)
       unfolding filesCode
       survey-on z n mark c₀ few e l =
           let here : List Occurrence = joinFile k (keywords index recipes) (chunksIn index file) in
           let m : n ≡ length here = c₀ ∙ sym (count-any index file k) in
           let s : length (left index recipes k) ≡ n + length (left index recipes (k + 1))
-          = ap length (left-step index recipes k at (g .walk) turn file f) ∙ length-append here (left index recipes (k + 1)) ∙ ap (λ (x : ℕ). x + length (left index recipes (k + 1))) (sym m) in
+          = ap length (left-step index recipes k at (g .walk) turn file f) ∙ length-append here (left index recipes (k + 1))
+          ∙ ap (λ (x : ℕ). x + length (left index recipes (k + 1))) (sym m) in
           record {
             walk = file-next index recipes k at (g .walk) turn file f;
             few = g .few;
@@ -134,7 +134,8 @@ module _ (index recipes : List ℕ) where
             going-room out₀ out 0 place (listBytes (joinList form1 index recipes)) (listBytes (left index recipes k)) (g .going) (listBytes here) (listBytes (left index recipes (k + 1))) whole-room bytes-step,
           )
 
-      pub listing-on : (out′ : List ℕ) (end : ℕ) → (end ≡ place + 9 * length here) × (out′ ≡ splice out place (listBytes here)) → Listing out₀ out′ (k + 1) (at + 4 + length file) end
+      pub listing-on : (out′ : List ℕ) (end : ℕ) → (end ≡ place + 9 * length here) × (out′ ≡ splice out place (listBytes here))
+          → Listing out₀ out′ (k + 1) (at + 4 + length file) end
       listing-on out′ end l =
           record {
             walk = file-next index recipes k at (g .walk) turn file f;
@@ -157,8 +158,7 @@ module _ (index recipes : List ℕ) where
       (ap listBytes (left-end index recipes k at (g .walk) h) ∙ list-nil)
 
 -- a file without occurrences: nothing is written
-pub listed-none : (index file : List ℕ) (number : ℕ) (out : List ℕ) (place : ℕ) → joinFile number (foldedKeywords (listIn index)) (chunksIn index file) ≡ []
-    → (place ≡ place + 9 * length (joinFile number (foldedKeywords (listIn index)) (chunksIn index file)))
-    × (out ≡ splice out place (listBytes (joinFile number (foldedKeywords (listIn index)) (chunksIn index file))))
+pub listed-none : (index file : List ℕ) (number : ℕ) (out : List ℕ) (place : ℕ) → fileList number index file ≡ []
+    → (place ≡ place + 9 * length (fileList number index file)) × (out ≡ splice out place (listBytes (fileList number index file)))
 listed-none index file number out place e =
     (omega (arith, ap length e), sym (ap (λ (l : List Occurrence). splice out place (listBytes l)) e ∙ ap (splice out place) list-nil ∙ splice-nil out place))

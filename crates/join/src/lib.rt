@@ -5,12 +5,11 @@ ghost use mathlib.Core.List.{[]};
 ghost use Prim.Native.Nat.{_+_, _*_, _≤_, min};
 ghost use lib.ListN.{length};
 ghost use Rattle.spec.specs.Bytes.{part, fieldAt, splice};
-ghost use Rattle.spec.specs.Keywords.{foldedKeywords};
 ghost use Rattle.spec.specs.Records.{form1};
 ghost use Rattle.spec.specs.Index.{listIn};
-ghost use Rattle.spec.specs.Join.{due, joinFile, joinList, listBytes, countOutcome, joinOutcome, joinBuffer};
+ghost use Rattle.spec.specs.Join.{due, joinList, listBytes, countOutcome, joinOutcome, joinBuffer};
 ghost use Rattle.directory.specs.Chains.{Empty};
-ghost use Rattle.walk.specs.Walking.{chunksIn, Directory, File, Keyed};
+ghost use Rattle.walk.specs.Walking.{fileList, Directory, File, Keyed};
 ghost use Rattle.join.specs.Joining.{Prepared, Joinable, allFilesCode, Marked, Surveyed, Planned};
 
 // The index check, then 14. It leaves the chains of the index's fingerprints in the arrays.
@@ -120,13 +119,13 @@ fn list_marked(
     out: &mut [u8],
     place: usize,
 ) -> usize
-    requires { ⌜ (mark ≡ 0 → joinFile number (foldedKeywords (listIn (now index))) (chunksIn (now index) (now file)) ≡ []) ⌝ }
+    requires { ⌜ (mark ≡ 0 → fileList number (now index) (now file) ≡ []) ⌝ }
     requires { ⌜ Directory (now index) directory entries (now heads) (now chain) ⌝ }
     requires { ⌜ File (now index) (now file) [] ⌝ }
     requires { ⌜ Keyed (now index) count (now tables) ⌝ }
-    requires { ⌜ place + 9 * length (joinFile number (foldedKeywords (listIn (now index))) (chunksIn (now index) (now file))) ≤ length (now out) ⌝ }
-    ensures { λ r. ⌜ (r ≡ place + 9 * length (joinFile number (foldedKeywords (listIn (now (index .entry)))) (chunksIn (now (index .entry)) (now (file .entry)))))
-        × (now (out .exit) ≡ splice (now (out .entry)) place (listBytes (joinFile number (foldedKeywords (listIn (now (index .entry)))) (chunksIn (now (index .entry)) (now (file .entry)))))) ⌝ }
+    requires { ⌜ place + 9 * length (fileList number (now index) (now file)) ≤ length (now out) ⌝ }
+    ensures { λ r. ⌜ (r ≡ place + 9 * length (fileList number (now (index .entry)) (now (file .entry))))
+        × (now (out .exit) ≡ splice (now (out .entry)) place (listBytes (fileList number (now (index .entry)) (now (file .entry))))) ⌝ }
 {
     if mark == 0 {
         return place;

@@ -1,7 +1,7 @@
 -- A list whose first k elements are replaced by what a function makes of them. Assumes nothing.
 use mathlib.Core.Path.{_≡_, refl, sym, ap, ap₂, _∙_}
 use mathlib.Core.List.{List, [], _∷_, _++_, map, map-append}
-use Prim.Native.Nat.{ℕ, zero, suc, _+_, _≤_, _<_}
+use Prim.Native.Nat.{ℕ, suc, _+_, _≤_, _<_}
 use native.Mathlib.Numerals.{add-one}
 use native.Mathlib.Omega.{arith}
 use lib.ListN.{length, getD, set, take, drop, length-append, length-map, length-drop, take-append-drop, List·getD-append}
@@ -29,11 +29,13 @@ module _ {A : Type 0} (f : A → A) (d : A) (k : ℕ) (l : List A) (long : k ≤
 
   -- elements that the function leaves
   pub mapped-same : ((j : ℕ) → j < k → f (getD l j d) ≡ getD l j d) → l ≡ mapped f k l
-  mapped-same h =
-      sym (take-append-drop k l) ∙ ap {B = List A} (λ front. front ++ drop k l) (sym (map-same f d (take k l) (λ j u. rw (getD-take k l j d (inside j u)) (h j (inside j u)))))
+  mapped-same h = sym (take-append-drop k l) ∙ ap {B = List A} (λ front. front ++ drop k l) (sym (map-same f d (take k l) each))
     where
       inside : (j : ℕ) → j < length (take k l) → j < k
       inside j u = omega (arith, length-take-le k l long)
+
+      each : (j : ℕ) → j < length (take k l) → f (getD (take k l) j d) ≡ getD (take k l) j d
+      each j u = rw (getD-take k l j d (inside j u)) (h j (inside j u))
 
 -- one element more
 module _ {A : Type 0} (f : A → A) (d : A) (k : ℕ) (l l′ : List A) (more : k < length l) (e : l′ ≡ mapped f k l) where

@@ -11,7 +11,8 @@ use lib.ListN.{length, getD, set, take, drop, length-set}
 use lib.Seq.{getD-set-same, getD-set-other}
 use lib.Dec.{ltb}
 use Rattle.spec.proofs.Tests.{le-or-lt}
-use Rattle.listing.specs.Streams.{occurrences, headed, stream, pulled, streamOf, streamAt, unreadAt, Open, Ready, Held, Least, given, firstKeyword, firstOffset, streamsBehind, nextKeyword, nextOffset, streamsAfter}
+use Rattle.listing.specs.Streams.{occurrences, headed, stream, pulled, streamOf, streamAt, unreadAt, Open, Ready, Held, Least}
+use Rattle.listing.specs.Streams.{given, firstKeyword, firstOffset, streamsBehind, nextKeyword, nextOffset, streamsAfter}
 use Rattle.listing.proofs.Order.{eq-or-ne, merge-step, merge-done}
 use Rattle.listing.proofs.Pulling.{Pulled, pulled-gives, headed-out, open-head, behind}
 use Rattle.listing.proofs.Mapped.{mapped-length, mapped-at}
@@ -91,7 +92,8 @@ some-least streams (suc (suc n)) h = go (some-least streams (suc n) (omega arith
             (k, record { within = omega (arith, l .within); low = λ j v. below-more (λ (i : ℕ). y k ≤ y i) (suc n) (l .low) u j (omega arith); first = l .first })
         pick (inr u) =
             let all : (j : ℕ) → j < suc n → y (suc n) < y j = λ j v. omega (arith, l .low j v) in
-            (suc n, record { within = omega arith; low = λ j v. below-more (λ (i : ℕ). y (suc n) ≤ y i) (suc n) (λ i w. omega (arith, all i w)) (omega arith) j (omega arith); first = all })
+            let low : (j : ℕ) → j < suc n + 1 → y (suc n) ≤ y j = below-more (λ (i : ℕ). y (suc n) ≤ y i) (suc n) (λ i w. omega (arith, all i w)) (omega arith) in
+            (suc n, record { within = omega arith; low = λ j v. low j (omega arith); first = all })
 
 module _ (index : List ℕ) (width size count : ℕ) (streams : List (List ℕ)) where
   abbrev head : ℕ → ℕ
@@ -144,24 +146,26 @@ module _ (index : List ℕ) (width size count : ℕ) (streams : List (List ℕ))
         on : streamAt index width size (set streams k (after k)) k ≡ unreadAt index width streams k
         on = ap (stream index width size) (set-here streams k (after k) (omega (arith, held .long, least .within))) ∙ p .same
 
-    -- what the definitions say, where the least head is known
-    pub next-ended : (k : ℕ) → Least streams count k → size ≤ head k
-        → (count ≡ nextKeyword index width size count streams) × (size ≡ nextOffset index width size count streams) × (streams ≡ streamsAfter index width size count streams)
+    -- what `next` promises
+    abbrev Next : List (List ℕ) → ℕ → ℕ → Type 0
+    Next streams′ keyword offset =
+        (keyword ≡ nextKeyword index width size count streams) × (offset ≡ nextOffset index width size count streams) × (streams′ ≡ streamsAfter index width size count streams)
+
+    -- it holds where the least head is known
+    pub next-ended : (k : ℕ) → Least streams count k → size ≤ head k → Next streams count size
     unfolding given nextKeyword nextOffset streamsAfter
     next-ended k least h =
         let e = sym (step-ended k least h .ended (omega arith) 0 0) in
         (ap (firstKeyword count) e, ap (firstOffset size) e, ap (streamsBehind index width size streams) e)
 
-    pub next-found : (k : ℕ) → Least streams count k → head k < size
-        → (k ≡ nextKeyword index width size count streams) × (head k ≡ nextOffset index width size count streams) × (set streams k (after k) ≡ streamsAfter index width size count streams)
+    pub next-found : (k : ℕ) → Least streams count k → head k < size → Next (set streams k (after k)) k (head k)
     unfolding given nextKeyword nextOffset streamsAfter
     next-found k least h =
         let e = sym (step-found k least h .found h 0 0) in
         (ap (firstKeyword count) e, sym (zero-add (head k)) ∙ ap (firstOffset size) e, ap (streamsBehind index width size streams) e)
 
     -- WHAT `next` TAKES
-    pub next-taken : 0 < count → (streams′ : List (List ℕ)) (keyword offset : ℕ)
-        → (keyword ≡ nextKeyword index width size count streams) × (offset ≡ nextOffset index width size count streams) × (streams′ ≡ streamsAfter index width size count streams)
+    pub next-taken : 0 < count → (streams′ : List (List ℕ)) (keyword offset : ℕ) → Next streams′ keyword offset
         → NextTaken index width size count streams streams′ keyword offset
     next-taken some streams′ keyword offset q = go (le-or-lt size (head (some-least streams count some .0)))
       where
@@ -171,8 +175,7 @@ module _ (index : List ℕ) (width size count : ℕ) (streams : List (List ℕ))
         least : Least streams count k
         least = some-least streams count some .1
 
-        as-they-are : (s : List (List ℕ)) (w o : ℕ)
-            → (w ≡ nextKeyword index width size count streams) × (o ≡ nextOffset index width size count streams) × (s ≡ streamsAfter index width size count streams)
+        as-they-are : (s : List (List ℕ)) (w o : ℕ) → Next s w o
             → NextTaken index width size count streams s w o → NextTaken index width size count streams streams′ keyword offset
         as-they-are s w o e t =
             subst (λ (x : ℕ). NextTaken index width size count streams streams′ keyword x) (e .1 ∙ sym (q .1))

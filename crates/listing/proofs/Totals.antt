@@ -119,8 +119,8 @@ pulled-none index width size s five head small none =
     rw (le-ltb 0 (getD s 2 0) (omega arith), b)
     (ap {B = List ℕ} (λ (x : ℕ). x ∷ getD s 1 0 ∷ getD s 2 0 ∷ getD s 3 0 ∷ getD s 4 0 ∷ []) (sym head) ∙ tabulated-getD s 0 5 five)
 
-pub open-none : (index : List ℕ) (width size count : ℕ) (streams : List (List ℕ)) (many : ℕ) → Ready index width size count streams → Fresh size count streams many → many ≡ 0
-    → streams ≡ mapped (pulled index width size) count streams
+pub open-none : (index : List ℕ) (width size count : ℕ) (streams : List (List ℕ)) (many : ℕ)
+    → Ready index width size count streams → Fresh size count streams many → many ≡ 0 → streams ≡ mapped (pulled index width size) count streams
 open-none index width size count streams many ready fresh z =
     mapped-same (pulled index width size) [] count streams (ready .long) (λ k h.
     pulled-none index width size (streamOf streams k) (fresh .five k h) (fresh .heads k h) (ready .each k h .set)

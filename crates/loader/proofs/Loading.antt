@@ -56,7 +56,8 @@ module _ (f : Form) (index : List ℕ) (at len k count : ℕ) (inside : at + len
   pub fits-behind : fitsFrom f (suc k) count (part index (at + size) (len - size)) ≡ true
   fits-behind = rw (← behind) (and-right (leb size (length bytes)) _ both)
 
-  pub rows-next : rowsFrom f k (suc count) at bytes ≡ rowAt (f .width) at size (recordNext f k bytes) ∷ rowsFrom f (suc k) count (at + size) (part index (at + size) (len - size))
+  pub rows-next : rowsFrom f k (suc count) at bytes
+      ≡ rowAt (f .width) at size (recordNext f k bytes) ∷ rowsFrom f (suc k) count (at + size) (part index (at + size) (len - size))
   unfolding rowsFrom
   rows-next = ap {B = List (List ℕ)} (λ (b : List ℕ). rowAt (f .width) at size (recordNext f k bytes) ∷ rowsFrom f (suc k) count (at + size) b) behind
 
@@ -178,9 +179,12 @@ module _ (index : List ℕ) (at len count : ℕ) (rows₀ rows : List (List ℕ)
       rows-on : rowsFrom form1 k (count - k) place here ≡ row ∷ rowsFrom form1 (suc k) (count - suc k) next (part index next (at + len - next))
       rows-on = rw (← shorter, ends, step, r) (rows-next form1 index place (at + len - place) k (count - suc k) inner whole)
 
-      left-on : take (suc k) (set rows k row) ++ rowsFrom form1 (suc k) (count - suc k) next (part index next (at + len - next)) ≡ rowsFrom form1 0 count at (part index at len)
+      abbrev rows-left : List (List ℕ)
+      rows-left = rowsFrom form1 (suc k) (count - suc k) next (part index next (at + len - next))
+
+      left-on : take (suc k) (set rows k row) ++ rows-left ≡ rowsFrom form1 0 count at (part index at len)
       left-on =
-          ap {B = List (List ℕ)} (λ xs. xs ++ rowsFrom form1 (suc k) (count - suc k) next (part index next (at + len - next))) (take-suc-set rows k row (omega (arith, l .long)))
+          ap {B = List (List ℕ)} (λ xs. xs ++ rows-left) (take-suc-set rows k row (omega (arith, l .long)))
           ∙ append-snoc (take k rows) row _ ∙ ap {B = List (List ℕ)} (λ xs. take k rows ++ xs) (sym rows-on) ∙ l .left
 
       pub loading-on : Loading index at len count rows₀ (set rows k row) next (k + 1)

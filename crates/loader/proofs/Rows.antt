@@ -5,11 +5,11 @@ use mathlib.Core.Logic.{_≢_, _⊎_, inl, inr}
 use mathlib.Core.Bool.{true, false, and-true}
 use mathlib.Core.List.{List, [], _∷_}
 use Prim.Native.Nat.{ℕ, zero, suc, _+_, _-_, _*_, _/_, _%_, _≤_, _<_}
-use native.Mathlib.Nat.{add-zero, zero-add, suc-add, mul-suc}
+use native.Mathlib.Nat.{add-zero, mul-suc}
 use native.Mathlib.Omega.{arith}
 use lib.Dec.{eqb}
 use lib.ListN.{length, take, drop, getD, length-drop}
-use lib.Seq.{length-take-le, take-take, take-nil, drop-drop, getD-take, getD-drop}
+use lib.Seq.{length-take-le, take-take, drop-drop, getD-take, getD-drop}
 use Rattle.spec.specs.Bytes.{part, leValue, fieldAt, fieldsOf, begins}
 use Rattle.spec.specs.Records.{MatchRecord, Form, readOffsets, readRecord, recordSize}
 use Rattle.spec.proofs.Tests.{eqb-same, eqb-ne, cond-elim, bool-cases}
@@ -121,7 +121,8 @@ row-is {width = width} {at = at} {c = c} {d = d} {size = size} h =
     λ i. h .holds .prefix i ∷ h .holds .suffix i ∷ p i ∷ h .holds .many i ∷ []
 
 -- what holds of the row as it stands holds of the row by its definition
-row-so : {index : List ℕ} {width at a b c d size : ℕ} {r : MatchRecord} → RowAt index width at (a ∷ b ∷ c ∷ d ∷ []) r size → RowAt index width at (rowAt width at size r) r size
+row-so : {index : List ℕ} {width at a b c d size : ℕ} {r : MatchRecord} → RowAt index width at (a ∷ b ∷ c ∷ d ∷ []) r size
+    → RowAt index width at (rowAt width at size r) r size
 row-so {index = index} {width = width} {at = at} {size = size} {r = r} h = subst (λ (row : List ℕ). RowAt index width at row r size) (row-is h) h
 
 -- a row as it stands, of a record that the bytes say

@@ -1,5 +1,5 @@
 -- A cell of the tables is the paper's: its members are the starts of the keyword in its first i bytes followed by its last j. Assumes nothing.
-use mathlib.Core.Path.{_≡_, refl, sym, ap, _∙_}
+use mathlib.Core.Path.{_≡_, sym, ap, _∙_}
 use mathlib.Core.List.{List, append-nil}
 use Prim.Native.Nat.{ℕ, _+_, _-_, _≤_, _<_}
 use native.Mathlib.Nat.{zero-add}
@@ -8,7 +8,7 @@ use lib.ListN.{length, take, drop, length-append, length-drop}
 use lib.Seq.{length-take-le}
 use Rattle.spec.specs.Bytes.{each, keep}
 use Rattle.spec.specs.Records.{offsetsOf}
-use Rattle.spec.specs.Table.{seam, cellOf, inCell, setOf}
+use Rattle.spec.specs.Table.{seam, cellOf, inCell}
 use Rattle.spec.proofs.Each.{each-append, each-match, each-none}
 use Rattle.spec.proofs.Stream.{cell-beyond}
 use Rattle.tables.specs.Tabled.{cellSet}

@@ -10,12 +10,12 @@ use Rattle.spec.specs.Bytes.{splice, each, keep}
 use Rattle.spec.specs.Keywords.{foldedKeywords}
 use Rattle.spec.specs.Records.{ChunkRecords}
 use Rattle.spec.specs.Index.{listIn}
-use Rattle.spec.specs.Join.{Occurrence, hits, listed, joinFrom, joinFile, occurrenceBytes, listBytes}
+use Rattle.spec.specs.Join.{Occurrence, hits, listed, joinFrom, occurrenceBytes, listBytes}
 use Rattle.spec.proofs.Writing.{Going, going-start, going-room, going-on, going-end, going-place}
 use Rattle.spec.proofs.ListBytes.{length-occurrence, length-list, list-cons, list-nil}
 use Rattle.listing.specs.Streams.{streamOf, unreadAt, occurrences, total, Ready}
 use Rattle.listing.proofs.Totals.{total-is}
-use Rattle.walk.specs.Walking.{chunksIn, sizeOf, Directory, File, Keyed, Walkable, LoadedAt, Crossed, AtPlace, coming}
+use Rattle.walk.specs.Walking.{chunksIn, fileList, sizeOf, Directory, File, Keyed, Walkable, LoadedAt, Crossed, AtPlace, coming}
 use Rattle.walk.proofs.Places.{AllGood, place-ready, place-join}
 use Rattle.walk.proofs.Moves.{start-place, start-coming}
 
@@ -51,8 +51,7 @@ join-length keywords (here ∷ rest) file base file′ base′ =
     ∙ sym (length-append (each (λ at. hits file′ (length keywords) (listed keywords here rest at) (base′ + at)) 0 (here .size)) _)
 
 -- THE COUNT DOES NOT HANG ON THE FILE'S NUMBER
-pub count-any : (index file : List ℕ) (number : ℕ)
-    → length (joinFile number (foldedKeywords (listIn index)) (chunksIn index file)) ≡ length (joinFile 0 (foldedKeywords (listIn index)) (chunksIn index file))
+pub count-any : (index file : List ℕ) (number : ℕ) → length (fileList number index file) ≡ length (fileList 0 index file)
 count-any index file number = join-length (foldedKeywords (listIn index)) (chunksIn index file) number 0 0 0
 
 -- ---- no more occurrences than keywords at each offset
@@ -78,14 +77,15 @@ join-most keywords (here ∷ rest) base few =
     omega (
       arith,
       length-append (each (λ at. hits 0 (length keywords) (listed keywords here rest at) (base + at)) 0 (here .size)) (joinFrom 0 keywords (base + here .size) rest),
-      each-most (λ at. hits 0 (length keywords) (listed keywords here rest at) (base + at)) (length keywords) 0 (here .size) (λ p. hits-most 0 (length keywords) (base + p) (listed keywords here rest p)),
+      each-most (λ at. hits 0 (length keywords) (listed keywords here rest at) (base + at)) (length keywords) 0 (here .size)
+          (λ at. hits-most 0 (length keywords) (base + at) (listed keywords here rest at)),
       mul-le-mul-left {m = length keywords} {n = 16} (here .size) few,
       join-most keywords rest (base + here .size) few,
     )
 
 -- THE COUNT OF A FILE IS SMALL
 pub count-few : (index : List ℕ) (count : ℕ) (tables : List (List (List ℕ))) (file slots : List ℕ) → Keyed index count tables → File index file slots
-    → length (joinFile 0 (foldedKeywords (listIn index)) (chunksIn index file)) < 2 ^ 36
+    → length (fileList 0 index file) < 2 ^ 36
 count-few index count tables file slots k f =
     omega (arith, join-most (foldedKeywords (listIn index)) (chunksIn index file) 0 (omega (arith, k .few, k .counts)), f .small)
 
@@ -113,7 +113,7 @@ module _ (index : List ℕ) (count : ℕ) (tables : List (List (List ℕ))) (chu
   counting-on m e = omega (arith, at, rest-count)
 
 pub counting-end : (index file : List ℕ) (n sum : ℕ) → length (chunksIn index file) ≤ n → Counting index (chunksIn index file) n sum
-    → sum ≡ length (joinFile 0 (foldedKeywords (listIn index)) (chunksIn index file))
+    → sum ≡ length (fileList 0 index file)
 unfolding joinFrom
 counting-end index file n sum h c =
     let z = ap (λ (l : List ChunkRecords). length (joinFrom 0 (foldedKeywords (listIn index)) 0 l)) (drop-of-length-le (chunksIn index file) h) in
@@ -161,7 +161,7 @@ module _ (index file : List ℕ) (count : ℕ) (rows : List (List ℕ)) (size : 
       (λ k h. zero-streams 16 k) (f .small) l
 
   pub first-going : (out : List ℕ) (place number : ℕ)
-      → Going out out place place (listBytes (joinFile number (foldedKeywords (listIn index)) (chunksIn index file))) (listBytes (coming number index count (chunksIn index file) here zeros))
+      → Going out out place place (listBytes (fileList number index file)) (listBytes (coming number index count (chunksIn index file) here zeros))
   first-going out place number =
-      subst (λ (os : List Occurrence). Going out out place place (listBytes (joinFile number (foldedKeywords (listIn index)) (chunksIn index file))) (listBytes os))
+      subst (λ (os : List Occurrence). Going out out place place (listBytes (fileList number index file)) (listBytes os))
       (sym (start-coming number index count (chunksIn index file) here zeros refl refl refl)) (going-start out place _)

@@ -5,7 +5,7 @@ use mathlib.Core.Bool.{true, false≢true}
 use mathlib.Core.List.{List, [], _∷_, map}
 use Prim.Native.Nat.{ℕ, zero, suc, _+_, _-_, _*_, _/_, _≤_, _<_}
 use native.Mathlib.Omega.{arith}
-use lib.ListN.{length, getD, take, drop, length-map, drop-of-length-le, replicate, length-replicate}
+use lib.ListN.{length, getD, length-map, drop-of-length-le, replicate, length-replicate}
 use lib.Seq.{drop-cons}
 use Rattle.spec.specs.Bytes.{part, fieldAt, positionOf}
 use Rattle.spec.specs.Keywords.{foldedKeywords}

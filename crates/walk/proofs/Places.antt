@@ -9,9 +9,9 @@ use native.Mathlib.Omega.{arith}
 use borrow.Author.Count.{below-more}
 use lib.ListN.{length, getD, drop, set, length-set, length-drop}
 use lib.Seq.{drop-cons, getD-drop, getD-set-same, getD-set-other}
-use lib.Dec.{leb, ltb}
+use lib.Dec.{ltb}
 use lib.Pow.{pow-mono}
-use Rattle.spec.specs.Bytes.{each, rising, every}
+use Rattle.spec.specs.Bytes.{each, rising}
 use Rattle.spec.specs.Keywords.{foldedKeywords}
 use Rattle.spec.specs.Table.{inCell, setOf}
 use Rattle.spec.specs.Records.{ChunkRecords, recordAt, inRange, reach}

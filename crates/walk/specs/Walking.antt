@@ -9,7 +9,7 @@ use Rattle.spec.specs.Keywords.{listSize, foldedKeywords}
 use Rattle.spec.specs.Store.{chunkCount}
 use Rattle.spec.specs.Records.{ChunkRecords, recordAt, form1}
 use Rattle.spec.specs.Index.{listIn, indexKeys, indexCode}
-use Rattle.spec.specs.Join.{Occurrence, joinFrom, fileRecords}
+use Rattle.spec.specs.Join.{Occurrence, joinFrom, joinFile, fileRecords}
 use Rattle.directory.specs.Chains.{keysFrom, Chained}
 use Rattle.files.specs.Measures.{named, Slotted}
 use Rattle.loader.specs.Loaded.{Row, rowOf}
@@ -24,6 +24,10 @@ noChunk = record { size = 0; records = [] }
 -- The records of the chunks that a run of fingerprints names.
 unfoldable pub chunksIn : List ℕ → List ℕ → List ChunkRecords
 chunksIn index file = fileRecords form1 index (named file)
+
+-- The occurrences of a file, whose number is `number`.
+abbrev pub fileList : ℕ → List ℕ → List ℕ → List Occurrence
+fileList number index file = joinFile number (foldedKeywords (listIn index)) (chunksIn index file)
 
 abbrev pub chunkIn : List ChunkRecords → ℕ → ChunkRecords
 chunkIn chunks n = getD chunks n noChunk

@@ -4,11 +4,10 @@ ghost use mathlib.Core.Path.{_≡_};
 ghost use Prim.Native.Nat.{_+_, _*_, _/_, _^_, _≤_, _<_};
 ghost use lib.ListN.{length, getD};
 ghost use Rattle.spec.specs.Bytes.{part, splice, positionOf};
-ghost use Rattle.spec.specs.Records.{form1};
 ghost use Rattle.spec.specs.Keywords.{foldedKeywords};
 ghost use Rattle.spec.specs.Index.{listIn, indexKeys};
-ghost use Rattle.spec.specs.Join.{joinFile, listBytes};
-ghost use Rattle.walk.specs.Walking.{chunksIn, Directory, File, Keyed, Walkable, LoadedAt, Crossable, Filled, AtPlace, Moved, NextOf};
+ghost use Rattle.spec.specs.Join.{listBytes};
+ghost use Rattle.walk.specs.Walking.{chunksIn, fileList, Directory, File, Keyed, Walkable, LoadedAt, Crossable, Filled, AtPlace, Moved, NextOf};
 
 // Bytes of an offset.
 const WIDTH: usize = 2;
@@ -220,7 +219,7 @@ pub fn count_file(
     requires { ⌜ Directory (now index) directory entries (now heads) (now chain) ⌝ }
     requires { ⌜ File (now index) (now file) (now slots) ⌝ }
     requires { ⌜ Keyed (now index) count (now tables) ⌝ }
-    ensures { λ r. ⌜ r ≡ length (joinFile 0 (foldedKeywords (listIn (now (index .entry)))) (chunksIn (now (index .entry)) (now (file .entry)))) ⌝ }
+    ensures { λ r. ⌜ r ≡ length (fileList 0 (now (index .entry)) (now (file .entry))) ⌝ }
 {
     let mut rows = [[0usize; 4]; 16];
     let mut streams = [[0usize; 5]; 16];
@@ -277,9 +276,9 @@ pub fn list_file(
     requires { ⌜ Directory (now index) directory entries (now heads) (now chain) ⌝ }
     requires { ⌜ File (now index) (now file) (now slots) ⌝ }
     requires { ⌜ Keyed (now index) count (now tables) ⌝ }
-    requires { ⌜ place + 9 * length (joinFile number (foldedKeywords (listIn (now index))) (chunksIn (now index) (now file))) ≤ length (now out) ⌝ }
-    ensures { λ r. ⌜ (r ≡ place + 9 * length (joinFile number (foldedKeywords (listIn (now (index .entry)))) (chunksIn (now (index .entry)) (now (file .entry)))))
-        × (now (out .exit) ≡ splice (now (out .entry)) place (listBytes (joinFile number (foldedKeywords (listIn (now (index .entry)))) (chunksIn (now (index .entry)) (now (file .entry)))))) ⌝ }
+    requires { ⌜ place + 9 * length (fileList number (now index) (now file)) ≤ length (now out) ⌝ }
+    ensures { λ r. ⌜ (r ≡ place + 9 * length (fileList number (now (index .entry)) (now (file .entry))))
+        × (now (out .exit) ≡ splice (now (out .entry)) place (listBytes (fileList number (now (index .entry)) (now (file .entry))))) ⌝ }
 {
     let mut here = [0usize; 4];
     let mut streams = [[0usize; 5]; 16];

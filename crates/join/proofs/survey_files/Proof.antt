@@ -96,7 +96,8 @@ returns c =
 -- the file that passed can be walked
 walks : (e : tie.Else1 Inv-loop μ-loop) → let t = e .before .before .before in
     let f = t .before .before in
-    File (now (f .before .before .before .before .before .before .before .before .before .before .args .index)) (now (f .file-at .result)) (t .file-code .last .1 .1 .1 .1 .1 .1 .1 .0)
+    let a = f .before .before .before .before .before .before .before .before .before .before .args in
+    File (now (a .index)) (now (f .file-at .result)) (t .file-code .last .1 .1 .1 .1 .1 .1 .1 .0)
 walks e =
     let t = e .before .before .before in
     let f = t .before .before in
@@ -127,7 +128,8 @@ small c =
     let f = t .before .before in
     let s = f .before .before .before .before .before .before .before .before .before .before in
     let a = s .args in
-    omega (arith, c .count-file .ensures, count-few (now (a .index)) (a .count) (now (a .tables)) (now (f .file-at .result)) (t .file-code .last .1 .1 .1 .1 .1 .1 .1 .0) (s .pre .0 .keyed) (walks e))
+    let slots = t .file-code .last .1 .1 .1 .1 .1 .1 .1 .0 in
+    omega (arith, c .count-file .ensures, count-few (now (a .index)) (a .count) (now (a .tables)) (now (f .file-at .result)) slots (s .pre .0 .keyed) (walks e))
 
 add-total : tie.Need-add-total Inv-loop μ-loop
 add-total c =

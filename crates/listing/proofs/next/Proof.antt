@@ -28,7 +28,8 @@ array-read-y c = search needs
 returns : tie.Need-returns
 returns c = let s = c .before .before .before .before .before in
     let a = s .args in
-    next-ended (a .index .now) (a .width) (a .size) (a .count) (a .streams .now) (s .pre .3) (c .before .before .least .result) (c .before .before .least .ensures) (omega arith)
+    let f = c .before .before .least in
+    next-ended (a .index .now) (a .width) (a .size) (a .count) (a .streams .now) (s .pre .3) (f .result) (f .ensures) (omega arith)
 
 pull-requires : tie.Need-pull-requires
 pull-requires c κs = let s = c .before .before .before .before .before in

@@ -59,7 +59,8 @@ loop-again c = let p = c .before .before .before in
     let a = s .args in
     let t = c .before .before .loop-test .taken in (
       omega arith,
-      mapped-on (pulled (a .index .now) (a .width) (a .size)) [] (p .loop .k) (a .streams .now) (p .loop .streams) (omega (arith, t, s .pre .2 .long)) (p .loop .inv .1) (c .pull .result) (c .pull .ensures),
+      mapped-on (pulled (a .index .now) (a .width) (a .size)) [] (p .loop .k) (a .streams .now) (p .loop .streams) (omega (arith, t, s .pre .2 .long)) (p .loop .inv .1)
+          (c .pull .result) (c .pull .ensures),
     )
 
 returns-2 : tie.Need-returns-2 Inv-loop μ-loop

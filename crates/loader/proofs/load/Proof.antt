@@ -17,7 +17,8 @@ room : (c : tie.After-row-at Inv-loop μ-loop) → getD (c .row-at .result) 2 0 
 room c =
     let p = c .before .before in
     let a = p .before .before .args in
-    next-room (a .index .now) (a .at) (a .len) (a .count) (a .rows .now) (p .loop .rows) (p .loop .place) (p .loop .k) (p .loop .inv .1) (c .before .loop-test .taken) (c .row-at .result) (c .row-at .ensures)
+    next-room (a .index .now) (a .at) (a .len) (a .count) (a .rows .now) (p .loop .rows) (p .loop .place) (p .loop .k) (p .loop .inv .1)
+    (c .before .loop-test .taken) (c .row-at .result) (c .row-at .ensures)
 
 add-end : tie.Need-add-end Inv-loop μ-loop
 add-end c = omega (arith, c .before .pre .inside)
@@ -35,8 +36,11 @@ row-at-requires : tie.Need-row-at-requires Inv-loop μ-loop
 row-at-requires c κs =
     let p = c .before in
     let a = p .before .before .args in
-    let w = p .loop .inv .1 .within in
-    (omega (arith, p .loop .inv .1 .inside), size-room (a .index .now) (a .at) (a .len) (a .count) (a .rows .now) (p .loop .rows) (p .loop .place) (p .loop .k) (p .loop .inv .1) (c .loop-test .taken))
+    let w = p .loop .inv .1 .within in (
+      omega (arith, p .loop .inv .1 .inside),
+      size-room (a .index .now) (a .at) (a .len) (a .count) (a .rows .now) (p .loop .rows) (p .loop .place) (p .loop .k) (p .loop .inv .1)
+          (c .loop-test .taken),
+    )
 
 mul-t12 : tie.Need-mul-t12 Inv-loop μ-loop
 mul-t12 c = omega arith
@@ -65,8 +69,11 @@ loop-less c = omega arith
 loop-again : tie.Need-loop-again Inv-loop μ-loop
 loop-again c =
     let p = c .before .before in
-    let a = p .before .before .args in
-    (omega arith, loading-on (a .index .now) (a .at) (a .len) (a .count) (a .rows .now) (p .loop .rows) (p .loop .place) (p .loop .k) (p .loop .inv .1) (c .before .loop-test .taken) (c .row-at .result) (c .row-at .ensures))
+    let a = p .before .before .args in (
+      omega arith,
+      loading-on (a .index .now) (a .at) (a .len) (a .count) (a .rows .now) (p .loop .rows) (p .loop .place) (p .loop .k) (p .loop .inv .1)
+          (c .before .loop-test .taken) (c .row-at .result) (c .row-at .ensures),
+    )
 
 returns : tie.Need-returns Inv-loop μ-loop
 returns c =

@@ -67,7 +67,9 @@ add-t21 c = search needs
 returns-2 : tie.Need-returns-2
 returns-2 c =
     let s = c .before .before .before .before .before .before .before .before in
-    row-is (row-none form1 (s .args .index .now) (s .args .at) (s .args .len) (s .pre .0) (s .pre .1) (c .before .before .before .before .if1 .left) (c .before .if2 .taken) (c .if3 .taken))
+    row-is
+    (row-none form1 (s .args .index .now) (s .args .at) (s .args .len) (s .pre .0) (s .pre .1)
+    (c .before .before .before .before .if1 .left) (c .before .if2 .taken) (c .if3 .taken))
 
 add-t22 : tie.Need-add-t22
 add-t22 c = search needs
@@ -75,7 +77,9 @@ add-t22 c = search needs
 returns-3 : tie.Need-returns-3
 returns-3 c =
     let s = c .before .before .before .before .before .before .before .before in
-    row-is (row-one form1 (s .args .index .now) (s .args .at) (s .args .len) (s .pre .0) (s .pre .1) (c .before .before .before .before .if1 .left) (c .before .if2 .taken) (c .if3 .left))
+    row-is
+    (row-one form1 (s .args .index .now) (s .args .at) (s .args .len) (s .pre .0) (s .pre .1)
+    (c .before .before .before .before .if1 .left) (c .before .if2 .taken) (c .if3 .left))
 
 add-t23 : tie.Need-add-t23
 add-t23 c = search needs
@@ -86,7 +90,9 @@ add-t24 c = search needs
 returns-4 : tie.Need-returns-4
 returns-4 c =
     let s = c .before .before .before .before .before .before .before .before in
-    row-is (row-two form1 (s .args .index .now) (s .args .at) (s .args .len) (s .pre .0) (s .pre .1) (c .before .before .before .before .if1 .left) (c .if4 .taken))
+    row-is
+    (row-two form1 (s .args .index .now) (s .args .at) (s .args .len) (s .pre .0) (s .pre .1)
+    (c .before .before .before .before .if1 .left) (c .if4 .taken))
 
 add-read : tie.Need-add-read
 add-read c = search needs
@@ -111,7 +117,9 @@ add-t27 c = search needs
 returns-5 : tie.Need-returns-5
 returns-5 c =
     let s = c .before .before .before .before .before .before .before .before .before in
-    row-is (row-three form1 (s .args .index .now) (s .args .at) (s .args .len) (s .pre .0) (s .pre .1) (c .before .before .before .before .before .if1 .left) (c .before .before .if2 .left) (c .before .if4 .left) (c .read .result) (c .read .ensures))
+    row-is
+    (row-three form1 (s .args .index .now) (s .args .at) (s .args .len) (s .pre .0) (s .pre .1)
+    (c .before .before .before .before .before .if1 .left) (c .before .before .if2 .left) (c .before .if4 .left) (c .read .result) (c .read .ensures))
 
 pub record-at-spec : {M : Type 1} → statement M
 record-at-spec =

@@ -34,7 +34,8 @@ returns-2 : tie.Need-returns-2
 returns-2 c =
     let s = c .before .before .before .before .before .before .before in
     let a = s .args in
-    c .entry-of .ensures ∙ ap (positionOf (part (now (a .file)) (20 * a .n) 20)) (keys-are (now (a .index)) (a .directory) (a .entries) (now (a .heads)) (now (a .chain)) (s .pre .0))
+    c .entry-of .ensures
+    ∙ ap (positionOf (part (now (a .file)) (20 * a .n) 20)) (keys-are (now (a .index)) (a .directory) (a .entries) (now (a .heads)) (now (a .chain)) (s .pre .0))
 
 pub entry-at-spec : {M : Type 1} → statement M
 entry-at-spec =

@@ -2,11 +2,9 @@
 use mathlib.Core.Path.{ap}
 use native.Mathlib.Omega.{arith}
 use lib.ListN.{length}
-use Rattle.spec.specs.Keywords.{foldedKeywords}
-use Rattle.spec.specs.Index.{listIn}
-use Rattle.spec.specs.Join.{joinFile, listBytes}
+use Rattle.spec.specs.Join.{Occurrence, listBytes}
 use Rattle.spec.proofs.Writing.{Going}
-use Rattle.walk.specs.Walking.{chunksIn, AtPlace, coming}
+use Rattle.walk.specs.Walking.{chunksIn, fileList, AtPlace, coming}
 use Rattle.walk.proofs.Counts.{walkable, first-place, first-going, list-room, list-on, list-bytes, list-ends}
 use borrow.Author.Needs.{needs}
 use Rattle.walk.proofs.list_file.Statement.{statement}
@@ -20,7 +18,7 @@ use Rattle.walk.proofs.next.Reads as next-reads
 abbrev Inv-loop : tie.InvT-loop
 Inv-loop index directory entries heads chain file slots count tables number out₀ place here₀ streams₀ rows₀ p₀ out here streams rows p =
     AtPlace index count (chunksIn index file) here streams rows
-    × Going out₀ out place p (listBytes (joinFile number (foldedKeywords (listIn index)) (chunksIn index file))) (listBytes (coming number index count (chunksIn index file) here streams))
+    × Going out₀ out place p (listBytes (fileList number index file)) (listBytes (coming number index count (chunksIn index file) here streams))
 
 abbrev μ-loop : tie.MeasureT-loop
 μ-loop index directory entries heads chain file slots count tables number out₀ place here₀ streams₀ rows₀ p₀ out here streams rows p =
@@ -53,39 +51,45 @@ returns : tie.Need-returns Inv-loop μ-loop
 returns c = let p = c .before .before .before .before .before .before in
     let s = p .before .before .before .before .before .before .before .before .before in
     let a = s .args in
-    let keywords = foldedKeywords (listIn (a .index .now)) in
+    let whole = fileList (a .number) (a .index .now) (a .file .now) in
     let chunks = chunksIn (a .index .now) (a .file .now) in
     let n = c .before .before .next in
     let e = n .ensures .ended (c .if1 .taken) (a .number) in
     let still = coming (a .number) (a .index .now) (a .count) chunks (p .loop .here) (p .loop .streams) in (
-      list-ends (a .out .now) (p .loop .out) (a .place) (p .loop .p) (joinFile (a .number) keywords chunks) still (p .loop .inv .1) e,
-      list-bytes (a .out .now) (p .loop .out) (a .place) (p .loop .p) (joinFile (a .number) keywords chunks) still (p .loop .inv .1) e,
+      list-ends (a .out .now) (p .loop .out) (a .place) (p .loop .p) whole still (p .loop .inv .1) e,
+      list-bytes (a .out .now) (p .loop .out) (a .place) (p .loop .p) whole still (p .loop .inv .1) e,
     )
 
 put-requires : tie.Need-put-requires Inv-loop μ-loop
 put-requires c κs = let p = c .before .before .before .before .before .before .before in
     let s = p .before .before .before .before .before .before .before .before .before in
     let a = s .args in
-    let keywords = foldedKeywords (listIn (a .index .now)) in
+    let whole = fileList (a .number) (a .index .now) (a .file .now) in
     let chunks = chunksIn (a .index .now) (a .file .now) in
     let n = c .before .before .before .next in
-    (list-room (a .out .now) (p .loop .out) (a .place) (p .loop .p) (joinFile (a .number) keywords chunks) (coming (a .number) (a .index .now) (a .count) chunks (p .loop .here) (p .loop .streams)) (p .loop .inv .1) (record { file = a .number; offset = n .result .offset; keyword = n .result .keyword }) (coming (a .number) (a .index .now) (a .count) chunks (n .last .1 .1 .1 .1 .1 .1 .1 .1 .1 .0) (n .last .1 .1 .1 .1 .1 .1 .1 .1 .1 .1 .0)) (s .pre .1 .1 .1) (n .ensures .found (c .before .if1 .left) (a .number)), omega (arith, s .pre .1 .1 .0 .few, c .before .if1 .left))
+    let still = coming (a .number) (a .index .now) (a .count) chunks (p .loop .here) (p .loop .streams) in
+    let rest = coming (a .number) (a .index .now) (a .count) chunks (n .last .1 .1 .1 .1 .1 .1 .1 .1 .1 .0) (n .last .1 .1 .1 .1 .1 .1 .1 .1 .1 .1 .0) in
+    let taken : Occurrence = record { file = a .number; offset = n .result .offset; keyword = n .result .keyword } in
+    let room = list-room (a .out .now) (p .loop .out) (a .place) (p .loop .p) whole still (p .loop .inv .1) taken rest (s .pre .1 .1 .1) (n .ensures .found (c .before .if1 .left) (a .number)) in
+    (room, omega (arith, s .pre .1 .1 .0 .few, c .before .if1 .left))
 
 add-p : tie.Need-add-p Inv-loop μ-loop
 add-p c = let p = c .before .before .before .before .before .before .before .before .before .before in
     let s = p .before .before .before .before .before .before .before .before .before in
     let a = s .args in
-    let keywords = foldedKeywords (listIn (a .index .now)) in
+    let whole = fileList (a .number) (a .index .now) (a .file .now) in
     let chunks = chunksIn (a .index .now) (a .file .now) in
     let n = c .before .before .before .before .before .before .next in
-    omega (arith, list-room (a .out .now) (p .loop .out) (a .place) (p .loop .p) (joinFile (a .number) keywords chunks) (coming (a .number) (a .index .now) (a .count) chunks (p .loop .here) (p .loop .streams)) (p .loop .inv .1) (record { file = a .number; offset = n .result .offset; keyword = n .result .keyword }) (coming (a .number) (a .index .now) (a .count) chunks (n .last .1 .1 .1 .1 .1 .1 .1 .1 .1 .0) (n .last .1 .1 .1 .1 .1 .1 .1 .1 .1 .1 .0)) (s .pre .1 .1 .1) (n .ensures .found (c .before .before .before .before .if1 .left) (a .number)), p .loop .inv .1 .same, s)
+    let still = coming (a .number) (a .index .now) (a .count) chunks (p .loop .here) (p .loop .streams) in
+    let rest = coming (a .number) (a .index .now) (a .count) chunks (n .last .1 .1 .1 .1 .1 .1 .1 .1 .1 .0) (n .last .1 .1 .1 .1 .1 .1 .1 .1 .1 .1 .0) in
+    let taken : Occurrence = record { file = a .number; offset = n .result .offset; keyword = n .result .keyword } in
+    let e = n .ensures .found (c .before .before .before .before .if1 .left) (a .number) in
+    omega (arith, list-room (a .out .now) (p .loop .out) (a .place) (p .loop .p) whole still (p .loop .inv .1) taken rest (s .pre .1 .1 .1) e, p .loop .inv .1 .same, s)
 
 loop-less : tie.Need-loop-less Inv-loop μ-loop
 loop-less c = let p = c .before .before .before .before .before .before .before .before .before .before in
     let s = p .before .before .before .before .before .before .before .before .before in
     let a = s .args in
-    let keywords = foldedKeywords (listIn (a .index .now)) in
-    let chunks = chunksIn (a .index .now) (a .file .now) in
     let n = c .before .before .before .before .before .before .next in
     omega (arith, ap length (n .ensures .found (c .before .before .before .before .if1 .left) (a .number)))
 
@@ -93,10 +97,15 @@ loop-again : tie.Need-loop-again Inv-loop μ-loop
 loop-again c = let p = c .before .before .before .before .before .before .before .before .before .before in
     let s = p .before .before .before .before .before .before .before .before .before in
     let a = s .args in
-    let keywords = foldedKeywords (listIn (a .index .now)) in
+    let whole = fileList (a .number) (a .index .now) (a .file .now) in
     let chunks = chunksIn (a .index .now) (a .file .now) in
     let n = c .before .before .before .before .before .before .next in
-    (n .ensures .at, list-on (a .out .now) (p .loop .out) (a .place) (p .loop .p) (joinFile (a .number) keywords chunks) (coming (a .number) (a .index .now) (a .count) chunks (p .loop .here) (p .loop .streams)) (p .loop .inv .1) (c .before .before .put .last .0) (record { file = a .number; offset = n .result .offset; keyword = n .result .keyword }) (coming (a .number) (a .index .now) (a .count) chunks (n .last .1 .1 .1 .1 .1 .1 .1 .1 .1 .0) (n .last .1 .1 .1 .1 .1 .1 .1 .1 .1 .1 .0)) (s .pre .1 .1 .1) (n .ensures .found (c .before .before .before .before .if1 .left) (a .number)) (c .before .before .put .ensures))
+    let still = coming (a .number) (a .index .now) (a .count) chunks (p .loop .here) (p .loop .streams) in
+    let rest = coming (a .number) (a .index .now) (a .count) chunks (n .last .1 .1 .1 .1 .1 .1 .1 .1 .1 .0) (n .last .1 .1 .1 .1 .1 .1 .1 .1 .1 .1 .0) in
+    let taken : Occurrence = record { file = a .number; offset = n .result .offset; keyword = n .result .keyword } in
+    let e = n .ensures .found (c .before .before .before .before .if1 .left) (a .number) in
+    let w = c .before .before .put in
+    (n .ensures .at, list-on (a .out .now) (p .loop .out) (a .place) (p .loop .p) whole still (p .loop .inv .1) (w .last .0) taken rest (s .pre .1 .1 .1) e (w .ensures))
 
 pub list-file-spec : {M : Type 1} → statement M
 list-file-spec =

@@ -58,7 +58,9 @@ returns c = let p = c .before .before .before .before .before .before .before in
     let a = s .args in
     let chunks = chunksIn (a .index .now) (a .file .now) in
     let t = c .before .before .before .before .next in
-    next-taken (a .index .now) (a .count) chunks (p .loop .here) (p .loop .streams) (p .loop .rows) (p .loop .inv .0) (t .last .1 .1 .1 .1 .0) (t .result .keyword) (t .result .offset) (taken (c .before .before .before .before)) (a .here .now) (a .streams .now) (p .loop .inv .1) (c .before .before .if1 .taken)
+    next-taken (a .index .now) (a .count) chunks (p .loop .here) (p .loop .streams) (p .loop .rows) (p .loop .inv .0)
+    (t .last .1 .1 .1 .1 .0) (t .result .keyword) (t .result .offset) (taken (c .before .before .before .before))
+    (a .here .now) (a .streams .now) (p .loop .inv .1) (c .before .before .if1 .taken)
 
 element-copy-out-if2 : tie.Need-element-copy-out-if2 Inv-loop μ-loop
 element-copy-out-if2 c = search needs
@@ -69,7 +71,10 @@ returns-2 c = let p = c .before .before .before .before .before .before .before 
     let a = s .args in
     let chunks = chunksIn (a .index .now) (a .file .now) in
     let t = c .before .before .before .before .next in
-    next-none (a .index .now) (a .count) chunks (p .loop .here) (p .loop .streams) (p .loop .rows) (p .loop .inv .0) (t .last .1 .1 .1 .1 .0) (t .result .keyword) (t .result .offset) (taken (c .before .before .before .before)) (a .here .now) (a .streams .now) (p .loop .inv .1) (c .before .before .if1 .left) (out-chunks (a .index .now) (a .file .now) (getD (p .loop .here) 0 0) (c .if2 .taken))
+    next-none (a .index .now) (a .count) chunks (p .loop .here) (p .loop .streams) (p .loop .rows) (p .loop .inv .0)
+    (t .last .1 .1 .1 .1 .0) (t .result .keyword) (t .result .offset) (taken (c .before .before .before .before))
+    (a .here .now) (a .streams .now) (p .loop .inv .1) (c .before .before .if1 .left)
+    (out-chunks (a .index .now) (a .file .now) (getD (p .loop .here) 0 0) (c .if2 .taken))
 
 move-on-requires : tie.Need-move-on-requires Inv-loop μ-loop
 move-on-requires c κs = let p = c .before .before .before .before .before .before .before .before .before .before in
@@ -77,7 +82,9 @@ move-on-requires c κs = let p = c .before .before .before .before .before .befo
     let a = s .args in
     let chunks = chunksIn (a .index .now) (a .file .now) in
     let t = c .before .before .before .before .before .before .before .next in
-    (s .pre .0, (still (a .index .now) (a .count) chunks (p .loop .here) (p .loop .streams) (p .loop .rows) (p .loop .inv .0) (t .last .1 .1 .1 .1 .0) (t .result .keyword) (t .result .offset) (taken (c .before .before .before .before .before .before .before)), c .before .before .before .if2 .left))
+    let at = still (a .index .now) (a .count) chunks (p .loop .here) (p .loop .streams) (p .loop .rows) (p .loop .inv .0)
+    (t .last .1 .1 .1 .1 .0) (t .result .keyword) (t .result .offset) (taken (c .before .before .before .before .before .before .before)) in
+    (s .pre .0, (at, c .before .before .before .if2 .left))
 
 loop-less : tie.Need-loop-less Inv-loop μ-loop
 loop-less c = omega (arith, c .move-on .ensures .more, c .before .before .before .before .if2 .left)
@@ -88,7 +95,10 @@ loop-again c = let p = c .before .before .before .before .before .before .before
     let a = s .args in
     let chunks = chunksIn (a .index .now) (a .file .now) in
     let t = c .before .before .before .before .before .before .before .before .next in
-    (c .move-on .ensures .at, λ file. p .loop .inv .1 file ∙ coming-none (a .index .now) (a .count) chunks (p .loop .here) (p .loop .streams) (p .loop .rows) (p .loop .inv .0) (t .last .1 .1 .1 .1 .0) (t .result .keyword) (t .result .offset) (taken (c .before .before .before .before .before .before .before .before)) (c .before .before .before .before .before .before .if1 .left) file ∙ sym (c .move-on .ensures .same file))
+    let none = coming-none (a .index .now) (a .count) chunks (p .loop .here) (p .loop .streams) (p .loop .rows) (p .loop .inv .0)
+    (t .last .1 .1 .1 .1 .0) (t .result .keyword) (t .result .offset) (taken (c .before .before .before .before .before .before .before .before))
+    (c .before .before .before .before .before .before .if1 .left) in
+    (c .move-on .ensures .at, λ file. p .loop .inv .1 file ∙ none file ∙ sym (c .move-on .ensures .same file))
 
 pub next-spec : {M : Type 1} → statement M
 next-spec =
