@@ -17,7 +17,7 @@ use Rattle.spec.specs.Recipes.{allButLast, roomy, sizesIn, fileCode}
 use Rattle.spec.proofs.Tests.{le-or-lt}
 use Rattle.spec.proofs.EntryLaws.{contains-position}
 use Rattle.files.specs.Measures.{innerShort, entriesIn, Measured}
-use Rattle.files.proofs.Slots.{filled, filled-start, filled-on, filled-end, filled-missing}
+use Rattle.files.proofs.Slots.{Tested, filled, filled-start, filled-on, filled-end, filled-missing}
 
 -- ---- inner chunks
 
@@ -53,31 +53,32 @@ roomy-step due (suc j) n size (t ∷ rest) e = rw (lt-ltb 0 (suc j) (omega arith
 
 -- ---- before place j
 
-module _ (keys : List (List ℕ)) (sizeOf : ℕ → ℕ) (due : ℕ) (file : List (List ℕ)) where
+-- slots₀: the slots before the walk
+module _ (keys : List (List ℕ)) (sizeOf : ℕ → ℕ) (due : ℕ) (file : List (List ℕ)) (slots₀ : List ℕ) where
   abbrev sizes : List (List ℕ) → List ℕ
   sizes places = sizesIn keys sizeOf due places
 
   abbrev known : List (List ℕ) → Bool
   known places = every (λ key. contains key keys) places
 
-  -- slots₀: the slots before the walk
-  pub record Measuring (slots₀ : List ℕ) (j total : ℕ) (short : Bool) (slots : List ℕ) : Type 0 where
+  pub record Measuring (j total : ℕ) (short : Bool) (slots : List ℕ) : Type 0 where
     pub found : known (drop j file) ≡ known file
     pub few : total ≤ 4294967296
     pub long : min (total + sum (sizes (drop j file))) 4294967296 ≡ min (sum (sizes file)) 4294967296
     pub inner : (not short && roomyFrom due j (sizes (drop j file))) ≡ roomy due (sizes file)
     pub slotted : filled keys file slots j ≡ written slots₀ (take (length slots₀) (entriesIn keys file))
 
-  pub measuring-start : (slots : List ℕ) → Measuring slots 0 0 false slots
-  measuring-start slots = record { found = refl; few = omega arith; long = rw zero-add; inner = refl; slotted = filled-start keys file slots }
+  pub measuring-start : Measuring 0 0 false slots₀
+  measuring-start = record { found = refl; few = omega arith; long = rw zero-add; inner = refl; slotted = filled-start keys file slots₀ }
 
   length-sizes : (places : List (List ℕ)) → length (sizes places) ≡ length places
   length-sizes [] = refl
   length-sizes (x ∷ xs) = ap suc (length-sizes xs)
 
   -- a fingerprint that is not there
-  measuring-missing : (slots₀ : List ℕ) (j total : ℕ) (short : Bool) (slots : List ℕ) → Measuring slots₀ j total short slots → (h : j < length file) → length keys ≤ positionOf (getD file j []) keys → true ≡ not (known file)
-  measuring-missing slots₀ j total short slots m h l =
+  measuring-missing : (j total : ℕ) (short : Bool) (slots : List ℕ) → Measuring j total short slots → (h : j < length file)
+      → length keys ≤ positionOf (getD file j []) keys → true ≡ not (known file)
+  measuring-missing j total short slots m h l =
       rw (← m .found, drop-cons file j [] h, contains-position (getD file j []) keys, le-ltb (positionOf (getD file j []) keys) (length keys) l)
 
   or-not : (a b x : Bool) → (not (a || b) && x) ≡ (not b && (not a && x))
@@ -86,9 +87,10 @@ module _ (keys : List (List ℕ)) (sizeOf : ℕ → ℕ) (due : ℕ) (file : Lis
   or-not false true x = refl
   or-not false false x = refl
 
-  pub measuring-on : (slots₀ : List ℕ) (j total : ℕ) (short : Bool) (slots : List ℕ) → Measuring slots₀ j total short slots → (h : j < length file) → (k size : ℕ) → k ≡ positionOf (getD file j []) keys → k < length keys → size ≡ sizeOf k
-      → (more : ℕ) → more ≡ min (total + size) 4294967296 → (tight : Bool) → tight ≡ innerShort j (length file) size due → Measuring slots₀ (j + 1) more (tight || short) (set slots j k)
-  measuring-on slots₀ j total short slots m h k size e l s more f tight g =
+  pub measuring-on : (j total : ℕ) (short : Bool) (slots : List ℕ) → Measuring j total short slots → (h : j < length file)
+      → (k size : ℕ) → k ≡ positionOf (getD file j []) keys → k < length keys → size ≡ sizeOf k
+      → (more : ℕ) → more ≡ min (total + size) 4294967296 → (tight : Bool) → tight ≡ innerShort j (length file) size due → Measuring (j + 1) more (tight || short) (set slots j k)
+  measuring-on j total short slots m h k size e l s more f tight g =
       let here : sizes (drop j file) ≡ size ∷ sizes (drop (j + 1) file) = rw (add-one, drop-cons file j [] h, ← e, ← s) in
       let there : known (drop j file) ≡ known (drop (j + 1) file) = rw (add-one, drop-cons file j [] h, contains-position (getD file j []) keys, ← e, lt-ltb k (length keys) l) in
       let behind : suc j + length (sizes (drop (j + 1) file)) ≡ length file = omega (arith, length-sizes (drop (j + 1) file), length-drop (j + 1) file) in
@@ -110,8 +112,9 @@ module _ (keys : List (List ℕ)) (sizeOf : ℕ → ℕ) (due : ℕ) (file : Lis
   not-not true = refl
   not-not false = refl
 
-  pub measuring-end : (slots₀ : List ℕ) (j total : ℕ) (short : Bool) (slots : List ℕ) → Measuring slots₀ j total short slots → length file ≤ j → Measured keys sizeOf due file slots₀ slots false total short
-  measuring-end slots₀ j total short slots m h =
+  pub measuring-end : (j total : ℕ) (short : Bool) (slots : List ℕ) → Measuring j total short slots → length file ≤ j
+      → Measured keys sizeOf due file slots₀ slots false total short
+  measuring-end j total short slots m h =
       let z : drop j file ≡ [] = drop-of-length-le file h in
       record {
         lacks = rw (← m .found, z);
@@ -120,10 +123,16 @@ module _ (keys : List (List ℕ)) (sizeOf : ℕ → ℕ) (due : ℕ) (file : Lis
         kept = filled-end keys file slots j h ∙ m .slotted;
       }
 
-  pub measured-missing : (slots₀ : List ℕ) (j total : ℕ) (short : Bool) (slots : List ℕ) → Measuring slots₀ j total short slots → (h : j < length file) → length keys ≤ positionOf (getD file j []) keys
+  pub measured-missing : (j total : ℕ) (short : Bool) (slots : List ℕ) → Measuring j total short slots → (h : j < length file)
+      → length keys ≤ positionOf (getD file j []) keys
       → Measured keys sizeOf due file slots₀ slots true total short
-  measured-missing slots₀ j total short slots m h l =
-      record { lacks = measuring-missing slots₀ j total short slots m h l; long = λ e. absurd (true≢false e); tight = λ e. absurd (true≢false e); kept = filled-missing keys file slots j h l ∙ m .slotted }
+  measured-missing j total short slots m h l =
+      record {
+        lacks = measuring-missing j total short slots m h l;
+        long = λ e. absurd (true≢false e);
+        tight = λ e. absurd (true≢false e);
+        kept = filled-missing keys file slots j h l ∙ m .slotted;
+      }
 
   -- ---- the tests in their order
 
@@ -134,13 +143,13 @@ module _ (keys : List (List ℕ)) (sizeOf : ℕ → ℕ) (due : ℕ) (file : Lis
       go (inl h) = rw (le-ltb 4294967295 n h, le-ltb 4294967295 (min n 4294967296) (omega arith))
       go (inr h) = rw (lt-ltb 4294967295 n h, lt-ltb 4294967295 (min n 4294967296) (omega arith))
 
-  measured-code : (slots₀ slots : List ℕ) (missing : Bool) (total : ℕ) (short : Bool) → Measured keys sizeOf due file slots₀ slots missing total short
+  measured-code : (slots : List ℕ) (missing : Bool) (total : ℕ) (short : Bool) → Measured keys sizeOf due file slots₀ slots missing total short
       → firstOf ((missing, 15) ∷ (ltb 4294967295 total, 16) ∷ (short, 17) ∷ []) ≡ fileCode keys sizeOf due file
   unfolding fileCode
-  measured-code slots₀ slots true total short m = rw (← m .lacks)
-  measured-code slots₀ slots false total short m = rw (← m .lacks, m .long refl, m .tight refl, cap (sum (sizes file)))
+  measured-code slots true total short m = rw (← m .lacks)
+  measured-code slots false total short m = rw (← m .lacks, m .long refl, m .tight refl, cap (sum (sizes file)))
 
-  pub tested : (slots₀ slots : List ℕ) (missing : Bool) (total : ℕ) (short : Bool) (code : ℕ) → Measured keys sizeOf due file slots₀ slots missing total short
+  pub tested : (slots : List ℕ) (missing : Bool) (total : ℕ) (short : Bool) (code : ℕ) → Measured keys sizeOf due file slots₀ slots missing total short
       → code ≡ firstOf ((missing, 15) ∷ (ltb 4294967295 total, 16) ∷ (short, 17) ∷ [])
-      → (code ≡ fileCode keys sizeOf due file) × (slots ≡ written slots₀ (take (length slots₀) (entriesIn keys file)))
-  tested slots₀ slots missing total short code m e = (e ∙ measured-code slots₀ slots missing total short m, m .kept)
+      → Tested keys sizeOf due file slots₀ slots code
+  tested slots missing total short code m e = (e ∙ measured-code slots missing total short m, m .kept)

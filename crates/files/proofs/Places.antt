@@ -45,8 +45,10 @@ module _ (file index : List ℕ) (start count due : ℕ) (slots₀ : List ℕ) (
   place-of : (k : ℕ) → j < length file / 20 → k ≡ positionOf (part file (20 * j) 20) keys → k ≡ positionOf (getD (named file) j []) keys
   place-of k h e = rw (key-at 20 (length file / 20) j file h) e
 
-  pub place-missing : Before → j < length file / 20 → (k : ℕ) → k ≡ positionOf (part file (20 * j) 20) keys → count ≤ k → Measured keys (sizesAt index start) due (named file) slots₀ slots true total short
-  place-missing m h k e l = measured-missing keys (sizesAt index start) due (named file) slots₀ j total short slots m (omega (arith, places)) (omega (arith, place-of k h e, entries))
+  pub place-missing : Before → j < length file / 20 → (k : ℕ) → k ≡ positionOf (part file (20 * j) 20) keys → count ≤ k
+      → Measured keys (sizesAt index start) due (named file) slots₀ slots true total short
+  place-missing m h k e l =
+      measured-missing keys (sizesAt index start) due (named file) slots₀ j total short slots m (omega (arith, places)) (omega (arith, place-of k h e, entries))
 
   pub place-on : Before → j < length file / 20 → (k size : ℕ) → k ≡ positionOf (part file (20 * j) 20) keys → k < count → size ≡ sizesAt index start k
       → (more : ℕ) → more ≡ min (total + size) 4294967296 → (tight : Bool) → tight ≡ innerShort j (length file / 20) size due

@@ -2,7 +2,7 @@
 -- the slots have the entry of each place (`slotted`). Assumes nothing.
 use mathlib.Core.Path.{_≡_, refl, sym, ap, _∙_}
 use mathlib.Core.Logic.{_⊎_, inl, inr}
-use mathlib.Core.Bool.{true, not}
+use mathlib.Core.Bool.{Bool, true, not}
 use mathlib.Core.List.{List, [], _∷_}
 use Prim.Native.Nat.{ℕ, zero, suc, _+_, _-_, _≤_, _<_, min}
 use native.Mathlib.Nat.{sub-zero, not-suc-le-zero, le-of-suc-le-suc}
@@ -19,9 +19,13 @@ use Rattle.spec.proofs.Splices.{splice-nil, splice-cons, splice-read, length-sp
 use Rattle.spec.proofs.Tests.{le-or-lt, and-left, and-right}
 use Rattle.files.specs.Measures.{entriesIn, Slotted}
 
-module _ (keys file : List (List ℕ)) where
-  -- ---- the walk
+-- what `file_code` answers and leaves in the slots, which were slots₀
+abbrev pub Tested : List (List ℕ) → (ℕ → ℕ) → ℕ → List (List ℕ) → List ℕ → List ℕ → ℕ → Type 0
+Tested keys sizeOf due file slots₀ slots code = (code ≡ fileCode keys sizeOf due file) × (slots ≡ written slots₀ (take (length slots₀) (entriesIn keys file)))
 
+-- ---- the walk
+
+module _ (keys file : List (List ℕ)) where
   -- the slots once the entries of the places from j on are written
   abbrev pub filled : List ℕ → ℕ → List ℕ
   filled slots j = splice slots j (take (length slots - j) (entriesIn keys (drop j file)))
@@ -63,32 +67,33 @@ module _ (keys file : List (List ℕ)) where
 -- ---- a file without a missing fingerprint
 
 module _ (keys : List (List ℕ)) where
-  length-entries : (file : List (List ℕ)) → every (λ key. contains key keys) file ≡ true → length (entriesIn keys file) ≡ length file
+  abbrev known : List (List ℕ) → Bool
+  known file = every (λ key. contains key keys) file
+
+  length-entries : (file : List (List ℕ)) → known file ≡ true → length (entriesIn keys file) ≡ length file
   unfolding entriesIn
   length-entries [] e = refl
-  length-entries (p ∷ file) e =
-      rw (and-left (contains p keys) (every (λ key. contains key keys) file) e) (ap suc (length-entries file (and-right (contains p keys) (every (λ key. contains key keys) file) e)))
+  length-entries (p ∷ file) e = rw (and-left (contains p keys) (known file) e) (ap suc (length-entries file (and-right (contains p keys) (known file) e)))
 
-  entry-at : (file : List (List ℕ)) → every (λ key. contains key keys) file ≡ true → (j : ℕ) → j < length file → getD (entriesIn keys file) j 0 ≡ positionOf (getD file j []) keys
+  entry-at : (file : List (List ℕ)) → known file ≡ true → (j : ℕ) → j < length file → getD (entriesIn keys file) j 0 ≡ positionOf (getD file j []) keys
   unfolding entriesIn
   entry-at [] e j h = absurd (not-suc-le-zero h)
-  entry-at (p ∷ file) e zero h = rw (and-left (contains p keys) (every (λ key. contains key keys) file) e)
-  entry-at (p ∷ file) e (suc j) h =
-      rw (and-left (contains p keys) (every (λ key. contains key keys) file) e) (entry-at file (and-right (contains p keys) (every (λ key. contains key keys) file) e) j (le-of-suc-le-suc h))
+  entry-at (p ∷ file) e zero h = rw (and-left (contains p keys) (known file) e)
+  entry-at (p ∷ file) e (suc j) h = rw (and-left (contains p keys) (known file) e) (entry-at file (and-right (contains p keys) (known file) e) j (le-of-suc-le-suc h))
 
-  none-missing : (sizeOf : ℕ → ℕ) (due : ℕ) (file : List (List ℕ)) → fileCode keys sizeOf due file ≡ 0 → every (λ key. contains key keys) file ≡ true
+  none-missing : (sizeOf : ℕ → ℕ) (due : ℕ) (file : List (List ℕ)) → fileCode keys sizeOf due file ≡ 0 → known file ≡ true
   unfolding fileCode
-  none-missing sizeOf due file z = not-false (every (λ key. contains key keys) file) (passed (not (every (λ key. contains key keys) file)) 15 _ (omega arith) z .0)
+  none-missing sizeOf due file z = not-false (known file) (passed (not (known file)) 15 _ (omega arith) z .0)
 
-  -- what is written into the slots of a file whose code is 0
-  pub slotted : (sizeOf : ℕ → ℕ) (due : ℕ) (file : List (List ℕ)) (slots₀ slots : List ℕ) → fileCode keys sizeOf due file ≡ 0
-      → slots ≡ written slots₀ (take (length slots₀) (entriesIn keys file)) → Slotted keys file slots
-  slotted sizeOf due file slots₀ slots z e =
-      let n = none-missing sizeOf due file z in
+  -- where the code is 0, the slots have the entries of the file's first places
+  pub slotted : (sizeOf : ℕ → ℕ) (due : ℕ) (file : List (List ℕ)) (slots₀ slots : List ℕ) (code : ℕ) → Tested keys sizeOf due file slots₀ slots code
+      → code ≡ 0 → Slotted keys file slots
+  slotted sizeOf due file slots₀ slots code t z =
+      let n = none-missing sizeOf due file (sym (t .0) ∙ z) in
       let v = take (length slots₀) (entriesIn keys file) in
       let s : length v ≡ min (length slots₀) (length file) = length-take (length slots₀) (entriesIn keys file) ∙ ap (min (length slots₀)) (length-entries file n) in
-      let w : length slots ≡ length slots₀ = ap length e ∙ length-splice slots₀ 0 v (omega arith) in
-      let f : take (length v) slots ≡ v = ap (take (length v)) e ∙ splice-read slots₀ 0 v (omega arith) in
+      let w : length slots ≡ length slots₀ = ap length (t .1) ∙ length-splice slots₀ 0 v (omega arith) in
+      let f : take (length v) slots ≡ v = ap (take (length v)) (t .1) ∙ splice-read slots₀ 0 v (omega arith) in
       record {
         each = λ j h l.
             sym (getD-take (length v) slots j 0 (omega arith)) ∙ ap (λ (x : List ℕ). getD x j 0) f

@@ -36,7 +36,8 @@ pub record Slotted (keys file : List (List ℕ)) (slots : List ℕ) : Type 0 whe
 
 -- The length is known up to 4294967296. Of a file with a fingerprint that is missing, only that is told, and the slots have the entries before it.
 -- slots₀: the slots before the walk.
-pub record Measured (keys : List (List ℕ)) (sizeOf : ℕ → ℕ) (due : ℕ) (file : List (List ℕ)) (slots₀ slots : List ℕ) (missing : Bool) (total : ℕ) (short : Bool) : Type 0 where
+pub record Measured (keys : List (List ℕ)) (sizeOf : ℕ → ℕ) (due : ℕ) (file : List (List ℕ)) (slots₀ slots : List ℕ) (missing : Bool) (total : ℕ) (short : Bool)
+    : Type 0 where
   pub lacks : missing ≡ not (every (λ key. contains key keys) file)
   pub long : missing ≡ false → total ≡ min (sum (sizesIn keys sizeOf due file)) 4294967296
   pub tight : missing ≡ false → short ≡ not (roomy due (sizesIn keys sizeOf due file))

@@ -42,7 +42,8 @@ two-part false code zero rest h = refl
 two-part false code (suc x) rest h = rw (lt-ltb 0 (suc x) (omega arith), lt-ltb 0 (suc x) (omega arith))
 
 -- three whole checks
-three-part : (x y z rest : ℕ) → cond (ltb 0 x) x (cond (ltb 0 y) y (cond (ltb 0 z) z rest)) ≡ cond (ltb 0 (firstCode (x ∷ y ∷ z ∷ []))) (firstCode (x ∷ y ∷ z ∷ [])) rest
+three-part : (x y z rest : ℕ)
+    → cond (ltb 0 x) x (cond (ltb 0 y) y (cond (ltb 0 z) z rest)) ≡ cond (ltb 0 (firstCode (x ∷ y ∷ z ∷ []))) (firstCode (x ∷ y ∷ z ∷ [])) rest
 three-part (suc x) y z rest = rw (lt-ltb 0 (suc x) (omega arith), lt-ltb 0 (suc x) (omega arith))
 three-part zero (suc y) z rest = rw (lt-ltb 0 (suc y) (omega arith), lt-ltb 0 (suc y) (omega arith))
 three-part zero zero (suc z) rest = rw (lt-ltb 0 (suc z) (omega arith), lt-ltb 0 (suc z) (omega arith))
@@ -127,8 +128,8 @@ module _ (index : List ℕ) where
     all-told e g = told 0 (rw (sym (b .0) ∙ e, g))
 
 -- where the check passes, the arrays hold the chains of the index's fingerprints
-pub index-chains : (index heads₀ chain₀ heads chain : List ℕ) → indexCode form1 index ≡ 0 → heads ≡ examinedHeads index heads₀ → chain ≡ examinedLinks index chain₀
-    → 65000 ≤ length chain₀ → Chained (indexKeys index) 0 heads chain
+pub index-chains : (index heads₀ chain₀ heads chain : List ℕ) → indexCode form1 index ≡ 0
+    → heads ≡ examinedHeads index heads₀ → chain ≡ examinedLinks index chain₀ → 65000 ≤ length chain₀ → Chained (indexKeys index) 0 heads chain
 unfolding examinedHeads examinedLinks
 index-chains index heads₀ chain₀ heads chain z p q l =
     let laid = passed-whole (laidCode index) (last index) (sym (check-parts index) ∙ z) .0 in

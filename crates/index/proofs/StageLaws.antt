@@ -75,7 +75,8 @@ module _ (index : List ℕ) (start count : ℕ) (o : Opened index start count) w
   keys-are = rw (o .starts, o .counts)
 
   -- what the crate below builds is of the index's fingerprints
-  pub built-of : (chain₀ heads chain : List ℕ) (t : Bool) → Built (keysFrom index start 32 count) chain₀ heads chain t → Built (indexKeys index) chain₀ heads chain t
+  pub built-of : (chain₀ heads chain : List ℕ) (t : Bool) → Built (keysFrom index start 32 count) chain₀ heads chain t
+      → Built (indexKeys index) chain₀ heads chain t
   built-of chain₀ heads chain t b = subst (λ (keys : List (List ℕ)). Built keys chain₀ heads chain t) keys-are b
 
   pub field-is : (field e : ℕ) → fieldAt index (start + 32 * e + field) 4 ≡ entryField (indexLayout index) index field e

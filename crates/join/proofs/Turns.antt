@@ -6,9 +6,9 @@ use Prim.Native.Nat.{ℕ, _+_, _*_, _^_, _≤_, _<_, min}
 use native.Mathlib.Nat.{zero-add}
 use native.Mathlib.Omega.{arith}
 use borrow.Author.Count.{below-none, below-more}
-use lib.ListN.{length, getD, set, take, drop, length-append}
+use lib.ListN.{length, getD, set, drop, length-append}
 use lib.Seq.{getD-set-same, getD-set-other}
-use Rattle.spec.specs.Bytes.{part, fieldAt, splice, written}
+use Rattle.spec.specs.Bytes.{part, fieldAt, splice}
 use Rattle.spec.specs.Outcome.{firstCode}
 use Rattle.spec.specs.Directory.{sizeAt}
 use Rattle.spec.specs.Records.{form1}
@@ -19,7 +19,8 @@ use Rattle.spec.proofs.Codes.{refused-code, next-code}
 use Rattle.spec.proofs.Splices.{splice-nil}
 use Rattle.spec.proofs.Writing.{Going, going-start, going-room, going-on, going-end}
 use Rattle.recipes.proofs.Files.{Walk, accepted}
-use Rattle.files.specs.Measures.{named, keysAt, sizesAt, entriesIn, Slotted}
+use Rattle.files.specs.Measures.{named, keysAt, sizesAt, Slotted}
+use Rattle.files.proofs.Slots.{Tested}
 use Rattle.files.proofs.OfIndex.{index-code, index-slotted}
 use Rattle.spec.proofs.ListBytes.{length-list, list-nil, list-append}
 use Rattle.walk.specs.Walking.{chunksIn, fileList, Directory}
@@ -27,9 +28,9 @@ use Rattle.walk.proofs.Counts.{count-any}
 use Rattle.join.specs.Joining.{allFilesCode, listOf, Surveyed}
 use Rattle.join.proofs.FileLaws.{keywords, codeOf, left, left-start, left-end, codes, codes-step, codes-end, list-is, file-next, left-step}
 
--- the test of a file, in the terms of the definitions: what `files::file_code` answers and leaves
-module _ (index : List ℕ) (directory entries : ℕ) (heads chain : List ℕ) (least : ℕ) (file : List (List ℕ)) (slots₀ slots : List ℕ) (code : ℕ) (d : Directory index directory entries heads chain)
-    (t : (code ≡ fileCode (keysAt index directory entries) (sizesAt index directory) least file) × (slots ≡ written slots₀ (take (length slots₀) (entriesIn (keysAt index directory entries) file)))) where
+-- the test of a file, in the terms of the definitions
+module _ (index : List ℕ) (directory entries : ℕ) (heads chain : List ℕ) (d : Directory index directory entries heads chain) (least : ℕ) (file : List (List ℕ))
+    (slots₀ slots : List ℕ) (code : ℕ) (t : Tested (keysAt index directory entries) (sizesAt index directory) least file slots₀ slots code) where
   pub tested-code : least ≡ due form1 (listIn index) → code ≡ fileCode (indexKeys index) (sizeAt (indexLayout index) index) (due form1 (listIn index)) file
   tested-code e = rw e at (index-code index directory entries (d .start) (d .counts) least file slots₀ slots code t)
 

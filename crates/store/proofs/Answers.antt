@@ -63,7 +63,8 @@ module _ (store : List ℕ) (a : 8 ≤ length store) (m : same (take 4 store) st
     sound f = sym (rest h l ∙ rw (z, f))
 
     -- all entries are in the index
-    pub examined : (next₀ heads next : List ℕ) (t : Bool) → Built (keysFrom store 8 28 c) next₀ heads next t → 65000 ≤ length next₀ → t ≡ false → Examined store heads next 0
+    pub examined : (next₀ heads next : List ℕ) (t : Bool) → Built (keysFrom store 8 28 c) next₀ heads next t
+        → 65000 ≤ length next₀ → t ≡ false → Examined store heads next 0
     unfolding storeKeys
     examined next₀ heads next t b r f = record {
       number = sound (sym (b .0) ∙ f);

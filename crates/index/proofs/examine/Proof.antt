@@ -69,6 +69,13 @@ lies c =
 abbrev behind-header : tie.After-build → tie.Else1
 behind-header c = behind-list (c .before .before .before .before .before) .before .before .before
 
+-- the arrays as they are left
+abbrev heads₁ : tie.After-build → List ℕ
+heads₁ c = c .build .last .1 .1 .1 .1 .0
+
+abbrev chain₁ : tie.After-build → List ℕ
+chain₁ c = c .build .last .1 .1 .1 .1 .1 .0
+
 whole-directory : (c : tie.After-build) → laidCode (lent (behind-header c)) ≡ 0
 whole-directory c =
     let good = c .before .before .before in
@@ -78,11 +85,11 @@ whole-directory c =
 -- the chains are those of the index's fingerprints
 chains : (c : tie.After-build)
     → let h = behind-header c in
-    Built (indexKeys (lent h)) (chain₀ h) (c .build .last .1 .1 .1 .1 .0) (c .build .last .1 .1 .1 .1 .1 .0) (c .build .result)
+    Built (indexKeys (lent h)) (chain₀ h) (heads₁ c) (chain₁ c) (c .build .result)
 chains c =
     let n = c .before .before .before .before .before in
     let h = behind-header c in
-    built-of (lent h) (8 + n .before .before .parse .result .size) (n .count .result) (opens n) (chain₀ h) (c .build .last .1 .1 .1 .1 .0) (c .build .last .1 .1 .1 .1 .1 .0)
+    built-of (lent h) (8 + n .before .before .parse .result .size) (n .count .result) (opens n) (chain₀ h) (heads₁ c) (chain₁ c)
     (c .build .result) (c .build .ensures)
 
 -- ---- the needs
@@ -94,7 +101,8 @@ returns : tie.Need-returns
 returns c =
     let a = c .before .before .before .before .before .args in
     let e = c .before .header .ensures in
-    refused-early (now (a .index)) (now (a .heads)) (now (a .chain)) (c .before .header .result) (e ∙ header-stops (now (a .index)) (λ z. c .if1 .taken (e ∙ z))) (c .if1 .taken)
+    refused-early (now (a .index)) (now (a .heads)) (now (a .chain)) (c .before .header .result)
+    (e ∙ header-stops (now (a .index)) (λ z. c .if1 .taken (e ∙ z))) (c .if1 .taken)
 
 sub-check-front : tie.Need-sub-check-front
 sub-check-front c = header-passed (lent c) (header-good c) .0
@@ -112,7 +120,8 @@ returns-2 : tie.Need-returns-2
 returns-2 c =
     let h = c .before .before .before in
     let e = front (c .before) in
-    refused-early (lent h) (heads₀ h) (chain₀ h) (c .before .check-front .result) (e ∙ list-stops (lent h) (header-good h) (λ z. c .if2 .taken (e ∙ z))) (c .if2 .taken)
+    refused-early (lent h) (heads₀ h) (chain₀ h) (c .before .check-front .result)
+    (e ∙ list-stops (lent h) (header-good h) (λ z. c .if2 .taken (e ∙ z))) (c .if2 .taken)
 
 sub-parse : tie.Need-sub-parse
 sub-parse c = let h = c .before .before .before in header-passed (lent h) (header-good h) .0
@@ -139,7 +148,8 @@ returns-3 : tie.Need-returns-3
 returns-3 c =
     let l = behind-list (c .before .before) in
     let h = l .before .before .before in
-    refused-early (lent h) (heads₀ h) (chain₀ h) (c .before .entries .result) (c .before .entries .ensures ∙ directory-stops (lent h) (header-good h) (list-good l)) (c .if3 .taken)
+    refused-early (lent h) (heads₀ h) (chain₀ h) (c .before .entries .result)
+    (c .before .entries .ensures ∙ directory-stops (lent h) (header-good h) (list-good l)) (c .if3 .taken)
 
 build-requires : tie.Need-build-requires
 build-requires c κs =
@@ -158,7 +168,7 @@ returns-4 : tie.Need-returns-4
 returns-4 c =
     let built = c .before .before .before .before .before in
     let h = behind-header built in
-    twin-told (lent h) (whole-directory built) (heads₀ h) (chain₀ h) (built .build .last .1 .1 .1 .1 .0) (built .build .last .1 .1 .1 .1 .1 .0) (built .build .result) (chains built)
+    twin-told (lent h) (whole-directory built) (heads₀ h) (chain₀ h) (heads₁ built) (chain₁ built) (built .build .result) (chains built)
     (c .if4 .taken)
 
 slice-aggregate-all-good : tie.Need-slice-aggregate-all-good
@@ -185,7 +195,7 @@ returns-5 c =
     let tested = c .before .before .before .before in
     let built = tested .before .before .before .before .before in
     let h = behind-header built in
-    body-told (lent h) (whole-directory built) (heads₀ h) (chain₀ h) (built .build .last .1 .1 .1 .1 .0) (built .build .last .1 .1 .1 .1 .1 .0) (built .build .result) (chains built)
+    body-told (lent h) (whole-directory built) (heads₀ h) (chain₀ h) (heads₁ built) (chain₁ built) (built .build .result) (chains built)
     (tested .if4 .left) (sym (c .before .all-good .ensures) ∙ not-true _ (c .if5 .taken))
 
 same-length-5 : tie.Need-same-length-5
@@ -199,7 +209,7 @@ returns-6 c =
     let tested = c .before .before .before .before in
     let built = tested .before .before .before .before .before in
     let h = behind-header built in
-    all-told (lent h) (whole-directory built) (heads₀ h) (chain₀ h) (built .build .last .1 .1 .1 .1 .0) (built .build .last .1 .1 .1 .1 .1 .0) (built .build .result) (chains built)
+    all-told (lent h) (whole-directory built) (heads₀ h) (chain₀ h) (heads₁ built) (chain₁ built) (built .build .result) (chains built)
     (tested .if4 .left) (sym (c .before .all-good .ensures) ∙ not-false _ (c .if5 .left))
 
 pub examine-spec : {M : Type 1} → statement M

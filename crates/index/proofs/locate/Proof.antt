@@ -40,8 +40,8 @@ chains : (c : tie.Else1)
     Chained (indexKeys (now (called .before .before .before .before .before .args .index))) 0 (called .examine .last .1 .0) (called .examine .last .1 .1 .0)
 chains c =
     let called = c .before .before .before in
-    index-chains (now (called .before .before .before .before .before .args .index)) (replicate 65536 0) (replicate 65000 0) (called .examine .last .1 .0) (called .examine .last .1 .1 .0)
-    (passed c) (called .examine .ensures .1) (called .examine .ensures .2) (zeros .long)
+    index-chains (now (called .before .before .before .before .before .args .index)) (replicate 65536 0) (replicate 65000 0)
+    (called .examine .last .1 .0) (called .examine .last .1 .1 .0) (passed c) (called .examine .ensures .1) (called .examine .ensures .2) (zeros .long)
 
 slice-aggregate-examine : tie.Need-slice-aggregate-examine
 slice-aggregate-examine c = search needs

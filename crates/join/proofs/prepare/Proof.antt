@@ -40,7 +40,8 @@ returns-2 c =
     let e = x .examine in
     let z = sym (e .ensures .0) ∙ c .before .if1 .left in
     prepared (now (a .index)) (now (a .recipes)) _ _ (c .check .result) z
-    (index-chains (now (a .index)) (now (a .heads)) (now (a .chain)) (e .last .1 .0) (e .last .1 .1 .0) z (e .ensures .1) (e .ensures .2) (start .pre .long)) (c .check .ensures)
+    (index-chains (now (a .index)) (now (a .heads)) (now (a .chain)) (e .last .1 .0) (e .last .1 .1 .0) z (e .ensures .1) (e .ensures .2) (start .pre .long))
+    (c .check .ensures)
 
 pub prepare-spec : {M : Type 1} → statement M
 prepare-spec =

@@ -37,24 +37,31 @@ room c =
     file-next (now (s .args .index)) (now (s .args .recipes)) (p .loop .k) (p .loop .at) (p .loop .inv .3 .walk) (omega arith) (now (c .file-at .result)) (c .file-at .ensures) .within
 
 -- what its test says
-test : (c : tie.After-file-code Inv-loop μ-loop) → let f = c .before .before in let s = f .before .before .before .before .before .before .before .before .before .before in let index = now (s .args .index) in
+test : (c : tie.After-file-code Inv-loop μ-loop)
+    → let f = c .before .before in
+    let s = f .before .before .before .before .before .before .before .before .before .before in
+    let index = now (s .args .index) in
     c .file-code .result ≡ fileCode (indexKeys index) (sizeAt (indexLayout index) index) (due form1 (listIn index)) (named (now (f .file-at .result)))
 test c =
     let f = c .before .before in
     let s = f .before .before .before .before .before .before .before .before .before .before in
     let a = s .args in
-    tested-code (now (a .index)) (a .directory) (a .entries) (now (a .heads)) (now (a .chain)) (a .least) (named (now (f .file-at .result))) (f .before .before .loop .slots)
-    (c .file-code .last .1 .1 .1 .1 .1 .1 .1 .0) (c .file-code .result) (s .pre .0 .looked) (c .file-code .ensures) (s .pre .1 .0)
+    tested-code (now (a .index)) (a .directory) (a .entries) (now (a .heads)) (now (a .chain)) (s .pre .0 .looked) (a .least) (named (now (f .file-at .result)))
+    (f .before .before .loop .slots) (c .file-code .last .1 .1 .1 .1 .1 .1 .1 .0) (c .file-code .result) (c .file-code .ensures)
+    (s .pre .1 .0)
 
 -- and what it leaves
-slots : (c : tie.After-file-code Inv-loop μ-loop) → let f = c .before .before in let s = f .before .before .before .before .before .before .before .before .before .before in let index = now (s .args .index) in
+slots : (c : tie.After-file-code Inv-loop μ-loop)
+    → let f = c .before .before in
+    let s = f .before .before .before .before .before .before .before .before .before .before in
+    let index = now (s .args .index) in
     c .file-code .result ≡ 0 → Slotted (indexKeys index) (named (now (f .file-at .result))) (c .file-code .last .1 .1 .1 .1 .1 .1 .1 .0)
 slots c =
     let f = c .before .before in
     let s = f .before .before .before .before .before .before .before .before .before .before in
     let a = s .args in
-    tested-slots (now (a .index)) (a .directory) (a .entries) (now (a .heads)) (now (a .chain)) (a .least) (named (now (f .file-at .result))) (f .before .before .loop .slots)
-    (c .file-code .last .1 .1 .1 .1 .1 .1 .1 .0) (c .file-code .result) (s .pre .0 .looked) (c .file-code .ensures)
+    tested-slots (now (a .index)) (a .directory) (a .entries) (now (a .heads)) (now (a .chain)) (s .pre .0 .looked) (a .least) (named (now (f .file-at .result)))
+    (f .before .before .loop .slots) (c .file-code .last .1 .1 .1 .1 .1 .1 .1 .0) (c .file-code .result) (c .file-code .ensures)
 
 count-at-requires : tie.Need-count-at-requires Inv-loop μ-loop
 count-at-requires c κs =
