@@ -4,8 +4,7 @@ use mathlib.Core.Bool.{Bool, true, false, _||_}
 use mathlib.Core.List.{List, []}
 use Prim.Native.Nat.{ℕ, _+_, _-_, _*_, _/_, _≤_, _<_, min}
 use native.Mathlib.Omega.{arith}
-use lib.ListN.{length, take, drop, getD, set, length-drop}
-use lib.Seq.{length-take-le}
+use lib.ListN.{length, take, drop, getD, set}
 use Rattle.spec.specs.Bytes.{part, positionOf}
 use Rattle.spec.proofs.EntryLaws.{length-keys, key-at}
 use Rattle.files.specs.Measures.{named, keysAt, sizesAt, innerShort, Slotted, Measured}
@@ -15,9 +14,6 @@ use Rattle.files.proofs.Measuring.{Measuring, measured-missing, measuri
 
 slice-size : (at : ℕ) → at + 20 - at ≡ 20
 slice-size at = omega arith
-
-pub slice-length : (file : List ℕ) (at : ℕ) → at + 20 ≤ length file → length (take (at + 20 - at) (drop at file)) ≡ 20
-slice-length file at h = rw (slice-size at) (length-take-le 20 (drop at file) (rw length-drop (omega arith)))
 
 pub slice-part : (file : List ℕ) (at : ℕ) → take (at + 20 - at) (drop at file) ≡ part file at 20
 slice-part file at = ap (λ (n : ℕ). take n (drop at file)) (slice-size at)

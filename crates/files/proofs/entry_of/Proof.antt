@@ -2,10 +2,12 @@
 use mathlib.Core.Path.{ap, _∙_}
 use mathlib.Core.List.{List}
 use Prim.Native.Nat.{ℕ, _*_}
+use native.Mathlib.Omega.{arith}
+use lib.ListN.{length-take, length-drop}
 use denote.Ref.{now}
 use Rattle.spec.specs.Bytes.{positionOf}
 use Rattle.files.specs.Measures.{keysAt}
-use Rattle.files.proofs.Places.{slice-length, slice-part}
+use Rattle.files.proofs.Places.{slice-part}
 use borrow.Author.Needs.{needs}
 use Rattle.files.proofs.entry_of.Statement.{statement}
 use Rattle.files.proofs.entry_of.Tie as tie
@@ -31,7 +33,7 @@ part-find-end c = search needs
 find-requires : tie.Need-find-requires
 find-requires c κs =
     let s = c .before .before .before .before .before in
-    (s .pre .0, (s .pre .1 .0, slice-length (now (s .args .file)) (20 * s .args .j) (s .pre .1 .1)))
+    (s .pre .0, (s .pre .1 .0, rw (length-take, length-drop) (omega (arith, s .pre .1 .1))))
 
 returns : tie.Need-returns
 returns c =
