@@ -17,7 +17,7 @@ begins-append w [] y = refl
 begins-append [] (a ∷ x) y = refl
 begins-append (b ∷ w) (a ∷ x) y = rw (begins-append w x y, and-assoc)
 
--- a keyword no longer than the first stretch has nothing to do with the second
+-- a keyword no longer than the first part has nothing to do with the second
 pub begins-front : (w x y : List ℕ) → length w ≤ length x → begins w (x ++ y) ≡ begins w x
 begins-front w x y h = rw (begins-append, take-all, drop-of-length-le, and-true)
 

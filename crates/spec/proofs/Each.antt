@@ -23,7 +23,7 @@ module _ {ℓ} {A : Type ℓ} where
   each-append f a zero m = rw (zero-add, add-zero)
   each-append f a (suc n) m = rw (suc-add, each-append f (suc a) n m, append-assoc, add-suc, suc-add)
 
-  -- a stretch of a range that gives nothing
+  -- a part of a range that gives nothing
   pub each-none : (f : ℕ → List A) (a n : ℕ) → ((p : ℕ) → a ≤ p → p < a + n → f p ≡ []) → each f a n ≡ []
   each-none f a zero h = refl
   each-none f a (suc n) h = rw (h a (omega arith) (omega arith), each-none f (suc a) n (λ p l m. h p (omega arith) (omega arith)))

@@ -1,5 +1,5 @@
 -- `locate` meets its contract: each return by the tests that led there (Answers).
-use mathlib.Core.Path.{_≡_, sym, ap, _∙_, subst}
+use mathlib.Core.Path.{refl, _≡_, sym, ap, _∙_, subst}
 use mathlib.Core.List.{List}
 use Prim.Native.Nat.{ℕ}
 use native.Mathlib.Omega.{arith}
@@ -17,10 +17,10 @@ use Rattle.store.proofs.locate.Statement.{statement}
 use Rattle.store.proofs.locate.Tie as tie
 
 slice-aggregate-examine : tie.Need-slice-aggregate-examine
-slice-aggregate-examine c = search needs
+slice-aggregate-examine c = refl
 
 slice-aggregate-examine-2 : tie.Need-slice-aggregate-examine-2
-slice-aggregate-examine-2 c = search needs
+slice-aggregate-examine-2 c = refl
 
 examine-requires : tie.Need-examine-requires
 examine-requires c κs = zeros
