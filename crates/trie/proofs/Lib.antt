@@ -1,0 +1,6 @@
+pub mod Endings
+pub mod Nodes
+pub mod Steps
+pub mod Walks
+pub mod Records
+pub mod Examples
