@@ -44,7 +44,7 @@ unfolding isNode
 node-shorter keywords [] v e = refl
 node-shorter keywords (a ∷ u) v e = some-shorter keywords (a ∷ u) v e
 
-begins-take : (i : ℕ) (w : List ℕ) → begins (take i w) w ≡ true
+pub begins-take : (i : ℕ) (w : List ℕ) → begins (take i w) w ≡ true
 begins-take zero w = refl
 begins-take (suc i) [] = refl
 begins-take (suc i) (a ∷ w) = rw (eqb-same a) (begins-take i w)
@@ -68,16 +68,22 @@ node-of-some keywords (a ∷ u) e = e
 pub beginning-is-node : (keywords : List (List ℕ)) (keyword : List ℕ) (i : ℕ) → contains keyword keywords ≡ true → isNode keywords (take i keyword) ≡ true
 beginning-is-node keywords w i e = node-of-some keywords (take i w) (some-take keywords w i e)
 
+-- what begins a keyword is no longer
+pub begins-length : (u w : List ℕ) → begins u w ≡ true → length u ≤ length w
+begins-length u w e = go (le-or-lt (length u) (length w))
+  where
+    go : (length u ≤ length w) ⊎ (length w < length u) → length u ≤ length w
+    go (inl l) = l
+    go (inr l) = absurd (false≢true (sym (begins-short u w l) ∙ e))
+
 some-length : (keywords : List (List ℕ)) (u : List ℕ) → someBegins keywords u ≡ true → length u ≤ longest keywords
 unfolding someBegins
 some-length [] u e = absurd (false≢true e)
-some-length (w ∷ ws) u e = go (or-cases (begins u w) (someBegins ws u) e) (le-or-lt (length u) (length w)) (some-length ws u)
+some-length (w ∷ ws) u e = go (or-cases (begins u w) (someBegins ws u) e) (some-length ws u)
   where
-    go : (begins u w ≡ true) ⊎ (someBegins ws u ≡ true) → (length u ≤ length w) ⊎ (length w < length u) → (someBegins ws u ≡ true → length u ≤ longest ws)
-        → length u ≤ max (length w) (longest ws)
-    go (inl b) (inl l) ih = omega arith
-    go (inl b) (inr l) ih = absurd (false≢true (sym (begins-short u w l) ∙ b))
-    go (inr s) l ih = omega (arith, ih s)
+    go : (begins u w ≡ true) ⊎ (someBegins ws u ≡ true) → (someBegins ws u ≡ true → length u ≤ longest ws) → length u ≤ max (length w) (longest ws)
+    go (inl b) ih = omega (arith, begins-length u w b)
+    go (inr s) ih = omega (arith, ih s)
 
 -- no node is longer than the longest keyword
 pub node-length : (keywords : List (List ℕ)) (u : List ℕ) → isNode keywords u ≡ true → length u ≤ longest keywords

@@ -10,13 +10,13 @@ use native.Mathlib.Omega.{arith}
 use lib.ListN.{length, take, drop, length-drop}
 use lib.Seq.{take-all}
 use Rattle.spec.specs.Bytes.{contains, occursAt, each, keep}
-use Rattle.spec.specs.Records.{recordOf, offsetsOf}
+use Rattle.spec.specs.Records.{recordOf, suffixOf, offsetsOf}
 use Rattle.spec.specs.Join.{keywordAt}
 use Rattle.spec.proofs.Tests.{le-or-lt, leb-true, leb-false}
 use Rattle.spec.proofs.Begins.{begins-short}
 use Rattle.spec.proofs.Each.{each-match, each-append, each-none}
 use Rattle.spec.proofs.EntryLaws.{contains-at}
-use Rattle.trie.specs.Trie.{isNode, nodeAfter, isEnding, endsAt, prefixAt}
+use Rattle.trie.specs.Trie.{isNode, nodeAfter, isEnding, endsAt, prefixAt, walkRecord}
 use Rattle.trie.proofs.Endings.{ends-ending, largest-match, prefix-ending}
 use Rattle.trie.proofs.Nodes.{beginning-is-node, ending-of-longest}
 use Rattle.trie.proofs.Walks.{walk-node}
@@ -110,3 +110,9 @@ module _ (keywords : List (List ℕ)) (keyword : List ℕ) (known : contains key
       offsets-by-end keyword chunk h
       ∙ each-match (λ p. keep (endsAt keyword chunk p) (p - length keyword)) _ 1 1 (length chunk)
       (λ i l. ap (λ (t : Bool). keep t (1 + i - length keyword)) (occurrence-at-node chunk (1 + i) (omega arith)))
+
+  -- so the whole record is the same
+  pub walk-record : (chunk : List ℕ) → 1 ≤ length keyword → walkRecord keywords keyword chunk ≡ recordOf keyword chunk
+  unfolding walkRecord recordOf
+  walk-record chunk h =
+      λ i. record { prefix = sym (prefix-at-node chunk) i; suffix = suffixOf keyword chunk; offsets = sym (offsets-at-nodes chunk h) i }

@@ -19,7 +19,7 @@ unfoldable pub distinct : List (List ℕ) → List (List ℕ)
 distinct [] = []
 distinct (x ∷ xs) = x ∷ without x (distinct xs)
 
--- All nodes: the root, then the keywords' beginnings in the order in which they first appear. A node's parent comes before it.
+-- All nodes: the root, then the keywords' beginnings in the order in which they first appear.
 unfoldable pub nodesOf : List (List ℕ) → List (List ℕ)
 nodesOf keywords = distinct ([] ∷ joined (map beginnings keywords))
 

@@ -5,9 +5,10 @@ use mathlib.Core.List.{List, [], _∷_, _++_, map}
 use Prim.Native.Nat.{ℕ, zero, suc, _+_, _-_}
 use lib.ListN.{length, take, drop}
 use lib.Dec.{eqb, leb}
-use Rattle.spec.specs.Bytes.{same, begins, occursAt, largest, sum}
+use Rattle.spec.specs.Bytes.{same, begins, occursAt, each, keep, largest, sum}
 use Rattle.spec.specs.Keywords.{flagOf, foldedAll, foldedKeywords}
 use Rattle.spec.specs.Store.{chunksOf}
+use Rattle.spec.specs.Records.{MatchRecord, suffixOf}
 
 -- ---- nodes
 
@@ -106,3 +107,13 @@ endsAt keyword chunk p = leb (length keyword) p && occursAt keyword chunk (p - l
 -- The length of the keyword's longest proper beginning that is an ending of the node ("all the longest prefixes" of a chunk's last node).
 unfoldable pub prefixAt : List ℕ → List ℕ → ℕ
 prefixAt keyword node = largest (λ i. isEnding (take i keyword) node) (length keyword - 1)
+
+-- The record of a chunk and a keyword, as the walk tells it: the prefix from the last node, and for each place whose node ends with the keyword the
+-- offset its length before. The suffix is looked for by itself.
+unfoldable pub walkRecord : List (List ℕ) → List ℕ → List ℕ → MatchRecord
+walkRecord keywords keyword chunk =
+    record {
+      prefix = prefixAt keyword (nodeAfter keywords chunk);
+      suffix = suffixOf keyword chunk;
+      offsets = each (λ p. keep (isEnding keyword (nodeAfter keywords (take p chunk))) (p - length keyword)) 1 (length chunk);
+    }
