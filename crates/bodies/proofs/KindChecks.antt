@@ -14,7 +14,8 @@ use Rattle.spec.proofs.Tests.{and-left, and-right, leb-true, leb-false, eqb-sam
 use Rattle.spec.proofs.FieldLists.{AllBytes, length-fieldsOf}
 use Rattle.spec.proofs.RecordLaws.{form1-good, eq-of, le-of, kinds}
 use Rattle.bodies.specs.Check.{goodSize, inOrder, offsetsGood, Lengths, Head}
-use Rattle.bodies.proofs.RecordChecks.{Tiny, Full, tiny-of, tiny-is, full-of, full-is, read-some, size-zero, read-1, read-2, read-3, size-1, size-2, size-3}
+use Rattle.bodies.proofs.RecordChecks.{Tiny, Full, tiny-of, tiny-is, full-of, full-is}
+use Rattle.bodies.proofs.RecordChecks.{read-some, size-zero, read-1, read-2, read-3, size-1, size-2, size-3}
 
 -- ---- refused or accepted
 
@@ -198,7 +199,8 @@ module _ (n size : ℕ) (bytes : List ℕ) (h : Head 1 n size bytes) (some-count
   pub single-out : size < fieldAt bytes 5 2 + n → 0 ≡ goodSize n size bytes
   single-out l =
       refuse-full n size bytes (omega (arith, h .long)) (h .lengths) (omega (arith, h .is))
-      (λ t. let m : fieldAt bytes 5 2 + n ≤ size = le-of _ _ (and-left (leb (fieldAt bytes 5 2 + n) size) true (rw single-offsets at (t .inside))) in omega arith)
+      (λ t. let m : fieldAt bytes 5 2 + n ≤ size = le-of _ _ (and-left (leb (fieldAt bytes 5 2 + n) size) true (rw single-offsets at (t .inside))) in
+      omega arith)
 
   pub single-good : AllBytes bytes → getD bytes 4 0 ≡ 1 → fieldAt bytes 5 2 + n ≤ size → 7 ≡ goodSize n size bytes
   single-good b one l =
@@ -242,8 +244,9 @@ module _ (n size : ℕ) (bytes : List ℕ) (at count : ℕ) (long : 7 ≤ length
   pub many-refused : offsetsGood n size bytes at count ≡ false → 0 ≡ goodSize n size bytes
   many-refused e = refuse-full n size bytes (omega arith) l some (λ t. false≢true (sym e ∙ many-of t))
 
-  pub many-good : AllBytes bytes → getD bytes 2 0 ≤ reach n size → getD bytes 3 0 ≤ reach n size → getD bytes 1 0 ≡ kindOf count → getD bytes 4 0 ≡ min count 255
-      → offsetsGood n size bytes at count ≡ true → at + 2 * count ≡ goodSize n size bytes
+  pub many-good : AllBytes bytes → getD bytes 2 0 ≤ reach n size → getD bytes 3 0 ≤ reach n size
+      → getD bytes 1 0 ≡ kindOf count → getD bytes 4 0 ≡ min count 255 → offsetsGood n size bytes at count ≡ true
+      → at + 2 * count ≡ goodSize n size bytes
   unfolding offsetsGood inOrder
   many-good b p s kind c e =
       accept-full n size bytes (omega arith) (at + 2 * count) b some
@@ -277,12 +280,14 @@ module _ (n size : ℕ) (bytes : List ℕ) (h : Head 2 n size bytes) where
 
   pub two-refused : 1 < getD bytes 4 0 → offsetsGood n size bytes 7 (getD bytes 4 0) ≡ false → 0 ≡ goodSize n size bytes
   two-refused c e =
-      many-refused n size bytes 7 (getD bytes 4 0) (h .long) (h .lengths) (omega (arith, h .is)) (omega arith) (read-2 form1 bytes (h .is)) (size-2 form1 bytes (h .is)) e
+      many-refused n size bytes 7 (getD bytes 4 0) (h .long) (h .lengths) (omega (arith, h .is)) (omega arith)
+      (read-2 form1 bytes (h .is)) (size-2 form1 bytes (h .is)) e
 
   pub two-good : AllBytes bytes → 1 < getD bytes 4 0 → getD bytes 4 0 ≤ 254 → offsetsGood n size bytes 7 (getD bytes 4 0) ≡ true
       → 7 + 2 * getD bytes 4 0 ≡ goodSize n size bytes
   two-good b c m e =
-      many-good n size bytes 7 (getD bytes 4 0) (h .long) (h .lengths) (omega (arith, h .is)) (omega arith) (read-2 form1 bytes (h .is)) (size-2 form1 bytes (h .is))
+      many-good n size bytes 7 (getD bytes 4 0) (h .long) (h .lengths) (omega (arith, h .is)) (omega arith)
+      (read-2 form1 bytes (h .is)) (size-2 form1 bytes (h .is))
       b (h .prefix) (h .suffix) (h .is ∙ sym (kind-2 (getD bytes 4 0) c m)) (omega arith) e
 
 module _ (n size : ℕ) (bytes : List ℕ) (h : Head 3 n size bytes) where
@@ -308,12 +313,14 @@ module _ (n size : ℕ) (bytes : List ℕ) (h : Head 3 n size bytes) where
 
   pub three-refused : 254 < fieldAt bytes 7 2 → offsetsGood n size bytes 9 (fieldAt bytes 7 2) ≡ false → 0 ≡ goodSize n size bytes
   three-refused c e =
-      many-refused n size bytes 9 (fieldAt bytes 7 2) (h .long) (h .lengths) (omega (arith, h .is)) (omega arith) (read-3 form1 bytes three-is) (size-3 form1 bytes three-is) e
+      many-refused n size bytes 9 (fieldAt bytes 7 2) (h .long) (h .lengths) (omega (arith, h .is)) (omega arith)
+      (read-3 form1 bytes three-is) (size-3 form1 bytes three-is) e
 
   pub three-good : AllBytes bytes → getD bytes 4 0 ≡ 255 → 254 < fieldAt bytes 7 2 → offsetsGood n size bytes 9 (fieldAt bytes 7 2) ≡ true
       → 9 + 2 * fieldAt bytes 7 2 ≡ goodSize n size bytes
   three-good b c m e =
-      many-good n size bytes 9 (fieldAt bytes 7 2) (h .long) (h .lengths) (omega (arith, h .is)) (omega arith) (read-3 form1 bytes three-is) (size-3 form1 bytes three-is)
+      many-good n size bytes 9 (fieldAt bytes 7 2) (h .long) (h .lengths) (omega (arith, h .is)) (omega arith)
+      (read-3 form1 bytes three-is) (size-3 form1 bytes three-is)
       b (h .prefix) (h .suffix) (h .is ∙ sym (kind-3 (fieldAt bytes 7 2) m)) (omega arith) e
 
 -- ---- the tests of a run of offsets

@@ -46,12 +46,14 @@ module _ (n size : ℕ) where
 
   module _ (w left place least : ℕ) (bytes : List ℕ) (some : 0 < left) where
     pub order-turn : orderFrom least (fieldsOf w left (drop place bytes))
-        ≡ (leb least (fieldAt bytes place w) && (leb (fieldAt bytes place w + n) size && orderFrom (fieldAt bytes place w + 1) (fieldsOf w (left - 1) (drop (place + w) bytes))))
+        ≡ (leb least (fieldAt bytes place w)
+        && (leb (fieldAt bytes place w + n) size && orderFrom (fieldAt bytes place w + 1) (fieldsOf w (left - 1) (drop (place + w) bytes))))
     unfolding fieldsOf
     order-turn = go left (left - 1) (omega arith)
       where
         go : (l m : ℕ) → l ≡ suc m → orderFrom least (fieldsOf w l (drop place bytes))
-            ≡ (leb least (fieldAt bytes place w) && (leb (fieldAt bytes place w + n) size && orderFrom (fieldAt bytes place w + 1) (fieldsOf w m (drop (place + w) bytes))))
+            ≡ (leb least (fieldAt bytes place w)
+            && (leb (fieldAt bytes place w + n) size && orderFrom (fieldAt bytes place w + 1) (fieldsOf w m (drop (place + w) bytes))))
         go l m e = rw (e, ← drop-drop w place bytes, add-one)
 
     pub order-low : (x : ℕ) → x ≡ fieldAt bytes place w → x < least → false ≡ orderFrom least (fieldsOf w left (drop place bytes))

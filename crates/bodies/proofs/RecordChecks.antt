@@ -11,13 +11,16 @@ use lib.Dec.{eqb, leb}
 use lib.ListN.{length, take, drop, getD, length-append, length-drop, length-take, take-append-drop}
 use lib.Seq.{drop-drop, take-add, getD-take}
 use Rattle.spec.specs.Bytes.{leValue, leBytes, fieldAt, fieldsOf, fieldsBytes, same, rising, every}
-use Rattle.spec.specs.Records.{MatchRecord, Form, isEmpty, isTiny, reach, inRange, kindOf, offsetsBytes, fullBytes, tinyBytes, recordBytes, readOffsets, readRecord, recordSize}
+use Rattle.spec.specs.Records.{MatchRecord, Form, isEmpty, isTiny, reach, inRange, kindOf}
+use Rattle.spec.specs.Records.{offsetsBytes, fullBytes, tinyBytes, recordBytes, readOffsets, readRecord, recordSize}
 use Rattle.spec.specs.Steps.{recordGood}
 use Rattle.spec.proofs.Tests.{le-or-lt, and-left, and-right, leb-true, leb-false, eqb-ne, bool-cases, false-of}
 use Rattle.spec.proofs.Same.{same-eq, same-of}
 use Rattle.spec.proofs.Fields.{length-leBytes}
 use Rattle.spec.proofs.FieldLists.{AllBytes, bytes-drop, leBytes-take, length-fieldsOf, fieldsBytes-fieldsOf, length-fieldsBytes}
-use Rattle.spec.proofs.RecordLaws.{FormGood, eq-of, le-of, kinds, laid, first-laid, size-laid, full-laid, offsets-count, prefix-in, suffix-in, offsets-rise, offsets-in, offsets-one, offsets-two, offsets-three, written-empty, written-tiny, written-full, length-full}
+use Rattle.spec.proofs.RecordLaws.{FormGood, eq-of, le-of, kinds, laid, first-laid, size-laid, full-laid, offsets-count}
+use Rattle.spec.proofs.RecordLaws.{prefix-in, suffix-in, offsets-rise, offsets-in, offsets-one, offsets-two, offsets-three}
+use Rattle.spec.proofs.RecordLaws.{written-empty, written-tiny, written-full, length-full}
 
 -- ---- tiny records
 
@@ -53,7 +56,9 @@ size-two false false false w m x = omega arith
 
 pub size-least : (f : Form) (bytes : List ℕ) → 3 ≤ recordSize f bytes
 unfolding recordSize
-size-least f bytes = size-two (eqb (getD bytes 1 0) 0) (eqb (getD bytes 1 0) 1) (eqb (getD bytes 1 0) 2) (f .width) (f .width * getD bytes 4 0) (f .width * fieldAt bytes (5 + f .width) (f .width))
+size-least f bytes =
+    size-two (eqb (getD bytes 1 0) 0) (eqb (getD bytes 1 0) 1) (eqb (getD bytes 1 0) 2) (f .width) (f .width * getD bytes 4 0)
+    (f .width * fieldAt bytes (5 + f .width) (f .width))
 
 module _ (f : Form) (n size : ℕ) (bytes : List ℕ) (start : 1 ≤ length bytes) where
   -- the record that is compared, if the bytes are its writing
@@ -172,7 +177,9 @@ pub tiny-is : (f : Form) (n size : ℕ) (bytes : List ℕ) → getD bytes 1 0 �
 unfolding recordGood inRange
 tiny-is f n size bytes zero-kind t =
     let v = getD bytes 2 0 in
-    let w : isTiny f n (tinyOf f v) ≡ true = rw (leb-true (v % f .tinyStep) (f .tinyMost n) (t .low), leb-true (v / f .tinyStep) (f .tinyMost n) (t .high), some-tiny f v (t .some)) in
+    let low = leb-true (v % f .tinyStep) (f .tinyMost n) (t .low) in
+    let high = leb-true (v / f .tinyStep) (f .tinyMost n) (t .high) in
+    let w : isTiny f n (tinyOf f v) ≡ true = rw (low, high, some-tiny f v (t .some)) in
     rw (
       read-zero f bytes zero-kind,
       size-zero f bytes zero-kind,
@@ -202,7 +209,9 @@ module _ (f : Form) (good : FormGood f) (n size : ℕ) (bytes : List ℕ) (posit
     long = long;
     kind = ap (λ (l : List ℕ). getD l 1 0) whole;
     count = ap (λ (l : List ℕ). getD l 4 0) whole;
-    first = ap (λ (l : List ℕ). fieldAt l 5 (f .width)) whole ∙ first-laid f k (kindOf m) (r .prefix) (r .suffix) (min m 255) (r .offsets) rest (first-fits (r .offsets) inside);
+    first =
+        ap (λ (l : List ℕ). fieldAt l 5 (f .width)) whole
+        ∙ first-laid f k (kindOf m) (r .prefix) (r .suffix) (min m 255) (r .offsets) rest (first-fits (r .offsets) inside);
     large = large;
     some = not-empty f n size bytes start e;
     prefix = prefix-in n size r ranges;
@@ -284,12 +293,14 @@ again-fields w c l b h = rw (length-fieldsBytes w (fieldsOf w c l), length-field
 again-exact : (w c : ℕ) (l : List ℕ) → AllBytes l → c ≡ leValue (take w l) → w + w * c ≤ length l
     → leBytes w c ++ fieldsBytes w (fieldsOf w c (drop w l)) ≡ take (length (leBytes w c ++ fieldsBytes w (fieldsOf w c (drop w l)))) l
 again-exact w c l b e h =
-    let n : length (leBytes w c ++ fieldsBytes w (fieldsOf w c (drop w l))) ≡ w + w * c = rw (length-append, length-leBytes, length-fieldsBytes, length-fieldsOf) in
+    let n : length (leBytes w c ++ fieldsBytes w (fieldsOf w c (drop w l))) ≡ w + w * c =
+    rw (length-append, length-leBytes, length-fieldsBytes, length-fieldsOf) in
     let m : w * c ≤ length (drop w l) = rw length-drop (omega arith) in
     rw (n, take-add w (w * c) l, fieldsBytes-fieldsOf w c (drop w l) (bytes-drop w l b) m, ← leBytes-take w l b (omega arith), ← e)
 
 -- the fields behind the head, if the head is as it should be
-module _ (f : Form) (bytes : List ℕ) (b : AllBytes bytes) (long : recordSize f bytes ≤ length bytes) (kind : getD bytes 1 0 ≡ kindOf (length (readOffsets f bytes)))
+module _ (f : Form) (bytes : List ℕ) (b : AllBytes bytes) (long : recordSize f bytes ≤ length bytes)
+    (kind : getD bytes 1 0 ≡ kindOf (length (readOffsets f bytes)))
     (count : getD bytes 4 0 ≡ min (length (readOffsets f bytes)) 255) where
   abbrev Again : List ℕ → Type 0
   Again ob = (recordSize f bytes ≡ 5 + (f .width + length ob)) × (ob ≡ take (length ob) (drop (5 + f .width) bytes))
@@ -304,8 +315,10 @@ module _ (f : Form) (bytes : List ℕ) (b : AllBytes bytes) (long : recordSize f
       let e : getD bytes 1 0 ≡ 2 = kind ∙ rw (leb-false (length (readOffsets f bytes)) 1 l, leb-true (length (readOffsets f bytes)) 254 h) in
       let s = size-2 f bytes e in
       let d : length (drop (5 + f .width) bytes) ≡ length bytes - (5 + f .width) = length-drop (5 + f .width) bytes in
-      rw (offsets-two f (readOffsets f bytes) l h, read-2 f bytes e)
-      (s ∙ rw (length-fieldsBytes, length-fieldsOf) (omega arith), again-fields (f .width) (getD bytes 4 0) (drop (5 + f .width) bytes) (bytes-drop (5 + f .width) bytes b) (omega arith))
+      rw (offsets-two f (readOffsets f bytes) l h, read-2 f bytes e) (
+        s ∙ rw (length-fieldsBytes, length-fieldsOf) (omega arith),
+        again-fields (f .width) (getD bytes 4 0) (drop (5 + f .width) bytes) (bytes-drop (5 + f .width) bytes b) (omega arith),
+      )
 
   again-3 : 254 < length (readOffsets f bytes) → Again (offsetsBytes f (readOffsets f bytes))
   again-3 h =
@@ -344,7 +357,8 @@ take-head bytes n h = take-add 5 n bytes ∙ go bytes h
     go (a ∷ b ∷ c ∷ d ∷ []) h = let z : ⊥ = omega arith in absurd z
     go (a ∷ b ∷ c ∷ d ∷ e ∷ l) h = refl
 
-full-taken : (f : Form) (n size : ℕ) (bytes : List ℕ) → AllBytes bytes → Full f n size bytes → fullBytes f (getD bytes 0 0) (fullOf f bytes) ≡ take (recordSize f bytes) bytes
+full-taken : (f : Form) (n size : ℕ) (bytes : List ℕ) → AllBytes bytes → Full f n size bytes
+    → fullBytes f (getD bytes 0 0) (fullOf f bytes) ≡ take (recordSize f bytes) bytes
 unfolding fullBytes
 full-taken f n size bytes b t =
     let a = again f bytes b (t .long) (t .kind) (t .count) in
@@ -352,13 +366,17 @@ full-taken f n size bytes b t =
     let ob = offsetsBytes f (readOffsets f bytes) in
     let long : 5 + (w + length ob) ≤ length bytes = rw (← a .0) (t .long) in
     let d : length (drop 5 bytes) ≡ length bytes - 5 = length-drop 5 bytes in
-    let head : leBytes w (getD (readOffsets f bytes) 0 0) ≡ take w (drop 5 bytes) = ap (leBytes w) (sym (t .first)) ∙ leBytes-take w (drop 5 bytes) (bytes-drop 5 bytes b) (omega arith) in
+    let head : leBytes w (getD (readOffsets f bytes) 0 0) ≡ take w (drop 5 bytes) =
+    ap (leBytes w) (sym (t .first)) ∙ leBytes-take w (drop 5 bytes) (bytes-drop 5 bytes b) (omega arith) in
     let rest : leBytes w (getD (readOffsets f bytes) 0 0) ++ ob ≡ take (w + length ob) (drop 5 bytes) =
     ap₂ {C = List ℕ} (λ x y. x ++ y) head (a .1 ∙ rw (← drop-drop w 5 bytes)) ∙ sym (take-add w (length ob) (drop 5 bytes)) in
     rw (a .0, take-head bytes (w + length ob) (omega arith), t .kind, t .count)
-    (ap {B = List ℕ} (λ x. getD bytes 0 0 ∷ kindOf (length (readOffsets f bytes)) ∷ getD bytes 2 0 ∷ getD bytes 3 0 ∷ min (length (readOffsets f bytes)) 255 ∷ x) rest)
+    (ap {B = List ℕ}
+    (λ x. getD bytes 0 0 ∷ kindOf (length (readOffsets f bytes)) ∷ getD bytes 2 0 ∷ getD bytes 3 0 ∷ min (length (readOffsets f bytes)) 255 ∷ x)
+    rest)
 
-pub full-is : (f : Form) (n size : ℕ) (bytes : List ℕ) → AllBytes bytes → 1 ≤ getD bytes 1 0 → Full f n size bytes → recordGood f n (getD bytes 0 0) size bytes ≡ true
+pub full-is : (f : Form) (n size : ℕ) (bytes : List ℕ) → AllBytes bytes → 1 ≤ getD bytes 1 0 → Full f n size bytes
+    → recordGood f n (getD bytes 0 0) size bytes ≡ true
 unfolding recordGood inRange
 full-is f n size bytes b some-kind t =
     rw (

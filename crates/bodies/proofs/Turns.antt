@@ -43,7 +43,8 @@ size-bad n size bytes e = go (recordGood form1 n (getD bytes 0 0) size bytes) e
     go true q = let z : ⊥ = omega (arith, size-least form1 bytes) in absurd z
     go false q = refl
 
-size-good : (n size : ℕ) (bytes : List ℕ) → goodSize n size bytes ≢ 0 → (recordGood form1 n (getD bytes 0 0) size bytes ≡ true) × (goodSize n size bytes ≡ recordSize form1 bytes)
+size-good : (n size : ℕ) (bytes : List ℕ) → goodSize n size bytes ≢ 0
+    → (recordGood form1 n (getD bytes 0 0) size bytes ≡ true) × (goodSize n size bytes ≡ recordSize form1 bytes)
 unfolding goodSize
 size-good n size bytes d = go (recordGood form1 n (getD bytes 0 0) size bytes) d
   where
@@ -88,8 +89,12 @@ module _ (lengths body : List ℕ) (count size : ℕ) (ready : Ready count size 
       pub turn-length : Lengths (getD lengths k 0) size
       turn-length = record { positive = ready .each k h .0; short = ready .each k h .1; fit = ready .fit }
 
-      step : left k at ≡ (recordGood form1 (getD lengths k 0) k size (drop at body) && goodFrom form1 (k + 1) (drop (k + 1) (take count lengths)) size (drop (recordSize form1 (drop at body)) (drop at body)))
-      step = rw (here, add-one) (good-here form1 form1-good k (getD lengths k 0) (drop (suc k) (take count lengths)) size (drop at body) (ready .each k h .0) (ready .fit) e)
+      step : left k at
+          ≡ (recordGood form1 (getD lengths k 0) k size (drop at body)
+          && goodFrom form1 (k + 1) (drop (k + 1) (take count lengths)) size (drop (recordSize form1 (drop at body)) (drop at body)))
+      step =
+          let rest = drop (suc k) (take count lengths) in
+          rw (here, add-one) (good-here form1 form1-good k (getD lengths k 0) rest size (drop at body) (ready .each k h .0) (ready .fit) e)
 
       pub turn-start : 1 ≤ length (take (length body - at) (drop at body))
       turn-start = rw (behind body at) (begins-head (drop at body) k e .0)
@@ -118,7 +123,11 @@ module _ (lengths body : List ℕ) (count size : ℕ) (ready : Ready count size 
   left-end k at h l =
       let n : length (take count lengths) ≤ k = rw length-take (omega arith) in
       let d : drop k (take count lengths) ≡ [] = drop-of-length-le (take count lengths) n in
-      sym (ap (λ (l : List ℕ). goodFrom form1 k l size (drop at body)) d ∙ good-end form1 k size (drop at body) ∙ ap (λ (x : ℕ). eqb x 0) (length-drop at body) ∙ go (le-or-lt (length body) at))
+      sym
+      (ap (λ (l : List ℕ). goodFrom form1 k l size (drop at body)) d
+      ∙ good-end form1 k size (drop at body)
+      ∙ ap (λ (x : ℕ). eqb x 0) (length-drop at body)
+      ∙ go (le-or-lt (length body) at))
     where
       go : (length body ≤ at) ⊎ (at < length body) → eqb (length body - at) 0 ≡ eqb at (length body)
       go (inl m) =

@@ -1,6 +1,6 @@
 -- `body_good` meets its contract: from the place on, the keywords that are left say what the body says of all (Turns).
 use mathlib.Core.Path.{_≡_, sym, _∙_}
-use Prim.Native.Nat.{_-_, _≤_}
+use Prim.Native.Nat.{_+_, _-_, _≤_}
 use native.Mathlib.Omega.{arith}
 use lib.ListN.{length, drop}
 use denote.Ref.{now}
@@ -36,9 +36,15 @@ loop-less c = search needs
 
 loop-again : tie.Need-loop-again Inv-loop μ-loop
 loop-again c =
-    let a = c .before .before .before .before .before .before .args in
+    let s = c .before .before .before .before .before .before in
+    let a = s .args in
     let at = c .before .before .before .loop in
-    (omega arith, at .inv .1, turn-absent (now (a .lengths)) (now (a .body)) (a .count) (a .size) (c .before .before .before .before .before .before .pre) (at .k) (at .at) (c .before .before .loop-test .taken) (sym (c .before .is-next .ensures) ∙ not-true _ (c .if1 .taken)) ∙ at .inv .2)
+    let absent = sym (c .before .is-next .ensures) ∙ not-true _ (c .if1 .taken) in (
+      omega arith,
+      at .inv .1,
+      turn-absent (now (a .lengths)) (now (a .body)) (a .count) (a .size) (s .pre) (at .k) (at .at) (c .before .before .loop-test .taken) absent
+          ∙ at .inv .2,
+    )
 
 sub-record-good : tie.Need-sub-record-good Inv-loop μ-loop
 sub-record-good c = search needs
@@ -57,21 +63,43 @@ shared-slice-read-record-good c = search needs
 
 record-good-requires : tie.Need-record-good-requires Inv-loop μ-loop
 record-good-requires c κs =
-    let a = c .before .before .before .before .before .before .before .before .args in
-    let at = c .before .before .before .before .before .loop in
-    (turn-start (now (a .lengths)) (now (a .body)) (a .count) (a .size) (c .before .before .before .before .before .before .before .before .pre) (at .k) (at .at) (c .before .before .before .before .loop-test .taken) (sym (c .before .before .before .is-next .ensures) ∙ not-false _ (c .before .before .if1 .left)), turn-length (now (a .lengths)) (now (a .body)) (a .count) (a .size) (c .before .before .before .before .before .before .before .before .pre) (at .k) (at .at) (c .before .before .before .before .loop-test .taken) (sym (c .before .before .before .is-next .ensures) ∙ not-false _ (c .before .before .if1 .left)))
+    let turn = c .before .before .before .before in
+    let s = turn .before .before .before .before in
+    let a = s .args in
+    let at = turn .before .loop in
+    let here = sym (c .before .before .before .is-next .ensures) ∙ not-false _ (c .before .before .if1 .left) in (
+      turn-start (now (a .lengths)) (now (a .body)) (a .count) (a .size) (s .pre) (at .k) (at .at) (turn .loop-test .taken) here,
+      turn-length (now (a .lengths)) (now (a .body)) (a .count) (a .size) (s .pre) (at .k) (at .at) (turn .loop-test .taken) here,
+    )
 
 returns : tie.Need-returns Inv-loop μ-loop
 returns c =
-    let a = c .before .before .before .before .before .before .before .before .before .before .args in
-    let at = c .before .before .before .before .before .before .before .loop in
-    turn-bad (now (a .lengths)) (now (a .body)) (a .count) (a .size) (c .before .before .before .before .before .before .before .before .before .before .pre) (at .k) (at .at) (c .before .before .before .before .before .before .loop-test .taken) (sym (c .before .before .before .before .before .is-next .ensures) ∙ not-false _ (c .before .before .before .before .if1 .left)) (c .before .record-good .result) (c .before .record-good .ensures) (c .if2 .taken) ∙ at .inv .2
+    let turn = c .before .before .before .before .before .before in
+    let s = turn .before .before .before .before in
+    let a = s .args in
+    let at = turn .before .loop in
+    let here = sym (c .before .before .before .before .before .is-next .ensures) ∙ not-false _ (c .before .before .before .before .if1 .left) in
+    let got = c .before .record-good in
+    turn-bad (now (a .lengths)) (now (a .body)) (a .count) (a .size) (s .pre) (at .k) (at .at) (turn .loop-test .taken) here
+    (got .result) (got .ensures) (c .if2 .taken)
+    ∙ at .inv .2
+
+-- a good record ends within the body
+ends-within : (c : tie.Else2 Inv-loop μ-loop) →
+    c .before .before .before .before .before .before .before .loop .at + c .before .record-good .result
+    ≤ length (now (c .before .before .before .before .before .before .before .before .before .before .args .body))
+ends-within c =
+    let turn = c .before .before .before .before .before .before in
+    let s = turn .before .before .before .before in
+    let a = s .args in
+    let at = turn .before .loop in
+    let here = sym (c .before .before .before .before .before .is-next .ensures) ∙ not-false _ (c .before .before .before .before .if1 .left) in
+    let got = c .before .record-good in
+    turn-within (now (a .lengths)) (now (a .body)) (a .count) (a .size) (s .pre) (at .k) (at .at) (turn .loop-test .taken) here
+    (got .result) (got .ensures) (at .inv .1)
 
 add-at : tie.Need-add-at Inv-loop μ-loop
-add-at c =
-    let a = c .before .before .before .before .before .before .before .before .before .before .args in
-    let at = c .before .before .before .before .before .before .before .loop in
-    record { fits = omega (arith, turn-within (now (a .lengths)) (now (a .body)) (a .count) (a .size) (c .before .before .before .before .before .before .before .before .before .before .pre) (at .k) (at .at) (c .before .before .before .before .before .before .loop-test .taken) (sym (c .before .before .before .before .before .is-next .ensures) ∙ not-false _ (c .before .before .before .before .if1 .left)) (c .before .record-good .result) (c .before .record-good .ensures) (at .inv .1)) }
+add-at c = record { fits = omega (arith, ends-within c) }
 
 add-k-2 : tie.Need-add-k-2 Inv-loop μ-loop
 add-k-2 c = search needs
@@ -81,15 +109,26 @@ loop-less-2 c = search needs
 
 loop-again-2 : tie.Need-loop-again-2 Inv-loop μ-loop
 loop-again-2 c =
-    let a = c .before .before .before .before .before .before .before .before .before .before .args in
-    let at = c .before .before .before .before .before .before .before .loop in
-    (omega arith, turn-within (now (a .lengths)) (now (a .body)) (a .count) (a .size) (c .before .before .before .before .before .before .before .before .before .before .pre) (at .k) (at .at) (c .before .before .before .before .before .before .loop-test .taken) (sym (c .before .before .before .before .before .is-next .ensures) ∙ not-false _ (c .before .before .before .before .if1 .left)) (c .before .record-good .result) (c .before .record-good .ensures) (at .inv .1), turn-good (now (a .lengths)) (now (a .body)) (a .count) (a .size) (c .before .before .before .before .before .before .before .before .before .before .pre) (at .k) (at .at) (c .before .before .before .before .before .before .loop-test .taken) (sym (c .before .before .before .before .before .is-next .ensures) ∙ not-false _ (c .before .before .before .before .if1 .left)) (c .before .record-good .result) (c .before .record-good .ensures) (c .if2 .left) ∙ at .inv .2)
+    let turn = c .before .before .before .before .before .before in
+    let s = turn .before .before .before .before in
+    let a = s .args in
+    let at = turn .before .loop in
+    let here = sym (c .before .before .before .before .before .is-next .ensures) ∙ not-false _ (c .before .before .before .before .if1 .left) in
+    let got = c .before .record-good in (
+      omega arith,
+      ends-within c,
+      turn-good (now (a .lengths)) (now (a .body)) (a .count) (a .size) (s .pre) (at .k) (at .at) (turn .loop-test .taken) here
+          (got .result) (got .ensures) (c .if2 .left)
+          ∙ at .inv .2,
+    )
 
 returns-2 : tie.Need-returns-2 Inv-loop μ-loop
 returns-2 c =
-    let a = c .before .before .before .before .args in
+    let s = c .before .before .before .before in
+    let a = s .args in
     let at = c .before .loop in
-    left-end (now (a .lengths)) (now (a .body)) (a .count) (a .size) (c .before .before .before .before .pre) (at .k) (at .at) (c .loop-test .left) (at .inv .1) ∙ at .inv .2
+    left-end (now (a .lengths)) (now (a .body)) (a .count) (a .size) (s .pre) (at .k) (at .at) (c .loop-test .left) (at .inv .1)
+    ∙ at .inv .2
 
 pub body-good-spec : {M : Type 1} → statement M
 body-good-spec =

@@ -13,7 +13,8 @@ use Rattle.bodies.proofs.in_order.Tie as tie
 
 abbrev Inv-loop : tie.InvT-loop
 Inv-loop bytes at width count n size place₀ left₀ least₀ place left least =
-    (place + width * left ≤ length bytes) × (orderFrom n size least (fieldsOf width left (drop place bytes)) ≡ inOrder n size (fieldsOf width count (drop at bytes)))
+    (place + width * left ≤ length bytes)
+    × (orderFrom n size least (fieldsOf width left (drop place bytes)) ≡ inOrder n size (fieldsOf width count (drop at bytes)))
 
 abbrev μ-loop : tie.MeasureT-loop
 μ-loop bytes at width count n size place₀ left₀ least₀ place left least = left
@@ -22,34 +23,47 @@ loop-holds : tie.Need-loop-holds Inv-loop μ-loop
 loop-holds c = (c .before .pre .1, order-all (c .before .args .n) (c .before .args .size) _)
 
 read-requires : tie.Need-read-requires Inv-loop μ-loop
-read-requires c κs = (c .before .before .before .pre .0, omega (arith, mul-less (c .before .before .before .args .width) (c .before .loop .left) (c .loop-test .taken)))
+read-requires c κs =
+    let s = c .before .before .before in
+    (s .pre .0, omega (arith, mul-less (s .args .width) (c .before .loop .left) (c .loop-test .taken)))
 
 returns : tie.Need-returns Inv-loop μ-loop
 returns c =
     let at = c .before .before .before in
     let a = at .before .before .args in
-    order-low (a .n) (a .size) (a .width) (at .loop .left) (at .loop .place) (at .loop .least) (now (a .bytes)) (c .before .before .loop-test .taken) (c .before .read .result) (c .before .read .ensures) (c .if1 .taken)
+    let some = c .before .before .loop-test .taken in
+    let got = c .before .read in
+    order-low (a .n) (a .size) (a .width) (at .loop .left) (at .loop .place) (at .loop .least) (now (a .bytes)) some
+    (got .result) (got .ensures) (c .if1 .taken)
     ∙ at .loop .inv .1
 
 returns-2 : tie.Need-returns-2 Inv-loop μ-loop
 returns-2 c =
     let at = c .before .before .before .before in
     let a = at .before .before .args in
-    order-out (a .n) (a .size) (a .width) (at .loop .left) (at .loop .place) (at .loop .least) (now (a .bytes)) (c .before .before .before .loop-test .taken) (c .before .before .read .result) (c .before .before .read .ensures) (omega arith) (omega arith)
+    let some = c .before .before .before .loop-test .taken in
+    let got = c .before .before .read in
+    order-out (a .n) (a .size) (a .width) (at .loop .left) (at .loop .place) (at .loop .least) (now (a .bytes)) some
+    (got .result) (got .ensures) (omega arith) (omega arith)
     ∙ at .loop .inv .1
 
 returns-3 : tie.Need-returns-3 Inv-loop μ-loop
 returns-3 c =
     let at = c .before .before .before .before .before in
     let a = at .before .before .args in
-    order-out (a .n) (a .size) (a .width) (at .loop .left) (at .loop .place) (at .loop .least) (now (a .bytes)) (c .before .before .before .before .loop-test .taken) (c .before .before .before .read .result) (c .before .before .before .read .ensures) (omega arith) (omega arith)
+    let some = c .before .before .before .before .loop-test .taken in
+    let got = c .before .before .before .read in
+    order-out (a .n) (a .size) (a .width) (at .loop .left) (at .loop .place) (at .loop .least) (now (a .bytes)) some
+    (got .result) (got .ensures) (omega arith) (omega arith)
     ∙ at .loop .inv .1
 
 add-least : tie.Need-add-least Inv-loop μ-loop
 add-least c = search needs
 
 add-place : tie.Need-add-place Inv-loop μ-loop
-add-place c = record { fits = omega (arith, mul-less (c .before .before .before .before .before .before .before .args .width) (c .before .before .before .before .before .loop .left) (omega arith)) }
+add-place c =
+    let at = c .before .before .before .before .before in
+    record { fits = omega (arith, mul-less (at .before .before .args .width) (at .loop .left) (omega arith)) }
 
 sub-left : tie.Need-sub-left Inv-loop μ-loop
 sub-left c = search needs
@@ -60,16 +74,20 @@ loop-less c = search needs
 loop-again : tie.Need-loop-again Inv-loop μ-loop
 loop-again c =
     let at = c .before .before .before .before .before in
-    let a = at .before .before .args in (
+    let a = at .before .before .args in
+    let some = c .before .before .before .before .loop-test .taken in
+    let got = c .before .before .before .read in (
       omega (arith, mul-less (a .width) (at .loop .left) (omega arith)),
-      order-on (a .n) (a .size) (a .width) (at .loop .left) (at .loop .place) (at .loop .least) (now (a .bytes)) (c .before .before .before .before .loop-test .taken) (c .before .before .before .read .result) (c .before .before .before .read .ensures) (omega arith) (omega arith)
+      order-on (a .n) (a .size) (a .width) (at .loop .left) (at .loop .place) (at .loop .least) (now (a .bytes)) some
+          (got .result) (got .ensures) (omega arith) (omega arith)
           ∙ at .loop .inv .1,
     )
 
 returns-4 : tie.Need-returns-4 Inv-loop μ-loop
 returns-4 c =
     let a = c .before .before .before .args in
-    order-done (a .n) (a .size) (a .width) (c .before .loop .left) (c .before .loop .least) (drop (c .before .loop .place) (now (a .bytes))) (omega arith) ∙ c .before .loop .inv .1
+    let at = c .before .loop in
+    order-done (a .n) (a .size) (a .width) (at .left) (at .least) (drop (at .place) (now (a .bytes))) (omega arith) ∙ at .inv .1
 
 pub in-order-spec : {M : Type 1} → statement M
 in-order-spec =

@@ -12,29 +12,35 @@ read-requires c κs = search needs
 
 returns : tie.Need-returns
 returns c =
-    let a = c .before .before .before .args in
-    none-first (a .n) (a .size) (now (a .bytes)) (c .before .before .before .pre .0) (c .before .before .before .pre .1) (omega arith)
+    let s = c .before .before .before in
+    let a = s .args in
+    none-first (a .n) (a .size) (now (a .bytes)) (s .pre .0) (s .pre .1) (omega arith)
 
 shared-slice-read-if2 : tie.Need-shared-slice-read-if2
 shared-slice-read-if2 c = search needs
 
 returns-2 : tie.Need-returns-2
 returns-2 c =
-    let a = c .before .before .before .before .before .args in
-    none-good (a .n) (a .size) (now (a .bytes)) (c .before .before .before .before .before .pre .0) (c .before .before .before .before .before .pre .1) (λ i. omega (arith, c .before .before .before .before .shared-slice-known .given i)) (omega arith) (inl (omega arith))
+    let s = c .before .before .before .before .before in
+    let a = s .args in
+    let bytes = c .before .before .before .before .shared-slice-known .given in
+    none-good (a .n) (a .size) (now (a .bytes)) (s .pre .0) (s .pre .1) (λ i. omega (arith, bytes i)) (omega arith) (inl (omega arith))
 
 shared-slice-read-if3 : tie.Need-shared-slice-read-if3
 shared-slice-read-if3 c = search needs
 
 returns-3 : tie.Need-returns-3
 returns-3 c =
-    let a = c .before .before .before .before .before .before .before .args in
-    none-good (a .n) (a .size) (now (a .bytes)) (c .before .before .before .before .before .before .before .pre .0) (c .before .before .before .before .before .before .before .pre .1) (λ i. omega (arith, c .before .before .before .before .before .before .shared-slice-known .given i)) (omega arith) (inr (omega arith))
+    let s = c .before .before .before .before .before .before .before in
+    let a = s .args in
+    let bytes = c .before .before .before .before .before .before .shared-slice-known .given in
+    none-good (a .n) (a .size) (now (a .bytes)) (s .pre .0) (s .pre .1) (λ i. omega (arith, bytes i)) (omega arith) (inr (omega arith))
 
 returns-4 : tie.Need-returns-4
 returns-4 c =
-    let a = c .before .before .before .before .before .before .before .args in
-    none-small (a .n) (a .size) (now (a .bytes)) (c .before .before .before .before .before .before .before .pre .0) (c .before .before .before .before .before .before .before .pre .1) (omega arith) (omega arith)
+    let s = c .before .before .before .before .before .before .before in
+    let a = s .args in
+    none-small (a .n) (a .size) (now (a .bytes)) (s .pre .0) (s .pre .1) (omega arith) (omega arith)
 
 pub none-spec : {M : Type 1} → statement M
 none-spec =

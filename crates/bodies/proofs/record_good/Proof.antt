@@ -9,8 +9,9 @@ use Rattle.bodies.proofs.record_good.Tie as tie
 
 returns : tie.Need-returns
 returns c =
-    let a = c .before .before .args in
-    tiny-short (a .n) (a .size) (now (a .bytes)) (c .before .before .pre .0) (List·getD-eq-default (now (a .bytes)) 0 {n = 1} (omega arith)) (omega arith)
+    let s = c .before .before in
+    let a = s .args in
+    tiny-short (a .n) (a .size) (now (a .bytes)) (s .pre .0) (List·getD-eq-default (now (a .bytes)) 0 {n = 1} (omega arith)) (omega arith)
 
 shared-slice-read-kind : tie.Need-shared-slice-read-kind
 shared-slice-read-kind c = search needs
@@ -23,13 +24,15 @@ returns-2 c = search needs
 
 returns-3 : tie.Need-returns-3
 returns-3 c =
-    let a = c .before .before .before .before .before .args in
-    kind-large (a .n) (a .size) (now (a .bytes)) (c .before .before .before .before .before .pre .0) (c .before .before .before .before .before .pre .1) (omega arith)
+    let s = c .before .before .before .before .before in
+    let a = s .args in
+    kind-large (a .n) (a .size) (now (a .bytes)) (s .pre .0) (s .pre .1) (omega arith)
 
 returns-4 : tie.Need-returns-4
 returns-4 c =
-    let a = c .before .before .before .before .before .before .args in
-    head-short (a .n) (a .size) (now (a .bytes)) (c .before .before .before .before .before .before .pre .0) (c .before .before .before .before .before .before .pre .1) (omega arith) (omega arith)
+    let s = c .before .before .before .before .before .before in
+    let a = s .args in
+    head-short (a .n) (a .size) (now (a .bytes)) (s .pre .0) (s .pre .1) (omega arith) (omega arith)
 
 reach-of-requires : tie.Need-reach-of-requires
 reach-of-requires c κs = search needs
@@ -42,8 +45,9 @@ cast-if5 c = omega (arith, c .shared-slice-known3 .given 2)
 
 returns-5 : tie.Need-returns-5
 returns-5 c =
-    let a = c .before .before .before .before .before .before .before .before .before .args in
-    head-prefix (a .n) (a .size) (now (a .bytes)) (c .before .before .before .before .before .before .before .before .before .pre .0) (c .before .before .before .before .before .before .before .before .before .pre .1) (omega arith) (omega arith)
+    let s = c .before .before .before .before .before .before .before .before .before in
+    let a = s .args in
+    head-prefix (a .n) (a .size) (now (a .bytes)) (s .pre .0) (s .pre .1) (omega arith) (omega arith)
 
 shared-slice-read-if6 : tie.Need-shared-slice-read-if6
 shared-slice-read-if6 c = search needs
@@ -53,8 +57,9 @@ cast-if6 c = omega (arith, c .shared-slice-known4 .given 3)
 
 returns-6 : tie.Need-returns-6
 returns-6 c =
-    let a = c .before .before .before .before .before .before .before .before .before .before .before .args in
-    head-suffix (a .n) (a .size) (now (a .bytes)) (c .before .before .before .before .before .before .before .before .before .before .before .pre .0) (c .before .before .before .before .before .before .before .before .before .before .before .pre .1) (omega arith) (omega arith)
+    let s = c .before .before .before .before .before .before .before .before .before .before .before in
+    let a = s .args in
+    head-suffix (a .n) (a .size) (now (a .bytes)) (s .pre .0) (s .pre .1) (omega arith) (omega arith)
 
 several-requires : tie.Need-several-requires
 several-requires c κs = search needs

@@ -1,10 +1,15 @@
 -- `several` meets its contract: each test decides it (KindChecks).
 use borrow.Author.Tests.{not-true, not-false}
-use mathlib.Core.Path.{sym, _∙_}
+use mathlib.Core.Path.{_≡_, sym, _∙_}
+use mathlib.Core.Bool.{Bool, true, false}
+use mathlib.Core.List.{List}
+use Prim.Native.Nat.{ℕ}
 use native.Mathlib.Omega.{arith}
 use denote.Ref.{now}
 use borrow.Author.Needs.{needs}
 use Rattle.bodies.proofs.KindChecks.{two-range, two-refused, two-good}
+use lib.ListN.{getD}
+use Rattle.bodies.specs.Check.{offsetsGood}
 use Rattle.bodies.proofs.several.Statement.{statement}
 use Rattle.bodies.proofs.several.Tie as tie
 
@@ -16,21 +21,31 @@ cast-count c = omega (arith, c .shared-slice-known2 .given 4)
 
 returns : tie.Need-returns
 returns c =
-    let a = c .before .before .before .args in
-    two-range (a .n) (a .size) (now (a .bytes)) (c .before .before .before .pre) (λ l h. omega arith)
+    let s = c .before .before .before in
+    let a = s .args in
+    two-range (a .n) (a .size) (now (a .bytes)) (s .pre) (λ l h. omega arith)
 
 returns-2 : tie.Need-returns-2
 returns-2 c =
-    let a = c .before .before .before .before .args in
-    two-range (a .n) (a .size) (now (a .bytes)) (c .before .before .before .before .pre) (λ l h. omega arith)
+    let s = c .before .before .before .before in
+    let a = s .args in
+    two-range (a .n) (a .size) (now (a .bytes)) (s .pre) (λ l h. omega arith)
 
 offsets-good-requires : tie.Need-offsets-good-requires
 offsets-good-requires c κs = search needs
 
+-- what the check of the run answered
+answered : (n size : ℕ) (bytes : List ℕ) (r b : Bool) → r ≡ offsetsGood n size bytes 7 (getD bytes 4 0) → r ≡ b
+    → offsetsGood n size bytes 7 (getD bytes 4 0) ≡ b
+answered n size bytes r b q t = sym q ∙ t
+
 returns-3 : tie.Need-returns-3
 returns-3 c =
-    let a = c .before .before .before .before .before .before .args in
-    two-refused (a .n) (a .size) (now (a .bytes)) (c .before .before .before .before .before .before .pre) (omega arith) (sym (c .before .offsets-good .ensures) ∙ not-true _ (c .if3 .taken))
+    let s = c .before .before .before .before .before .before in
+    let a = s .args in
+    let got = c .before .offsets-good in
+    two-refused (a .n) (a .size) (now (a .bytes)) (s .pre) (omega arith)
+    (answered (a .n) (a .size) (now (a .bytes)) (got .result) false (got .ensures) (not-true _ (c .if3 .taken)))
 
 mul-result : tie.Need-mul-result
 mul-result c = search needs
@@ -40,8 +55,12 @@ add-result c = search needs
 
 returns-4 : tie.Need-returns-4
 returns-4 c =
-    let a = c .before .before .before .before .before .before .args in
-    two-good (a .n) (a .size) (now (a .bytes)) (c .before .before .before .before .before .before .pre) (λ i. omega (arith, c .before .before .before .before .before .shared-slice-known .given i)) (omega arith) (omega arith) (sym (c .before .offsets-good .ensures) ∙ not-false _ (c .if3 .left))
+    let s = c .before .before .before .before .before .before in
+    let a = s .args in
+    let bytes = c .before .before .before .before .before .shared-slice-known .given in
+    let got = c .before .offsets-good in
+    two-good (a .n) (a .size) (now (a .bytes)) (s .pre) (λ i. omega (arith, bytes i)) (omega arith) (omega arith)
+    (answered (a .n) (a .size) (now (a .bytes)) (got .result) true (got .ensures) (not-false _ (c .if3 .left)))
 
 pub several-spec : {M : Type 1} → statement M
 several-spec =

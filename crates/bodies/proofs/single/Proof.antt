@@ -11,26 +11,31 @@ shared-slice-read-if1 c = search needs
 
 returns : tie.Need-returns
 returns c =
-    let a = c .before .before .before .args in
-    single-count (a .n) (a .size) (now (a .bytes)) (c .before .before .before .pre .0) (omega arith) (omega arith)
+    let s = c .before .before .before in
+    let a = s .args in
+    single-count (a .n) (a .size) (now (a .bytes)) (s .pre .0) (omega arith) (omega arith)
 
 read-requires : tie.Need-read-requires
 read-requires c κs = search needs
 
 returns-2 : tie.Need-returns-2
 returns-2 c =
-    let a = c .before .before .before .before .before .args in
-    single-out (a .n) (a .size) (now (a .bytes)) (c .before .before .before .before .before .pre .0) (omega arith) (omega arith)
+    let s = c .before .before .before .before .before in
+    let a = s .args in
+    single-out (a .n) (a .size) (now (a .bytes)) (s .pre .0) (omega arith) (omega arith)
 
 returns-3 : tie.Need-returns-3
 returns-3 c =
-    let a = c .before .before .before .before .before .before .args in
-    single-out (a .n) (a .size) (now (a .bytes)) (c .before .before .before .before .before .before .pre .0) (omega arith) (omega arith)
+    let s = c .before .before .before .before .before .before in
+    let a = s .args in
+    single-out (a .n) (a .size) (now (a .bytes)) (s .pre .0) (omega arith) (omega arith)
 
 returns-4 : tie.Need-returns-4
 returns-4 c =
-    let a = c .before .before .before .before .before .before .args in
-    single-good (a .n) (a .size) (now (a .bytes)) (c .before .before .before .before .before .before .pre .0) (omega arith) (λ i. omega (arith, c .before .before .before .before .before .shared-slice-known .given i)) (omega arith) (omega arith)
+    let s = c .before .before .before .before .before .before in
+    let a = s .args in
+    let bytes = c .before .before .before .before .before .shared-slice-known .given in
+    single-good (a .n) (a .size) (now (a .bytes)) (s .pre .0) (omega arith) (λ i. omega (arith, bytes i)) (omega arith) (omega arith)
 
 pub single-spec : {M : Type 1} → statement M
 single-spec =
