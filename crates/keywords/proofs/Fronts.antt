@@ -44,7 +44,9 @@ module _ (list : List ℕ) (count k at : ℕ) (turn : k < count) where
 
     pub code-on : 1 ≤ n → n ≤ 32 → n < length list - at → readCode (count - (k + 1)) (drop (at + 1 + n) list) ≡ readCode (count - k) (drop at list)
     code-on l h c =
-        sym (step ∙ rw (proper l h, le-ltb (length (drop (suc at) list)) n (omega (arith, length-drop (suc at) list)), add-one at, ← drop-drop) (last-whole (readCode (count - (k + 1)) (drop n (drop (suc at) list)))))
+        let there = le-ltb (length (drop (suc at) list)) n (omega (arith, length-drop (suc at) list)) in
+        let rest = readCode (count - (k + 1)) (drop n (drop (suc at) list)) in
+        sym (step ∙ rw (proper l h, there, add-one at, ← drop-drop) (last-whole rest))
 
 -- ---- the header
 
@@ -63,7 +65,10 @@ module _ (list : List ℕ) where
     front-flag h = rw (le-ltb (length list) 2 long, lt-ltb 1 (flagOf list) h, or-true)
 
     pub front-on : (countOf list ≡ 0 → ⊥) → countOf list ≤ 16 → flagOf list ≤ 1 → readCode (countOf list) (drop 2 list) ≡ firstOf (frontTests list)
-    front-on n m f = sym (rw (le-ltb (length list) 2 long, ne-eqb (countOf list) 0 n, le-ltb 16 (countOf list) m, le-ltb 1 (flagOf list) f) (last-whole (readCode (countOf list) (drop 2 list))))
+    front-on n m f =
+        sym
+        (rw (le-ltb (length list) 2 long, ne-eqb (countOf list) 0 n, le-ltb 16 (countOf list) m, le-ltb 1 (flagOf list) f)
+        (last-whole (readCode (countOf list) (drop 2 list))))
 
 -- ---- the whole check
 
@@ -84,7 +89,8 @@ module _ (list : List ℕ) where
       }
 
 -- the front's tests as one test among others
-three : (a h : Bool) (r rest : ℕ) → cond a 1 (cond h 2 (cond (ltb 0 r) r rest)) ≡ cond (ltb 0 (cond a 1 (cond h 2 (cond (ltb 0 r) r 0)))) (cond a 1 (cond h 2 (cond (ltb 0 r) r 0))) rest
+three : (a h : Bool) (r rest : ℕ) → cond a 1 (cond h 2 (cond (ltb 0 r) r rest))
+    ≡ cond (ltb 0 (cond a 1 (cond h 2 (cond (ltb 0 r) r 0)))) (cond a 1 (cond h 2 (cond (ltb 0 r) r 0))) rest
 three true h r rest = refl
 three false true r rest = refl
 three false false r rest = rw last-whole
@@ -107,7 +113,9 @@ module _ (list : List ℕ) (code : ℕ) (e : code ≡ firstOf (frontTests list))
   -- with them
   whole-code : keywordCode list ≡ cond (ltb 0 code) code (cond (ltb (listSize list) (length list)) 1 (cond (twice (foldedKeywords list)) 4 0))
   unfolding keywordCode
-  whole-code = rw e (three (ltb (length list) 2) (headerWrong list) (readCode (countOf list) (drop 2 list)) (cond (ltb (listSize list) (length list)) 1 (cond (twice (foldedKeywords list)) 4 0)))
+  whole-code =
+      let rest : ℕ = cond (ltb (listSize list) (length list)) 1 (cond (twice (foldedKeywords list)) 4 0) in
+      rw e (three (ltb (length list) 2) (headerWrong list) (readCode (countOf list) (drop 2 list)) rest)
 
   pub whole-refused : (code ≡ 0 → ⊥) → code ≡ keywordCode list
   whole-refused h = refused-whole code _ h ∙ sym whole-code

@@ -14,7 +14,9 @@ use Rattle.keywords.proofs.again.Statement.{statement}
 use Rattle.keywords.proofs.again.Tie as tie
 
 abbrev Inv-loop : tie.InvT-loop
-Inv-loop list flag count start len i other₀ other = (other ≤ count) × (contains (getD (foldedKeywords list) i []) (drop other (foldedKeywords list)) ≡ contains (getD (foldedKeywords list) i []) (drop (i + 1) (foldedKeywords list)))
+Inv-loop list flag count start len i other₀ other =
+    let words = foldedKeywords list in
+    (other ≤ count) × (contains (getD words i []) (drop other words) ≡ contains (getD words i []) (drop (i + 1) words))
 
 abbrev μ-loop : tie.MeasureT-loop
 μ-loop list flag count start len i other₀ other = count - other
@@ -32,7 +34,10 @@ returns : tie.Need-returns Inv-loop μ-loop
 returns c =
     let at = c .before .before .before in
     let s = at .before .before in
-    contains-hit (foldedKeywords (s .args .list .now)) (at .loop .other) (omega (arith, folded-count (s .args .list .now), s .pre .0 .counts)) (c .before .alike-at .result) _ (getD (foldedKeywords (s .args .list .now)) (s .args .i) []) (c .before .alike-at .ensures) (c .if1 .taken) (at .loop .inv .1)
+    let words = foldedKeywords (s .args .list .now) in
+    let got = c .before .alike-at in
+    contains-hit words (at .loop .other) (omega (arith, folded-count (s .args .list .now), s .pre .0 .counts)) (got .result) _
+    (getD words (s .args .i) []) (got .ensures) (c .if1 .taken) (at .loop .inv .1)
 
 add-other-2 : tie.Need-add-other-2 Inv-loop μ-loop
 add-other-2 c = search needs
@@ -44,12 +49,19 @@ loop-again : tie.Need-loop-again Inv-loop μ-loop
 loop-again c =
     let at = c .before .before .before in
     let s = at .before .before in
-    (omega arith, contains-on (foldedKeywords (s .args .list .now)) (at .loop .other) (omega (arith, folded-count (s .args .list .now), s .pre .0 .counts)) (c .before .alike-at .result) _ (getD (foldedKeywords (s .args .list .now)) (s .args .i) []) (c .before .alike-at .ensures) (c .if1 .left) (at .loop .inv .1))
+    let words = foldedKeywords (s .args .list .now) in
+    let got = c .before .alike-at in (
+      omega arith,
+      contains-on words (at .loop .other) (omega (arith, folded-count (s .args .list .now), s .pre .0 .counts)) (got .result) _
+          (getD words (s .args .i) []) (got .ensures) (c .if1 .left) (at .loop .inv .1),
+    )
 
 returns-2 : tie.Need-returns-2 Inv-loop μ-loop
 returns-2 c =
     let s = c .before .before .before in
-    contains-end (foldedKeywords (s .args .list .now)) (c .before .loop .other) (getD (foldedKeywords (s .args .list .now)) (s .args .i) []) (omega (arith, folded-count (s .args .list .now), s .pre .0 .counts)) ∙ c .before .loop .inv .1
+    let words = foldedKeywords (s .args .list .now) in
+    let at = c .before .loop in
+    contains-end words (at .other) (getD words (s .args .i) []) (omega (arith, folded-count (s .args .list .now), s .pre .0 .counts)) ∙ at .inv .1
 
 pub again-spec : {M : Type 1} → statement M
 again-spec =

@@ -39,7 +39,12 @@ returns-2 : tie.Need-returns-2 Inv-loop μ-loop
 returns-2 c =
     let at = c .before .before .before .before .before .before in
     let s = at .before .before .before .before in
-    alike-not (s .args .flag) (s .args .a .now) (s .args .b .now) (at .loop .i) (c .before .before .before .fold .result) (c .before .fold2 .result) (omega arith) (omega arith) (c .before .before .before .fold .ensures) (c .before .fold2 .ensures) (c .if2 .taken) ∙ at .loop .inv .2
+    let a = s .args in
+    let one = c .before .before .before .fold in
+    let two = c .before .fold2 in
+    alike-not (a .flag) (a .a .now) (a .b .now) (at .loop .i) (one .result) (two .result) (omega arith) (omega arith)
+    (one .ensures) (two .ensures) (c .if2 .taken)
+    ∙ at .loop .inv .2
 
 add-i : tie.Need-add-i Inv-loop μ-loop
 add-i c = search needs
@@ -51,7 +56,15 @@ loop-again : tie.Need-loop-again Inv-loop μ-loop
 loop-again c =
     let at = c .before .before .before .before .before .before in
     let s = at .before .before .before .before in
-    (at .loop .inv .0, omega arith, alike-on (s .args .flag) (s .args .a .now) (s .args .b .now) (at .loop .i) (c .before .before .before .fold .result) (c .before .fold2 .result) (omega arith) (omega arith) (c .before .before .before .fold .ensures) (c .before .fold2 .ensures) (c .if2 .left) ∙ at .loop .inv .2)
+    let a = s .args in
+    let one = c .before .before .before .fold in
+    let two = c .before .fold2 in (
+      at .loop .inv .0,
+      omega arith,
+      alike-on (a .flag) (a .a .now) (a .b .now) (at .loop .i) (one .result) (two .result) (omega arith) (omega arith)
+          (one .ensures) (two .ensures) (c .if2 .left)
+          ∙ at .loop .inv .2,
+    )
 
 returns-3 : tie.Need-returns-3 Inv-loop μ-loop
 returns-3 c =

@@ -55,7 +55,9 @@ part-alike-start-2 : tie.Need-part-alike-start-2
 part-alike-start-2 c = search needs
 
 part-alike-end-2 : tie.Need-part-alike-end-2
-part-alike-end-2 c = let s = c .before .before .before .before .before .before in omega (arith, (s .pre .0 .placed (s .args .j) (s .pre .2)) .room, s .pre .0 .room)
+part-alike-end-2 c =
+    let s = c .before .before .before .before .before .before in
+    omega (arith, (s .pre .0 .placed (s .args .j) (s .pre .2)) .room, s .pre .0 .room)
 
 alike-requires : tie.Need-alike-requires
 alike-requires c κs = search needs

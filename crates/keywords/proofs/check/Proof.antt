@@ -32,7 +32,8 @@ returns-2 c =
     let f = p .before .before in
     let list = f .before .before .args .list .now in
     c .first-of .ensures
-    ∙ whole-rest list (f .read-front .result) (f .read-front .ensures) (p .before .if1 .left) (p .split .result) (p .split .ensures) (r .repeats .result) (r .repeats .ensures)
+    ∙ whole-rest list (f .read-front .result) (f .read-front .ensures) (p .before .if1 .left)
+    (p .split .result) (p .split .ensures) (r .repeats .result) (r .repeats .ensures)
 
 pub check-spec : {M : Type 1} → statement M
 check-spec =

@@ -32,7 +32,9 @@ read-keywords-requires : tie.Need-read-keywords-requires
 read-keywords-requires c κs = search needs
 
 returns-5 : tie.Need-returns-5
-returns-5 c = let s = c .before .before .before .before .before .before .before .before in c .read-keywords .ensures ∙ front-on (s .args .list .now) (omega arith) (λ e. omega arith) (omega arith) (omega arith)
+returns-5 c =
+    let s = c .before .before .before .before .before .before .before .before in
+    c .read-keywords .ensures ∙ front-on (s .args .list .now) (omega arith) (λ e. omega arith) (omega arith) (omega arith)
 
 pub read-front-spec : {M : Type 1} → statement M
 read-front-spec =

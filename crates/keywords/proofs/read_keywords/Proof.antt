@@ -21,7 +21,10 @@ loop-holds : tie.Need-loop-holds Inv-loop μ-loop
 loop-holds c = (omega arith, c .pre, rw sub-zero)
 
 returns : tie.Need-returns Inv-loop μ-loop
-returns c = let at = c .before .before in let s = at .before in code-absent (s .args .list .now) (s .args .count) (at .loop .k) (at .loop .at) (omega arith) (omega arith) ∙ at .loop .inv .2
+returns c =
+    let at = c .before .before in
+    let s = at .before in
+    code-absent (s .args .list .now) (s .args .count) (at .loop .k) (at .loop .at) (omega arith) (omega arith) ∙ at .loop .inv .2
 
 shared-slice-read-n : tie.Need-shared-slice-read-n Inv-loop μ-loop
 shared-slice-read-n c = search needs
@@ -30,16 +33,27 @@ cast-n : tie.Need-cast-n Inv-loop μ-loop
 cast-n c = let at = c .before .before .before in omega (arith, c .shared-slice-known .given (at .loop .at))
 
 returns-2 : tie.Need-returns-2 Inv-loop μ-loop
-returns-2 c = let at = c .before .before .before .before in let s = at .before in code-none (s .args .list .now) (s .args .count) (at .loop .k) (at .loop .at) (omega arith) (omega arith) _ refl (omega arith) ∙ at .loop .inv .2
+returns-2 c =
+    let at = c .before .before .before .before in
+    let s = at .before in
+    code-none (s .args .list .now) (s .args .count) (at .loop .k) (at .loop .at) (omega arith) (omega arith) _ refl (omega arith) ∙ at .loop .inv .2
 
 returns-3 : tie.Need-returns-3 Inv-loop μ-loop
-returns-3 c = let at = c .before .before .before .before .before in let s = at .before in code-long (s .args .list .now) (s .args .count) (at .loop .k) (at .loop .at) (omega arith) (omega arith) _ refl (omega arith) ∙ at .loop .inv .2
+returns-3 c =
+    let at = c .before .before .before .before .before in
+    let s = at .before in
+    code-long (s .args .list .now) (s .args .count) (at .loop .k) (at .loop .at) (omega arith) (omega arith) _ refl (omega arith) ∙ at .loop .inv .2
 
 sub-if4 : tie.Need-sub-if4 Inv-loop μ-loop
 sub-if4 c = search needs
 
 returns-4 : tie.Need-returns-4 Inv-loop μ-loop
-returns-4 c = let at = c .before .before .before .before .before .before in let s = at .before in code-cut (s .args .list .now) (s .args .count) (at .loop .k) (at .loop .at) (omega arith) (omega arith) _ refl (omega arith) (omega arith) (omega arith) ∙ at .loop .inv .2
+returns-4 c =
+    let at = c .before .before .before .before .before .before in
+    let s = at .before in
+    code-cut (s .args .list .now) (s .args .count) (at .loop .k) (at .loop .at) (omega arith) (omega arith) _ refl
+    (omega arith) (omega arith) (omega arith)
+    ∙ at .loop .inv .2
 
 add-at : tie.Need-add-at Inv-loop μ-loop
 add-at c = search needs
@@ -56,8 +70,13 @@ loop-less c = search needs
 loop-again : tie.Need-loop-again Inv-loop μ-loop
 loop-again c =
     let at = c .before .before .before .before .before .before in
-    let s = at .before in
-    (omega arith, omega arith, code-on (s .args .list .now) (s .args .count) (at .loop .k) (at .loop .at) (omega arith) (omega arith) _ refl (omega arith) (omega arith) (omega arith) ∙ at .loop .inv .2)
+    let s = at .before in (
+      omega arith,
+      omega arith,
+      code-on (s .args .list .now) (s .args .count) (at .loop .k) (at .loop .at) (omega arith) (omega arith) _ refl
+          (omega arith) (omega arith) (omega arith)
+          ∙ at .loop .inv .2,
+    )
 
 returns-5 : tie.Need-returns-5 Inv-loop μ-loop
 returns-5 c = let z : c .before .before .args .count - c .before .loop .k ≡ 0 = omega arith in rw z at (c .before .loop .inv .2)

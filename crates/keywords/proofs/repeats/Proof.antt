@@ -28,7 +28,10 @@ returns : tie.Need-returns Inv-loop μ-loop
 returns c =
     let at = c .before .before .before in
     let s = at .before .before in
-    twice-hit (foldedKeywords (s .args .list .now)) (at .loop .one) (omega (arith, folded-count (s .args .list .now), s .pre .counts)) (c .before .again .result) _ (c .before .again .ensures) (c .if1 .taken) (at .loop .inv .1)
+    let list = s .args .list .now in
+    let got = c .before .again in
+    twice-hit (foldedKeywords list) (at .loop .one) (omega (arith, folded-count list, s .pre .counts))
+    (got .result) _ (got .ensures) (c .if1 .taken) (at .loop .inv .1)
 
 add-one : tie.Need-add-one Inv-loop μ-loop
 add-one c = search needs
@@ -40,12 +43,18 @@ loop-again : tie.Need-loop-again Inv-loop μ-loop
 loop-again c =
     let at = c .before .before .before in
     let s = at .before .before in
-    (omega arith, twice-on (foldedKeywords (s .args .list .now)) (at .loop .one) (omega (arith, folded-count (s .args .list .now), s .pre .counts)) (c .before .again .result) _ (c .before .again .ensures) (c .if1 .left) (at .loop .inv .1))
+    let list = s .args .list .now in
+    let got = c .before .again in (
+      omega arith,
+      twice-on (foldedKeywords list) (at .loop .one) (omega (arith, folded-count list, s .pre .counts))
+          (got .result) _ (got .ensures) (c .if1 .left) (at .loop .inv .1),
+    )
 
 returns-2 : tie.Need-returns-2 Inv-loop μ-loop
 returns-2 c =
     let s = c .before .before .before in
-    twice-end (foldedKeywords (s .args .list .now)) (c .before .loop .one) (omega (arith, folded-count (s .args .list .now), s .pre .counts)) ∙ c .before .loop .inv .1
+    let list = s .args .list .now in
+    twice-end (foldedKeywords list) (c .before .loop .one) (omega (arith, folded-count list, s .pre .counts)) ∙ c .before .loop .inv .1
 
 pub repeats-spec : {M : Type 1} → statement M
 repeats-spec =

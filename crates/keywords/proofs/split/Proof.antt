@@ -22,8 +22,9 @@ turn : (c : tie.In-loop Inv-loop μ-loop)
     let list = at .before .before .before .args .list .now in
     Next list (countOf list - (at .loop .k + 1)) (at .loop .at) (getD list (at .loop .at) 0)
 turn c =
-    let at = c .before in
-    reading-next (at .before .before .before .args .list .now) (at .loop .k) (at .loop .at) (at .loop .most) (at .loop .start) (at .loop .len) (at .loop .inv .1) (omega arith)
+    let at = c .before .loop in
+    let list = c .before .before .before .before .args .list .now in
+    reading-next list (at .k) (at .at) (at .most) (at .start) (at .len) (at .inv .1) (omega arith)
 
 shared-slice-read-count : tie.Need-shared-slice-read-count Inv-loop μ-loop
 shared-slice-read-count c = search needs
