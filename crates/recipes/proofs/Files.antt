@@ -26,7 +26,8 @@ pub record FileAt (recipes : List ℕ) (left at n : ℕ) : Type 0 where
 
 -- the test of a file, at its place
 whole-step : (recipes : List ℕ) (left at n : ℕ) → n ≡ fieldAt recipes at 4
-    → filesWhole (suc left) (drop at recipes) ≡ (leb 4 (length recipes - at) && leb (20 * n) (length recipes - at - 4) && filesWhole left (drop (at + 4 + 20 * n) recipes))
+    → filesWhole (suc left) (drop at recipes)
+    ≡ (leb 4 (length recipes - at) && leb (20 * n) (length recipes - at - 4) && filesWhole left (drop (at + 4 + 20 * n) recipes))
 whole-step recipes left at n e = let a : at + (4 + 20 * n) ≡ at + 4 + 20 * n = omega arith in rw (← e, length-drop, drop-drop, a)
 
 files-step : (recipes : List ℕ) (left at n : ℕ) → n ≡ fieldAt recipes at 4
@@ -50,13 +51,15 @@ file-at recipes left at n e w =
 
 module _ (recipes : List ℕ) (count k at : ℕ) (turn : k < count) where
   step : (n : ℕ) → n ≡ fieldAt recipes at 4
-      → filesWhole (count - k) (drop at recipes) ≡ (leb 4 (length recipes - at) && leb (20 * n) (length recipes - at - 4) && filesWhole (count - (k + 1)) (drop (at + 4 + 20 * n) recipes))
+      → filesWhole (count - k) (drop at recipes)
+      ≡ (leb 4 (length recipes - at) && leb (20 * n) (length recipes - at - 4) && filesWhole (count - (k + 1)) (drop (at + 4 + 20 * n) recipes))
   step n e = let s : count - k ≡ suc (count - (k + 1)) = omega arith in rw s (whole-step recipes (count - (k + 1)) at n e)
 
   pub whole-cut : length recipes - at < 4 → false ≡ filesWhole (count - k) (drop at recipes)
   whole-cut h = sym (step (fieldAt recipes at 4) refl ∙ rw (lt-leb 4 (length recipes - at) h))
 
-  pub whole-lies : (n : ℕ) → n ≡ fieldAt recipes at 4 → 4 ≤ length recipes - at → (length recipes - at - 4) / 20 < n → false ≡ filesWhole (count - k) (drop at recipes)
+  pub whole-lies : (n : ℕ) → n ≡ fieldAt recipes at 4 → 4 ≤ length recipes - at → (length recipes - at - 4) / 20 < n
+      → false ≡ filesWhole (count - k) (drop at recipes)
   whole-lies n e h l = sym (step n e ∙ rw (lt-leb (20 * n) (length recipes - at - 4) (omega arith), and-false))
 
   pub whole-on : (n : ℕ) → n ≡ fieldAt recipes at 4 → 4 ≤ length recipes - at → n ≤ (length recipes - at - 4) / 20
@@ -120,7 +123,8 @@ accepted recipes e =
     }
 
 -- the file that the walk is at
-pub walk-file : (recipes : List ℕ) (k at n : ℕ) → Walk recipes k at → k < fileCount recipes → n ≡ fieldAt recipes at 4 → FileAt recipes (fileCount recipes - (k + 1)) at n
+pub walk-file : (recipes : List ℕ) (k at n : ℕ) → Walk recipes k at → k < fileCount recipes → n ≡ fieldAt recipes at 4
+    → FileAt recipes (fileCount recipes - (k + 1)) at n
 walk-file recipes k at n w h e =
     let s : fileCount recipes - k ≡ suc (fileCount recipes - (k + 1)) = omega arith in
     file-at recipes (fileCount recipes - (k + 1)) at n e (rw s at (w .left))

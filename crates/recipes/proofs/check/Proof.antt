@@ -20,10 +20,18 @@ files-whole-requires : tie.Need-files-whole-requires
 files-whole-requires c κs = search needs
 
 returns-3 : tie.Need-returns-3
-returns-3 c = let s = c .before .before .before .before .before .before in let n = c .before .before .before .count-at in check-files (s .args .recipes .now) (omega arith) (n .result) (n .ensures) (omega arith) (c .before .files-whole .result) true (c .before .files-whole .ensures) (c .if3 .taken)
+returns-3 c =
+    let s = c .before .before .before .before .before .before in
+    let n = c .before .before .before .count-at in
+    let got = c .before .files-whole in
+    check-files (s .args .recipes .now) (omega arith) (n .result) (n .ensures) (omega arith) (got .result) true (got .ensures) (c .if3 .taken)
 
 returns-4 : tie.Need-returns-4
-returns-4 c = let s = c .before .before .before .before .before .before in let n = c .before .before .before .count-at in check-files (s .args .recipes .now) (omega arith) (n .result) (n .ensures) (omega arith) (c .before .files-whole .result) false (c .before .files-whole .ensures) (c .if3 .left)
+returns-4 c =
+    let s = c .before .before .before .before .before .before in
+    let n = c .before .before .before .count-at in
+    let got = c .before .files-whole in
+    check-files (s .args .recipes .now) (omega arith) (n .result) (n .ensures) (omega arith) (got .result) false (got .ensures) (c .if3 .left)
 
 pub check-spec : {M : Type 1} → statement M
 check-spec =

@@ -24,7 +24,10 @@ sub-if1 : tie.Need-sub-if1 Inv-loop μ-loop
 sub-if1 c = search needs
 
 returns : tie.Need-returns Inv-loop μ-loop
-returns c = let at = c .before .before in let s = at .before .before in whole-cut (s .args .recipes .now) (s .args .count) (at .loop .k) (at .loop .at) (omega arith) (c .if1 .taken) ∙ at .loop .inv .2
+returns c =
+    let at = c .before .before in
+    let a = at .before .before .args in
+    whole-cut (a .recipes .now) (a .count) (at .loop .k) (at .loop .at) (omega arith) (c .if1 .taken) ∙ at .loop .inv .2
 
 count-at-requires : tie.Need-count-at-requires Inv-loop μ-loop
 count-at-requires c κs = search needs
@@ -36,7 +39,12 @@ sub-if2-2 : tie.Need-sub-if2-2 Inv-loop μ-loop
 sub-if2-2 c = search needs
 
 returns-2 : tie.Need-returns-2 Inv-loop μ-loop
-returns-2 c = let at = c .before .before .before .before in let s = at .before .before in whole-lies (s .args .recipes .now) (s .args .count) (at .loop .k) (at .loop .at) (omega arith) (c .before .count-at .result) (c .before .count-at .ensures) (omega arith) (c .if2 .taken) ∙ at .loop .inv .2
+returns-2 c =
+    let at = c .before .before .before .before in
+    let a = at .before .before .args in
+    let n = c .before .count-at in
+    whole-lies (a .recipes .now) (a .count) (at .loop .k) (at .loop .at) (omega arith) (n .result) (n .ensures) (omega arith) (c .if2 .taken)
+    ∙ at .loop .inv .2
 
 add-at : tie.Need-add-at Inv-loop μ-loop
 add-at c = omega arith
@@ -54,13 +62,27 @@ loop-less : tie.Need-loop-less Inv-loop μ-loop
 loop-less c = search needs
 
 loop-again : tie.Need-loop-again Inv-loop μ-loop
-loop-again c = let at = c .before .before .before .before in let s = at .before .before in (omega arith, omega arith, whole-on (s .args .recipes .now) (s .args .count) (at .loop .k) (at .loop .at) (omega arith) (c .before .count-at .result) (c .before .count-at .ensures) (omega arith) (c .if2 .left) ∙ at .loop .inv .2)
+loop-again c =
+    let at = c .before .before .before .before in
+    let a = at .before .before .args in
+    let n = c .before .count-at in (
+      omega arith,
+      omega arith,
+      whole-on (a .recipes .now) (a .count) (at .loop .k) (at .loop .at) (omega arith) (n .result) (n .ensures) (omega arith) (c .if2 .left)
+          ∙ at .loop .inv .2,
+    )
 
 returns-3 : tie.Need-returns-3 Inv-loop μ-loop
-returns-3 c = let at = c .before .before in let s = at .before .before in whole-over (s .args .recipes .now) (s .args .count) (at .loop .k) (at .loop .at) (omega arith) (c .if3 .taken) ∙ at .loop .inv .2
+returns-3 c =
+    let at = c .before .before in
+    let a = at .before .before .args in
+    whole-over (a .recipes .now) (a .count) (at .loop .k) (at .loop .at) (omega arith) (c .if3 .taken) ∙ at .loop .inv .2
 
 returns-4 : tie.Need-returns-4 Inv-loop μ-loop
-returns-4 c = let at = c .before .before in let s = at .before .before in whole-end (s .args .recipes .now) (s .args .count) (at .loop .k) (at .loop .at) (omega arith) (c .if3 .left) ∙ at .loop .inv .2
+returns-4 c =
+    let at = c .before .before in
+    let a = at .before .before .args in
+    whole-end (a .recipes .now) (a .count) (at .loop .k) (at .loop .at) (omega arith) (c .if3 .left) ∙ at .loop .inv .2
 
 pub files-whole-spec : {M : Type 1} → statement M
 files-whole-spec =
