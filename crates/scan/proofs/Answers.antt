@@ -70,17 +70,21 @@ module _ (list store : List ℕ) where
       pub scan-large : (len : ℕ) → code ≡ 0 → len ≡ long → 4294967295 < len → Scans before (Refused 9)
       scan-large len z n h = refusal 9 (code-nine z (rw (lt-ltb largest32 long (omega arith), or-true))) (omega arith)
 
-      pub scan-done : (len : ℕ) (after : List ℕ) → code ≡ 0 → len ≡ long → len ≤ length before → len ≤ 4294967295 → after ≡ splice before 0 (scanIndex form1 list store)
+      pub scan-done : (len : ℕ) (after : List ℕ) → code ≡ 0 → len ≡ long → len ≤ length before → len ≤ 4294967295
+          → after ≡ splice before 0 (scanIndex form1 list store)
           → Scans after (Done len)
       unfolding scanOutcome scanBuffer
       scan-done len after z n h l w =
-          let c : scanCode form1 list store (length before) ≡ 0 = code-none z (rw (le-ltb (length before) long (omega arith), le-ltb largest32 long (omega arith))) in (
+          let room = le-ltb (length before) long (omega arith) in
+          let small = le-ltb largest32 long (omega arith) in
+          let c : scanCode form1 list store (length before) ≡ 0 = code-none z (rw (room, small)) in (
             ap Done n ∙ answer-done (scanCode form1 list store (length before)) long c,
             w ∙ buffer-done (scanCode form1 list store (length before)) (splice before 0 (scanIndex form1 list store)) before c,
           )
 
   -- mark, chunk count, keyword list, and the rest, each where the one before ends
-  pub index-put : (l l₁ l₂ l₃ l₄ : List ℕ) (count : ℕ) → count ≡ chunkCount store → l₁ ≡ splice l 0 (form1 .mark) → l₂ ≡ splice l₁ 4 (leBytes 4 count) → l₃ ≡ splice l₂ 8 list
+  pub index-put : (l l₁ l₂ l₃ l₄ : List ℕ) (count : ℕ) → count ≡ chunkCount store
+      → l₁ ≡ splice l 0 (form1 .mark) → l₂ ≡ splice l₁ 4 (leBytes 4 count) → l₃ ≡ splice l₂ 8 list
       → l₄ ≡ splice l₃ (8 + length list) (tailBytes form1 list store) → l₄ ≡ splice l 0 (scanIndex form1 list store)
   index-put l l₁ l₂ l₃ l₄ count c p q r s =
       let two = splice-then l 0 (form1 .mark) (leBytes 4 count) (omega arith) p refl q in

@@ -70,7 +70,9 @@ module _ (f : Form) (list store : List ℕ) where
         rw (tabulated-at (scanEntry f list store) k (chunkCount store - k) i noEntry m) (entry-fits (k + i) (omega arith))
 
     pub directory-length : (at k : ℕ) → length (directoryFrom at k) ≡ 32 * (chunkCount store - k)
-    directory-length at k = length-directory at (entriesFrom f list store k) (every-fits k) ∙ ap (λ (n : ℕ). 32 * n) (length-tabulated (scanEntry f list store) k (chunkCount store - k))
+    directory-length at k =
+        length-directory at (entriesFrom f list store k) (every-fits k)
+        ∙ ap (λ (n : ℕ). 32 * n) (length-tabulated (scanEntry f list store) k (chunkCount store - k))
 
     pub entry-length : (at k : ℕ) → k < chunkCount store → length (entry at k) ≡ 32
     unfolding entryBytes
@@ -104,7 +106,8 @@ module _ (list store : List ℕ) (good : storeCode store ≡ 0) where
     bodies-short : (n k : ℕ) → n + k ≡ chunkCount store → length (bodiesFrom form1 list store k) ≤ 2097264 * n
     bodies-short zero k e = omega (arith, ap length (bodies-end form1 list store k (omega arith)))
     bodies-short (suc n) k e =
-        omega (arith, bodies-length form1 list store k (omega arith), body-most list (chunkAt store k) accept (body-short k (omega arith)), bodies-short n (k + 1) (omega arith))
+        let one = body-most list (chunkAt store k) accept (body-short k (omega arith)) in
+        omega (arith, bodies-length form1 list store k (omega arith), one, bodies-short n (k + 1) (omega arith))
 
     pub bodies-most : length (bodiesFrom form1 list store 0) ≤ 2097264 * chunkCount store
     bodies-most = bodies-short (chunkCount store) 0 (omega arith)

@@ -31,7 +31,12 @@ splice-swap l d at v b h m =
     let s : length (splice (take at l) d v) ≡ at = length-splice (take at l) d v k ∙ n in
     let e : take at l ++ drop at l ≡ l = take-append-drop at l in
     let x : splice (splice (take at l ++ drop at l) at b) d v ≡ splice (splice (take at l ++ drop at l) d v) at b =
-    rw (splice-back (take at l) (drop at l) at b n, splice-front (take at l) (splice (drop at l) 0 b) d v k, splice-front (take at l) (drop at l) d v k, splice-back (splice (take at l) d v) (drop at l) at b s) in
+    rw (
+      splice-back (take at l) (drop at l) at b n,
+      splice-front (take at l) (splice (drop at l) 0 b) d v k,
+      splice-front (take at l) (drop at l) d v k,
+      splice-back (splice (take at l) d v) (drop at l) at b s,
+    ) in
     rw e at x
 
 -- A turn: a body b is written at `at`, then its entry e at d; the rest of the directory and of the bodies is left.
@@ -43,5 +48,7 @@ two-regions out last out₂ whole d at e dr b br h m p q w =
     let n : length (splice out at b) ≡ length out = length-splice out at b m in
     let o : length (splice out d (e ++ dr)) ≡ length out = length-splice out d (e ++ dr) (omega arith) in
     let y : splice out₂ (d + length e) dr ≡ splice (splice out d (e ++ dr)) at b =
-    ap (λ (l : List ℕ). splice l (d + length e) dr) x ∙ splice-splice (splice out at b) d e dr (omega arith) ∙ splice-swap out d at (e ++ dr) b h (omega arith) in
+    ap (λ (l : List ℕ). splice l (d + length e) dr) x
+    ∙ splice-splice (splice out at b) d e dr (omega arith)
+    ∙ splice-swap out d at (e ++ dr) b h (omega arith) in
     ap (λ (l : List ℕ). splice l (at + length b) br) y ∙ splice-splice (splice out d (e ++ dr)) at b br (omega arith) ∙ w

@@ -69,7 +69,8 @@ module _ (list store : List ℕ) (good : storeCode store ≡ 0) where
       sym (splice-nil (splice out (place k) []) at ∙ splice-nil out (place k)) ∙ x
 
   -- the body and the entry as the code names them
-  module _ (k at : ℕ) (l : k < chunkCount store) (key chunk : List ℕ) (len : ℕ) (isChunk : chunk ≡ chunkAt store k) (isKey : key ≡ getD (storeKeys store) k []) where
+  module _ (k at : ℕ) (l : k < chunkCount store) (key chunk : List ℕ) (len : ℕ) (isChunk : chunk ≡ chunkAt store k)
+      (isKey : key ≡ getD (storeKeys store) k []) where
     body-is : scanBody form1 list chunk ≡ body form1 list store k
     body-is = ap (scanBody form1 list) isChunk
 
@@ -86,7 +87,8 @@ module _ (list store : List ℕ) (good : storeCode store ≡ 0) where
         let n : len ≡ length b = m ∙ ap length body-is in
         let ds = directory-step form1 list store at k l in
         let d : place (k + 1) ≡ place k + length (entry form1 list store at k) = omega (arith, entry-length form1 list store good at k l) in
-        let fits : place k + length (entry form1 list store at k ++ dr (at + length b) (k + 1)) ≤ at = omega (arith, ap length ds, directory-length form1 list store good at k) in
+        let fits : place k + length (entry form1 list store at k ++ dr (at + length b) (k + 1)) ≤ at =
+        omega (arith, ap length ds, directory-length form1 list store good at k) in
         let t = two-regions out last out₂ whole (place k) at (entry form1 list store at k) (dr (at + length b) (k + 1)) b (br (k + 1)) fits room
         (w ∙ ap (splice (midOf at (length out - at) out) 0) body-is)
         (p ∙ ap (splice (putMid at (length out - at) out last) (place k)) (entry-is n))

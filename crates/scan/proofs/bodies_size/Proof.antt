@@ -36,15 +36,15 @@ body-size-requires : tie.Need-body-size-requires Inv-loop μ-loop
 body-size-requires c κs =
     let p = c .before .before in
     let s = p .before .before .before in
-    record {
-      reads = s .pre .reads;
-      short = omega (arith, ap length (c .chunk-at .ensures .0), body-short (s .args .list .now) (s .args .store .now) (s .pre .checked) (s .pre .reads .accepted) (p .loop .j) (within (c .before)));
-    }
+    let a = s .args in
+    let short = body-short (a .list .now) (a .store .now) (s .pre .checked) (s .pre .reads .accepted) (p .loop .j) (within (c .before)) in
+    record { reads = s .pre .reads; short = omega (arith, ap length (c .chunk-at .ensures .0), short) }
 
 -- the body measured is the first of those left
 step : (c : tie.After-body-size Inv-loop μ-loop)
     → let p = c .before .before .before in let a = p .before .before .before .args in
-    length (bodiesFrom form1 (a .list .now) (a .store .now) (p .loop .j)) ≡ c .body-size .result + length (bodiesFrom form1 (a .list .now) (a .store .now) (p .loop .j + 1))
+    length (bodiesFrom form1 (a .list .now) (a .store .now) (p .loop .j))
+    ≡ c .body-size .result + length (bodiesFrom form1 (a .list .now) (a .store .now) (p .loop .j + 1))
 step c =
     let p = c .before .before .before in
     let a = p .before .before .before .args in
@@ -55,7 +55,8 @@ add-size : tie.Need-add-size Inv-loop μ-loop
 add-size c =
     let p = c .before .before .before in
     let s = p .before .before .before in
-    omega (arith, step c, p .loop .inv .1, bodies-most (s .args .list .now) (s .args .store .now) (s .pre .checked) (s .pre .reads .accepted), store-good (s .args .store .now) (s .pre .checked) .few)
+    let most = bodies-most (s .args .list .now) (s .args .store .now) (s .pre .checked) (s .pre .reads .accepted) in
+    omega (arith, step c, p .loop .inv .1, most, store-good (s .args .store .now) (s .pre .checked) .few)
 
 add-j : tie.Need-add-j Inv-loop μ-loop
 add-j c = search needs
@@ -70,7 +71,9 @@ returns : tie.Need-returns Inv-loop μ-loop
 returns c =
     let p = c .before in
     let s = p .before .before .before in
-    omega (arith, p .loop .inv .1, ap length (bodies-end form1 (s .args .list .now) (s .args .store .now) (p .loop .j) (omega (arith, c .loop-test .left, s .pre .counted))))
+    let a = s .args in
+    let none = bodies-end form1 (a .list .now) (a .store .now) (p .loop .j) (omega (arith, c .loop-test .left, s .pre .counted)) in
+    omega (arith, p .loop .inv .1, ap length none)
 
 pub bodies-size-spec : {M : Type 1} → statement M
 bodies-size-spec =

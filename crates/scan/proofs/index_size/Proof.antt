@@ -33,10 +33,9 @@ few : (c : tie.After-bodies-size) → (c .before .count .result ≤ 65000) × (c
 few c =
     let s = c .before .before .before in
     let a = s .before .before .args in
-    let n = store-good (a .store .now) (checks s .checked) .few in (
-      omega (arith, c .before .count .ensures, n),
-      omega (arith, c .bodies-size .ensures, n, bodies-most (a .list .now) (a .store .now) (checks s .checked) (keyword-front (a .list .now) (checks s .accepted))),
-    )
+    let n = store-good (a .store .now) (checks s .checked) .few in
+    let most = bodies-most (a .list .now) (a .store .now) (checks s .checked) (keyword-front (a .list .now) (checks s .accepted)) in
+    (omega (arith, c .before .count .ensures, n), omega (arith, c .bodies-size .ensures, n, most))
 
 add-result : tie.Need-add-result
 add-result c = search needs

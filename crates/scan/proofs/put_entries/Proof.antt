@@ -32,7 +32,8 @@ Left out₀ list store count out at k =
 abbrev Inv-loop : tie.InvT-loop
 Inv-loop out₀ list words store count start at₀ k₀ out at k =
     Left out₀ list store count out at k
-    × (splice (splice out (entryAt list store k) (directoryLeft list store at k)) at (bodiesLeft list store k) ≡ splice out₀ (8 + length list) (tailBytes form1 list store))
+    × (splice (splice out (entryAt list store k) (directoryLeft list store at k)) at (bodiesLeft list store k)
+    ≡ splice out₀ (8 + length list) (tailBytes form1 list store))
 
 abbrev μ-loop : tie.MeasureT-loop
 μ-loop out₀ list words store count start at₀ k₀ out at k = count - k
@@ -66,7 +67,10 @@ loop-holds : tie.Need-loop-holds Inv-loop μ-loop
 loop-holds c =
     let s = c .before .before .before in
     let a = s .args in
-    ((omega arith, refl, omega arith, refl), regions-start (a .list .now) (a .store .now) (s .pre .walks .checked) (a .out .now) (a .count) (s .pre .walks .counted) (omega (arith, s .pre .room)))
+    let w = s .pre .walks in (
+      (omega arith, refl, omega arith, refl),
+      regions-start (a .list .now) (a .store .now) (w .checked) (a .out .now) (a .count) (w .counted) (omega (arith, s .pre .room)),
+    )
 
 chunk-at-requires : tie.Need-chunk-at-requires Inv-loop μ-loop
 chunk-at-requires c κs = record { checked = c .before .before .before .before .before .pre .walks .checked; within = within c }
@@ -114,8 +118,9 @@ put-entry-requires c κs =
     let b = c .before .before .before .before in
     let i = b .before .before .before in
     let s = i .before .before .before .before .before in
+    let good = store-good (s .args .store .now) (s .pre .walks .checked) in
     record {
-      long = ap length (c .before .key-at .ensures) ∙ store-key-length (s .args .store .now) (store-good (s .args .store .now) (s .pre .walks .checked)) (i .before .loop .k) (within i);
+      long = ap length (c .before .key-at .ensures) ∙ store-key-length (s .args .store .now) good (i .before .loop .k) (within i);
       room = omega (arith, same b, entry-room i);
     }
 
@@ -147,17 +152,21 @@ loop-again c =
     let s = p .before .before .before .before in
     let a = s .args in
     let k = p .loop .k in
-    let l = within i in (
+    let l = within i in
+    let key = w .before .before .key-at in
+    let chunk = b .before .before .chunk-at in
+    let whole = splice (a .out .now) (8 + length (a .list .now)) (tailBytes form1 (a .list .now) (a .store .now)) in (
       (
         omega (arith, i .loop-test .taken),
         w .put-entry .kept .0 ∙ same b ∙ p .loop .inv .0 .1,
         omega (arith, p .loop .inv .0 .2),
         omega (arith, measured b, bodies-length form1 (a .list .now) (a .store .now) k l, p .loop .inv .0 .3),
       ),
-      regions-turn (a .list .now) (a .store .now) (s .pre .walks .checked) k (p .loop .at) l (now (w .before .before .key-at .result)) (now (b .before .before .chunk-at .result)) (b .put-body .result)
-          (b .before .before .chunk-at .ensures .0) (w .before .before .key-at .ensures)
-          (p .loop .out) (b .put-body .last .0) (w .put-entry .last .0) (splice (a .out .now) (8 + length (a .list .now)) (tailBytes form1 (a .list .now) (a .store .now)))
-          (omega (arith, p .loop .inv .0 .2, s .pre .walks .counted)) (room i) (b .put-body .ensures .0) (b .put-body .ensures .1) (w .put-entry .ensures) (p .loop .inv .1),
+      regions-turn (a .list .now) (a .store .now) (s .pre .walks .checked) k (p .loop .at) l
+          (now (key .result)) (now (chunk .result)) (b .put-body .result) (chunk .ensures .0) (key .ensures)
+          (p .loop .out) (b .put-body .last .0) (w .put-entry .last .0) whole
+          (omega (arith, p .loop .inv .0 .2, s .pre .walks .counted)) (room i)
+          (b .put-body .ensures .0) (b .put-body .ensures .1) (w .put-entry .ensures) (p .loop .inv .1),
     )
 
 same-length : tie.Need-same-length Inv-loop μ-loop
@@ -169,7 +178,8 @@ returns c =
     let s = p .before .before .before .before in
     let a = s .args in
     let g = s .pre .walks .checked in
-    regions-end (a .list .now) (a .store .now) g (p .loop .out) (splice (a .out .now) (8 + length (a .list .now)) (tailBytes form1 (a .list .now) (a .store .now))) (p .loop .at) (p .loop .k)
+    let whole = splice (a .out .now) (8 + length (a .list .now)) (tailBytes form1 (a .list .now) (a .store .now)) in
+    regions-end (a .list .now) (a .store .now) g (p .loop .out) whole (p .loop .at) (p .loop .k)
     (omega (arith, c .loop-test .left, s .pre .walks .counted)) (p .loop .inv .1)
 
 pub put-entries-spec : {M : Type 1} → statement M

@@ -30,10 +30,15 @@ same-length c = search needs
 
 returns : tie.Need-returns
 returns c =
-    let s = c .before .before .before .before .before .before .before .before .before .before .before .before .before .before .before .before .before .before in
+    let w3 = c .before .before in
+    let w2 = w3 .before .before .before .before in
+    let w1 = w2 .before .before .before .before in
+    let k = w1 .before .before .before .before in
+    let s = k .before .before .before .before in
     let a = s .args in
-    entry-put (a .out .now) (c .before .before .before .before .before .before .before .before .before .before .before .before .before .before .copy .last .0) (c .before .before .before .before .before .before .before .before .before .before .write .last .0) (c .before .before .before .before .before .before .write2 .last .0) (c .before .before .write3 .last .0) (a .key .now) (a .at) (a .size) (a .offset) (a .len)
-    (s .pre .room) (s .pre .long) (c .before .before .before .before .before .before .before .before .before .before .before .before .before .before .copy .ensures) (c .before .before .before .before .before .before .before .before .before .before .write .ensures) (c .before .before .before .before .before .before .write2 .ensures) (c .before .before .write3 .ensures)
+    entry-put (a .out .now) (k .copy .last .0) (w1 .write .last .0) (w2 .write2 .last .0) (w3 .write3 .last .0)
+    (a .key .now) (a .at) (a .size) (a .offset) (a .len) (s .pre .room) (s .pre .long)
+    (k .copy .ensures) (w1 .write .ensures) (w2 .write2 .ensures) (w3 .write3 .ensures)
 
 pub put-entry-spec : {M : Type 1} → statement M
 put-entry-spec =

@@ -40,7 +40,10 @@ write-requires : tie.Need-write-requires
 write-requires c κs = omega (arith, room (c .before .before .before .before .before .before .before .before), c .before .before .before .copy .kept .0)
 
 copy-requires-2 : tie.Need-copy-requires-2
-copy-requires-2 c κs = omega (arith, room (c .before .before .before .before .before .before .before .before .before .before .before .before), c .before .before .before .write .kept .0, c .before .before .before .before .before .before .before .copy .kept .0)
+copy-requires-2 c κs =
+    let v = c .before .before .before in
+    let u = v .before .before .before .before in
+    omega (arith, room (u .before .before .before .before .before), v .write .kept .0, u .copy .kept .0)
 
 put-entries-requires : tie.Need-put-entries-requires
 put-entries-requires c κs =
@@ -69,8 +72,9 @@ returns c =
     let u = v .before .before .before .before in
     let n = u .before .before .before in
     let a = n .before .before .before .before .before .args in
-    index-put (a .list .now) (a .store .now) (a .out .now) (u .copy .last .0) (v .write .last .0) (w .copy2 .last .0) (e .put-entries .last .0) (n .count .result)
-    (n .count .ensures) (u .copy .ensures) (v .write .ensures) (w .copy2 .ensures) (e .put-entries .ensures)
+    index-put (a .list .now) (a .store .now) (a .out .now)
+    (u .copy .last .0) (v .write .last .0) (w .copy2 .last .0) (e .put-entries .last .0)
+    (n .count .result) (n .count .ensures) (u .copy .ensures) (v .write .ensures) (w .copy2 .ensures) (e .put-entries .ensures)
 
 pub put-index-spec : {M : Type 1} → statement M
 put-index-spec =

@@ -22,14 +22,16 @@ returns-2 c =
     let n = c .before in
     let s = n .before .before in
     let a = s .before .before .before .before .args in
-    scan-short (a .list .now) (a .store .now) (s .scannable .result) (s .scannable .ensures) (a .out .now) (n .index-size .result) (omega arith) (n .index-size .ensures) (omega arith)
+    scan-short (a .list .now) (a .store .now) (s .scannable .result) (s .scannable .ensures) (a .out .now)
+    (n .index-size .result) (omega arith) (n .index-size .ensures) (omega arith)
 
 returns-3 : tie.Need-returns-3
 returns-3 c =
     let n = c .before .before in
     let s = n .before .before in
     let a = s .before .before .before .before .args in
-    scan-large (a .list .now) (a .store .now) (s .scannable .result) (s .scannable .ensures) (a .out .now) (n .index-size .result) (omega arith) (n .index-size .ensures) (omega arith)
+    scan-large (a .list .now) (a .store .now) (s .scannable .result) (s .scannable .ensures) (a .out .now)
+    (n .index-size .result) (omega arith) (n .index-size .ensures) (omega arith)
 
 put-index-requires : tie.Need-put-index-requires
 put-index-requires c κs =
@@ -46,7 +48,8 @@ returns-4 c =
     let n = w .before .before .before .before in
     let s = n .before .before in
     let a = s .before .before .before .before .args in
-    scan-done (a .list .now) (a .store .now) (s .scannable .result) (s .scannable .ensures) (a .out .now) (n .index-size .result) (w .put-index .last .0) (omega arith) (n .index-size .ensures)
+    scan-done (a .list .now) (a .store .now) (s .scannable .result) (s .scannable .ensures) (a .out .now)
+    (n .index-size .result) (w .put-index .last .0) (omega arith) (n .index-size .ensures)
     (omega (arith, w .before .before .before .if2 .left)) (omega (arith, w .before .before .if3 .left)) (w .put-index .ensures)
 
 pub scan-spec : {M : Type 1} → statement M

@@ -19,7 +19,9 @@ index-size-requires c κs = search needs
 returns-2 : tie.Need-returns-2
 returns-2 c =
     let a = c .before .before .before .before .before .args in
-    size-done (a .list .now) (a .store .now) (c .before .before .scannable .result) (c .before .before .scannable .ensures) (c .index-size .result) (omega arith) (c .index-size .ensures)
+    let code = c .before .before .scannable in
+    let n = c .index-size in
+    size-done (a .list .now) (a .store .now) (code .result) (code .ensures) (n .result) (omega arith) (n .ensures)
 
 pub size-spec : {M : Type 1} → statement M
 size-spec = tie.close (tie.spec scannable-requires returns index-size-requires returns-2)
