@@ -1,7 +1,7 @@
 -- Counting and listing a file. The number of its occurrences does not hang on the file's number, nor on where it starts. Assumes nothing.
 use mathlib.Core.Path.{_≡_, refl, sym, ap, ap₂, _∙_, subst}
 use mathlib.Core.Bool.{Bool, true, false}
-use mathlib.Core.List.{List, [], _∷_}
+use mathlib.Core.List.{List, [], _∷_, _++_}
 use Prim.Native.Nat.{ℕ, zero, suc, _+_, _*_, _^_, _≤_, _<_}
 use native.Mathlib.Nat.{add-zero, add-suc, suc-add, suc-mul, mul-one, zero-lt-suc, mul-le-mul-left}
 use native.Mathlib.Omega.{arith}
@@ -20,16 +20,21 @@ use Rattle.walk.proofs.Places.{AllGood, place-ready, place-join}
 use Rattle.walk.proofs.Moves.{start-place, start-coming}
 
 pub walkable : (index : List ℕ) (directory entries : ℕ) (heads chain : List ℕ) (tables : List (List (List ℕ))) (file slots : List ℕ) (count : ℕ)
-    → Directory index directory entries heads chain → File index file slots → Keyed index count tables → Walkable index directory entries heads chain tables file slots count
+    → Directory index directory entries heads chain → File index file slots → Keyed index count tables
+    → Walkable index directory entries heads chain tables file slots count
 walkable index directory entries heads chain tables file slots count d f k = record { known = d; whole = f; keyed = k }
 
 -- ---- lengths
 
-length-match : {A : Type 0} (f g : ℕ → List A) (a b n : ℕ) → ((p : ℕ) → p < n → length (f (a + p)) ≡ length (g (b + p))) → length (each f a n) ≡ length (each g b n)
+length-match : {A : Type 0} (f g : ℕ → List A) (a b n : ℕ) → ((p : ℕ) → p < n → length (f (a + p)) ≡ length (g (b + p)))
+    → length (each f a n) ≡ length (each g b n)
 length-match f g a b zero h = refl
 length-match f g a b (suc n) h =
+    let first : length (f a) ≡ length (g b) = rw (add-zero, add-zero) at (h zero (zero-lt-suc n)) in
+    let others : (p : ℕ) → p < n → length (f (suc a + p)) ≡ length (g (suc b + p)) = λ p l.
+    rw (suc-add, ← add-suc, suc-add, ← add-suc) (h (suc p) (omega arith)) in
     length-append (f a) (each f (suc a) n)
-    ∙ ap₂ (λ (x y : ℕ). x + y) (rw (add-zero, add-zero) at (h zero (zero-lt-suc n))) (length-match f g (suc a) (suc b) n (λ p l. rw (suc-add, ← add-suc, suc-add, ← add-suc) (h (suc p) (omega arith))))
+    ∙ ap₂ (λ (x y : ℕ). x + y) first (length-match f g (suc a) (suc b) n others)
     ∙ sym (length-append (g b) (each g (suc b) n))
 
 length-keep : {A : Type 0} (b : Bool) (x y : A) → length (keep b x) ≡ length (keep b y)
@@ -40,7 +45,8 @@ hits-length : (file file′ count offset offset′ : ℕ) (t : ℕ → Bool) →
 unfolding hits
 hits-length file file′ count offset offset′ t = length-match _ _ 0 0 count (λ k l. length-keep (t (0 + k)) _ _)
 
-join-length : (keywords : List (List ℕ)) (chunks : List ChunkRecords) (file base file′ base′ : ℕ) → length (joinFrom file keywords base chunks) ≡ length (joinFrom file′ keywords base′ chunks)
+join-length : (keywords : List (List ℕ)) (chunks : List ChunkRecords) (file base file′ base′ : ℕ)
+    → length (joinFrom file keywords base chunks) ≡ length (joinFrom file′ keywords base′ chunks)
 unfolding joinFrom
 join-length keywords [] file base file′ base′ = refl
 join-length keywords (here ∷ rest) file base file′ base′ =
@@ -70,15 +76,16 @@ hits-most file count offset t =
     let f : ℕ → List Occurrence = λ k. keep (t k) (record { file = file; offset = offset; keyword = k }) in
     rw mul-one at (each-most f 1 0 count (λ k. keep-most (t k) (record { file = file; offset = offset; keyword = k })))
 
-join-most : (keywords : List (List ℕ)) (chunks : List ChunkRecords) (base : ℕ) → length keywords ≤ 16 → length (joinFrom 0 keywords base chunks) ≤ 16 * sizeOf chunks
+join-most : (keywords : List (List ℕ)) (chunks : List ChunkRecords) (base : ℕ) → length keywords ≤ 16
+    → length (joinFrom 0 keywords base chunks) ≤ 16 * sizeOf chunks
 unfolding joinFrom
 join-most keywords [] base few = omega arith
 join-most keywords (here ∷ rest) base few =
+    let f : ℕ → List Occurrence = λ at. hits 0 (length keywords) (listed keywords here rest at) (base + at) in
     omega (
       arith,
-      length-append (each (λ at. hits 0 (length keywords) (listed keywords here rest at) (base + at)) 0 (here .size)) (joinFrom 0 keywords (base + here .size) rest),
-      each-most (λ at. hits 0 (length keywords) (listed keywords here rest at) (base + at)) (length keywords) 0 (here .size)
-          (λ at. hits-most 0 (length keywords) (base + at) (listed keywords here rest at)),
+      length-append (each f 0 (here .size)) (joinFrom 0 keywords (base + here .size) rest),
+      each-most f (length keywords) 0 (here .size) (λ at. hits-most 0 (length keywords) (base + at) (listed keywords here rest at)),
       mul-le-mul-left {m = length keywords} {n = 16} (here .size) few,
       join-most keywords rest (base + here .size) few,
     )
@@ -92,10 +99,14 @@ count-few index count tables file slots k f =
 -- ---- while a file is counted: n places are
 
 abbrev pub Counting : List ℕ → List ChunkRecords → ℕ → ℕ → Type 0
-Counting index chunks n sum = sum + length (joinFrom 0 (foldedKeywords (listIn index)) 0 (drop n chunks)) ≡ length (joinFrom 0 (foldedKeywords (listIn index)) 0 chunks)
+Counting index chunks n sum =
+    sum + length (joinFrom 0 (foldedKeywords (listIn index)) 0 (drop n chunks))
+    ≡ length (joinFrom 0 (foldedKeywords (listIn index)) 0 chunks)
 
-module _ (index : List ℕ) (count : ℕ) (tables : List (List (List ℕ))) (chunks : List ChunkRecords) (keyed : Keyed index count tables) (good : AllGood (foldedKeywords (listIn index)) chunks)
-    (n : ℕ) (rows rows′ : List (List ℕ)) (size size′ : ℕ) (h : n < length chunks) (l : LoadedAt index count chunks n rows size) (l′ : LoadedAt index count chunks (n + 1) rows′ size′)
+module _ (index : List ℕ) (count : ℕ) (tables : List (List (List ℕ))) (chunks : List ChunkRecords) (keyed : Keyed index count tables)
+    (good : AllGood (foldedKeywords (listIn index)) chunks)
+    (n : ℕ) (rows rows′ : List (List ℕ)) (size size′ : ℕ) (h : n < length chunks)
+    (l : LoadedAt index count chunks n rows size) (l′ : LoadedAt index count chunks (n + 1) rows′ size′)
     (streams : List (List ℕ)) (c : Crossed size count tables rows rows′ streams) (sum : ℕ) (at : Counting index chunks n sum) where
   abbrev keywords : List (List ℕ)
   keywords = foldedKeywords (listIn index)
@@ -121,15 +132,28 @@ counting-end index file n sum h c =
 
 -- ---- while a list is written
 
+pub one-less : (o : Occurrence) (still rest : List Occurrence) → still ≡ o ∷ rest → length rest < length still
+one-less o still rest e = omega (arith, ap length e)
+
 module _ (out₀ out : List ℕ) (place p : ℕ) (whole rest : List Occurrence) (g : Going out₀ out place p (listBytes whole) (listBytes rest)) where
   pub list-room : (o : Occurrence) (rest′ : List Occurrence) → place + 9 * length whole ≤ length out₀ → rest ≡ o ∷ rest′ → p + 9 ≤ length out
   list-room o rest′ room e =
-      omega (arith, length-occurrence o, going-room out₀ out place p (listBytes whole) (listBytes rest) g (occurrenceBytes o) (listBytes rest′) (omega (arith, length-list whole)) (ap listBytes e ∙ list-cons o rest′))
+      let fits : place + length (listBytes whole) ≤ length out₀ = omega (arith, length-list whole) in
+      let first : listBytes rest ≡ occurrenceBytes o ++ listBytes rest′ = ap listBytes e ∙ list-cons o rest′ in
+      omega (
+        arith,
+        length-occurrence o,
+        going-room out₀ out place p (listBytes whole) (listBytes rest) g (occurrenceBytes o) (listBytes rest′) fits first,
+      )
 
-  pub list-on : (out′ : List ℕ) (o : Occurrence) (rest′ : List Occurrence) → place + 9 * length whole ≤ length out₀ → rest ≡ o ∷ rest′ → out′ ≡ splice out p (occurrenceBytes o)
+  pub list-on : (out′ : List ℕ) (o : Occurrence) (rest′ : List Occurrence) → place + 9 * length whole ≤ length out₀ → rest ≡ o ∷ rest′
+      → out′ ≡ splice out p (occurrenceBytes o)
       → Going out₀ out′ place (p + 9) (listBytes whole) (listBytes rest′)
   list-on out′ o rest′ room e w =
-      going-on out₀ out place p (listBytes whole) (listBytes rest) g out′ (occurrenceBytes o) (listBytes rest′) (p + 9) (omega (arith, length-list whole)) (ap listBytes e ∙ list-cons o rest′) (omega (arith, length-occurrence o)) w
+      let fits : place + length (listBytes whole) ≤ length out₀ = omega (arith, length-list whole) in
+      let first : listBytes rest ≡ occurrenceBytes o ++ listBytes rest′ = ap listBytes e ∙ list-cons o rest′ in
+      going-on out₀ out place p (listBytes whole) (listBytes rest) g out′ (occurrenceBytes o) (listBytes rest′) (p + 9)
+      fits first (omega (arith, length-occurrence o)) w
 
   none : rest ≡ [] → listBytes rest ≡ []
   none e = ap listBytes e ∙ list-nil
@@ -155,10 +179,11 @@ module _ (index file : List ℕ) (count : ℕ) (rows : List (List ℕ)) (size : 
   abbrev here : List ℕ
   here = set (replicate {A = ℕ} 4 0) 3 size
 
-  pub first-place : (slots : List ℕ) → count ≤ 16 → File index file slots → LoadedAt index count (chunksIn index file) 0 rows size → AtPlace index count (chunksIn index file) here zeros rows
+  pub first-place : (slots : List ℕ) → count ≤ 16 → File index file slots → LoadedAt index count (chunksIn index file) 0 rows size
+      → AtPlace index count (chunksIn index file) here zeros rows
   first-place slots few f l =
-      start-place index count (chunksIn index file) here zeros rows refl refl refl refl (omega (arith, length-replicate {A = List ℕ} 16 (replicate {A = ℕ} 5 0)))
-      (λ k h. zero-streams 16 k) (f .small) l
+      start-place index count (chunksIn index file) here zeros rows refl refl refl refl
+      (omega (arith, length-replicate {A = List ℕ} 16 (replicate {A = ℕ} 5 0))) (λ k h. zero-streams 16 k) (f .small) l
 
   pub first-going : (out : List ℕ) (place number : ℕ)
       → Going out out place place (listBytes (fileList number index file)) (listBytes (coming number index count (chunksIn index file) here zeros))

@@ -41,7 +41,8 @@ module _ (index file : List ℕ) where
   pub out-chunks : (n : ℕ) → length file / 20 ≤ n → length (chunksIn index file) ≤ n
   out-chunks n h = omega (arith, chunks-length)
 
-  pub chunk-at : (n : ℕ) → n < length file / 20 → chunkIn (chunksIn index file) n ≡ indexRecords form1 index (positionOf (part file (20 * n) 20) (indexKeys index))
+  pub chunk-at : (n : ℕ) → n < length file / 20
+      → chunkIn (chunksIn index file) n ≡ indexRecords form1 index (positionOf (part file (20 * n) 20) (indexKeys index))
   unfolding chunksIn fileRecords
   chunk-at n h =
       getD-map (λ key. indexRecords form1 index (positionOf key (indexKeys index))) (named file) n [] noChunk (rw (length-keys 20 (length file / 20) file) h)
@@ -50,13 +51,15 @@ module _ (index file : List ℕ) where
 -- ---- an entry of a checked index
 
 -- a record in range for each keyword
-range-at : (size : ℕ) (keywords : List (List ℕ)) (records : List MatchRecord) (k : ℕ) → allInRange size (map length keywords) records ≡ true → k < length keywords
+range-at : (size : ℕ) (keywords : List (List ℕ)) (records : List MatchRecord) (k : ℕ) → allInRange size (map length keywords) records ≡ true
+    → k < length keywords
     → inRange (length (keywordAt keywords k)) size (getD records k emptyRecord) ≡ true
 unfolding allInRange
 range-at size [] records k e h = let z : ⊥ = omega arith in absurd z
 range-at size (w ∷ keywords) [] k e h = absurd (false≢true e)
 range-at size (w ∷ keywords) (r ∷ records) zero e h = and-left (inRange (length w) size r) (allInRange size (map length keywords) records) e
-range-at size (w ∷ keywords) (r ∷ records) (suc k) e h = range-at size keywords records k (and-right (inRange (length w) size r) (allInRange size (map length keywords) records) e) (omega arith)
+range-at size (w ∷ keywords) (r ∷ records) (suc k) e h =
+    range-at size keywords records k (and-right (inRange (length w) size r) (allInRange size (map length keywords) records) e) (omega arith)
 
 module _ (index : List ℕ) (good : indexCode form1 index ≡ 0) where
   checked : IndexGood form1 index
@@ -66,7 +69,8 @@ module _ (index : List ℕ) (good : indexCode form1 index ≡ 0) where
   unfolding lengthsIn
   lengths-are = sym (folded-lengths (listIn index))
 
-  pub proper : (k : ℕ) → k < length (foldedKeywords (listIn index)) → (1 ≤ length (keywordAt (foldedKeywords (listIn index)) k)) × (length (keywordAt (foldedKeywords (listIn index)) k) ≤ 32)
+  pub proper : (k : ℕ) → k < length (foldedKeywords (listIn index))
+      → (1 ≤ length (keywordAt (foldedKeywords (listIn index)) k)) × (length (keywordAt (foldedKeywords (listIn index)) k) ≤ 32)
   proper k h = folded-proper (listIn index) (checked .list) k (omega (arith, folded-count (listIn index), accepted (listIn index) (checked .list) .count))
 
   positive : allPositive (lengthsIn index) ≡ true
@@ -102,18 +106,22 @@ module _ (index : List ℕ) (good : indexCode form1 index ≡ 0) where
         → count ≡ length (foldedKeywords (listIn index)) → count ≤ 16 → count ≤ length rows → Loadable index at len count rows
     unfolding bodyAt
     body-loadable at len count rows a l c few long =
+        let z : ℕ = sizeAt (indexLayout index) index e in
         record {
           few = few;
           long = long;
           inside = omega (arith, body-inside);
-          whole = rw (a, l, c, ← count-is) (good-body-fits (lengthsIn index) (sizeAt (indexLayout index) index e) (bodyAt index e) positive size-most body-good);
+          whole = rw (a, l, c, ← count-is) (good-body-fits (lengthsIn index) z (bodyAt index e) positive size-most body-good);
         }
 
     pub row-is : (at len count : ℕ) (rows : List (List ℕ)) → at ≡ offsetAt (indexLayout index) index e → len ≡ lengthAt (indexLayout index) index e
-        → count ≡ length (foldedKeywords (listIn index)) → Loaded index at len count rows → (k : ℕ) → k < count → Row index 2 (rowOf rows k) (recordAt (indexRecords form1 index e) k)
+        → count ≡ length (foldedKeywords (listIn index)) → Loaded index at len count rows → (k : ℕ) → k < count
+        → Row index 2 (rowOf rows k) (recordAt (indexRecords form1 index e) k)
     unfolding bodyAt indexRecords
     row-is at len count rows a l c r k h =
-        subst (Row index 2 (rowOf rows k)) (ap₂ (λ (n : ℕ) (body : List ℕ). getD (readBody form1 n body) k emptyRecord) (c ∙ sym count-is) (ap₂ (part index) a l)) (r .each k h)
+        subst (Row index 2 (rowOf rows k))
+        (ap₂ (λ (n : ℕ) (body : List ℕ). getD (readBody form1 n body) k emptyRecord) (c ∙ sym count-is) (ap₂ (part index) a l))
+        (r .each k h)
 
 -- ---- the directory
 
@@ -121,6 +129,9 @@ module _ (index : List ℕ) (directory entries : ℕ) (heads chain : List ℕ) (
   pub keys-are : keysFrom index directory 32 entries ≡ indexKeys index
   unfolding indexKeys indexLayout
   keys-are = rw (d .start, d .counts)
+
+  pub position-is : (key : List ℕ) (e : ℕ) → e ≡ positionOf key (keysFrom index directory 32 entries) → e ≡ positionOf key (indexKeys index)
+  position-is key e q = q ∙ ap (positionOf key) keys-are
 
   room : directory + 32 * entries ≤ length index
   unfolding indexLayout
@@ -152,24 +163,30 @@ module _ (index : List ℕ) (directory entries : ℕ) (heads chain : List ℕ) (
 
 -- ---- place n of a file
 
-module _ (index : List ℕ) (directory entries : ℕ) (heads chain file slots : List ℕ) (d : Directory index directory entries heads chain) (f : File index file slots) (n : ℕ) (h : n < length file / 20) where
+module _ (index : List ℕ) (directory entries : ℕ) (heads chain file slots : List ℕ) (d : Directory index directory entries heads chain)
+    (f : File index file slots) (n : ℕ) (h : n < length file / 20) where
   -- its entry, from its slot
   pub slot-is : n < length slots → getD slots n 0 ≡ positionOf (part file (20 * n) 20) (indexKeys index)
-  slot-is l = f .slotted .each n (rw (length-keys 20 (length file / 20) file) h) l ∙ ap (λ (key : List ℕ). positionOf key (indexKeys index)) (key-at 20 (length file / 20) n file h)
+  slot-is l =
+      f .slotted .each n (rw (length-keys 20 (length file / 20) file) h) l
+      ∙ ap (λ (key : List ℕ). positionOf key (indexKeys index)) (key-at 20 (length file / 20) n file h)
 
   module _ (e : ℕ) (entry-is : e ≡ positionOf (part file (20 * n) 20) (indexKeys index)) where
     pub entry-in : e < chunkCount index
     entry-in = omega (arith, entry-is, f .found n h)
 
-    pub place-loaded : (at len count size : ℕ) (rows : List (List ℕ)) → at ≡ fieldAt index (directory + 32 * e + 24) 4 → len ≡ fieldAt index (directory + 32 * e + 28) 4
+    pub place-loaded : (at len count size : ℕ) (rows : List (List ℕ)) → at ≡ fieldAt index (directory + 32 * e + 24) 4
+        → len ≡ fieldAt index (directory + 32 * e + 28) 4
         → size ≡ fieldAt index (directory + 32 * e + 20) 4 → count ≡ length (foldedKeywords (listIn index)) → Loaded index at len count rows
         → LoadedAt index count (chunksIn index file) n rows size
     place-loaded at len count size rows a l s c r =
         let q : chunkIn (chunksIn index file) n ≡ indexRecords form1 index e = chunk-at index file n h ∙ ap (indexRecords form1 index) (sym entry-is) in
         let m : n < length (chunksIn index file) = rw (chunks-length index file) h in
+        let offset = a ∙ offset-is index directory entries heads chain d e entry-in in
+        let length′ = l ∙ length-is index directory entries heads chain d e entry-in in
         let row : (k : ℕ) → k < count → Row index 2 (rowOf rows k) (recordAt (chunkIn (chunksIn index file) n) k) = λ k u.
         subst (λ (x : ChunkRecords). Row index 2 (rowOf rows k) (recordAt x k)) (sym q)
-        (row-is index (d .good) e entry-in at len count rows (a ∙ offset-is index directory entries heads chain d e entry-in) (l ∙ length-is index directory entries heads chain d e entry-in) c r k u) in
+        (row-is index (d .good) e entry-in at len count rows offset length′ c r k u) in
         record {
           long = r .long;
           sized = λ _. s ∙ size-is index directory entries heads chain d e entry-in ∙ ap (λ (x : ChunkRecords). x .size) (sym q);
@@ -183,7 +200,8 @@ zeros (suc n) zero = refl
 zeros (suc n) (suc k) = zeros n k
 
 -- behind the last place
-pub none-loaded : (index file : List ℕ) (n count size : ℕ) → length file / 20 ≤ n → count ≤ 16 → LoadedAt index count (chunksIn index file) n (replicate {A = List ℕ} 16 (replicate {A = ℕ} 4 0)) size
+pub none-loaded : (index file : List ℕ) (n count size : ℕ) → length file / 20 ≤ n → count ≤ 16
+    → LoadedAt index count (chunksIn index file) n (replicate {A = List ℕ} 16 (replicate {A = ℕ} 4 0)) size
 none-loaded index file n count size h few =
     let m : length (chunksIn index file) ≤ n = rw (chunks-length index file) h in
     record {

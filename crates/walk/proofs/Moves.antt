@@ -27,7 +27,8 @@ all-good index directory entries heads chain tables file slots count w =
       proper = proper index (w .known .good);
       ranges = λ n h k u.
           let m : n < length file / 20 = rw (chunks-length index file) at h in
-          subst (λ (c : ChunkRecords). inRange (length (keywordAt (foldedKeywords (listIn index)) k)) (c .size) (recordAt c k) ≡ true) (sym (chunk-at index file n m))
+          subst (λ (c : ChunkRecords). inRange (length (keywordAt (foldedKeywords (listIn index)) k)) (c .size) (recordAt c k) ≡ true)
+          (sym (chunk-at index file n m))
           (records-good index (w .known .good) _ (w .whole .found n m) k u);
       sizes = λ n h.
           let m : n < length file / 20 = rw (chunks-length index file) at h in
@@ -59,10 +60,17 @@ module _ (a b c d : ℕ) (l : List ℕ) (n : length l ≡ 4) where
   four-0 = getD-set-other l₃ 3 0 d 0 (λ e. omega arith) ∙ getD-set-same l₂ 0 a 0 (omega (arith, n₂))
 
   four-1 : getD (set l₃ 3 d) 1 0 ≡ b
-  four-1 = getD-set-other l₃ 3 1 d 0 (λ e. omega arith) ∙ getD-set-other l₂ 0 1 a 0 (λ e. omega arith) ∙ getD-set-other l₁ 2 1 c 0 (λ e. omega arith) ∙ getD-set-same l 1 b 0 (omega arith)
+  four-1 =
+      getD-set-other l₃ 3 1 d 0 (λ e. omega arith)
+      ∙ getD-set-other l₂ 0 1 a 0 (λ e. omega arith)
+      ∙ getD-set-other l₁ 2 1 c 0 (λ e. omega arith)
+      ∙ getD-set-same l 1 b 0 (omega arith)
 
   four-2 : getD (set l₃ 3 d) 2 0 ≡ c
-  four-2 = getD-set-other l₃ 3 2 d 0 (λ e. omega arith) ∙ getD-set-other l₂ 0 2 a 0 (λ e. omega arith) ∙ getD-set-same l₁ 2 c 0 (omega (arith, n₁))
+  four-2 =
+      getD-set-other l₃ 3 2 d 0 (λ e. omega arith)
+      ∙ getD-set-other l₂ 0 2 a 0 (λ e. omega arith)
+      ∙ getD-set-same l₁ 2 c 0 (omega (arith, n₁))
 
   four-3 : getD (set l₃ 3 d) 3 0 ≡ d
   four-3 = getD-set-same l₃ 3 d 0 (omega (arith, n₃))
@@ -71,13 +79,15 @@ module _ (a b c d : ℕ) (l : List ℕ) (n : length l ≡ 4) where
   four = length-set l₃ 3 d ∙ n₃
 
 -- the first of the chunks that are left
-pub size-next : (index : List ℕ) (count : ℕ) (chunks : List ChunkRecords) (n : ℕ) (rows : List (List ℕ)) (size : ℕ) → n < length chunks → LoadedAt index count chunks n rows size
+pub size-next : (index : List ℕ) (count : ℕ) (chunks : List ChunkRecords) (n : ℕ) (rows : List (List ℕ)) (size : ℕ) → n < length chunks
+    → LoadedAt index count chunks n rows size
     → sizeOf (drop n chunks) ≡ size + sizeOf (drop (n + 1) chunks)
 size-next index count chunks n rows size h l = rw (drop-cons chunks n noChunk h, add-one) (ap (λ (z : ℕ). z + sizeOf (drop (suc n) chunks)) (sym (l .sized h)))
 
 -- ---- moving on
 
-module _ (index : List ℕ) (count : ℕ) (tables : List (List (List ℕ))) (chunks : List ChunkRecords) (keyed : Keyed index count tables) (good : AllGood (foldedKeywords (listIn index)) chunks)
+module _ (index : List ℕ) (count : ℕ) (tables : List (List (List ℕ))) (chunks : List ChunkRecords) (keyed : Keyed index count tables)
+    (good : AllGood (foldedKeywords (listIn index)) chunks)
     (here : List ℕ) (streams rows : List (List ℕ)) (f : AtPlace index count chunks here streams rows) (more : getD here 0 0 < length chunks) where
   abbrev n : ℕ
   n = getD here 0 0
@@ -114,26 +124,33 @@ module _ (index : List ℕ) (count : ℕ) (tables : List (List (List ℕ))) (chu
               four = four (n + 1) b z size′ here (f .four);
               most = omega arith;
               held = subst (λ (x : ℕ). Held index 2 x count streams′) (sym e₂) (o .held);
-              ahead = subst (λ (x : ℕ). LoadedAt index count chunks x rows′ (getD here′ 3 0)) (sym e₀) (subst (λ (x : ℕ). LoadedAt index count chunks (n + 1) rows′ x) (sym e₃) l′);
+              ahead = subst (λ (x : ℕ). LoadedAt index count chunks x rows′ (getD here′ 3 0)) (sym e₀)
+                  (subst (λ (x : ℕ). LoadedAt index count chunks (n + 1) rows′ x) (sym e₃) l′);
               small = omega (arith, f .small, size-next index count chunks n rows z more (f .ahead), ap (λ (x : ℕ). sizeOf (drop x chunks)) e₀);
             };
             more = e₀;
             same = λ file.
-                ap (λ (x : ℕ). occurrences file count (getD here′ 1 0) (getD here′ 2 0) (streamAt index 2 (getD here′ 2 0) streams′) ++ joinFrom file keywords (getD here′ 1 0 + getD here′ 2 0) (drop x chunks)) e₀
-                ∙ ap (λ (x : ℕ). occurrences file count x (getD here′ 2 0) (streamAt index 2 (getD here′ 2 0) streams′) ++ joinFrom file keywords (x + getD here′ 2 0) (drop (n + 1) chunks)) e₁
-                ∙ ap (λ (x : ℕ). occurrences file count b x (streamAt index 2 x streams′) ++ joinFrom file keywords (b + x) (drop (n + 1) chunks)) e₂
-                ∙ ap {B = List Occurrence} (λ (l : List Occurrence). l ++ joinFrom file keywords (b + z) (drop (n + 1) chunks)) (occurrences-same file count b z _ _ (o .same))
+                let from : ℕ → ℕ → ℕ → List Occurrence = λ x y m.
+                occurrences file count y m (streamAt index 2 m streams′) ++ joinFrom file keywords (y + m) (drop x chunks) in
+                ap (λ (x : ℕ). from x (getD here′ 1 0) (getD here′ 2 0)) e₀
+                ∙ ap (λ (y : ℕ). from (n + 1) y (getD here′ 2 0)) e₁
+                ∙ ap (λ (m : ℕ). from (n + 1) b m) e₂
+                ∙ ap {B = List Occurrence} (λ (l : List Occurrence). l ++ joinFrom file keywords (b + z) (drop (n + 1) chunks))
+                (occurrences-same file count b z _ _ (o .same))
                 ∙ sym (place-join index count tables chunks keyed good n rows rows′ z size′ more (f .ahead) l′ crossed c file b);
           }
 
 -- ---- the next occurrence
 
-module _ (index : List ℕ) (count : ℕ) (chunks : List ChunkRecords) (here : List ℕ) (streams rows : List (List ℕ)) (f : AtPlace index count chunks here streams rows)
+module _ (index : List ℕ) (count : ℕ) (chunks : List ChunkRecords) (here : List ℕ) (streams rows : List (List ℕ))
+    (f : AtPlace index count chunks here streams rows)
     (streams′ : List (List ℕ)) (w o : ℕ) (t : NextTaken index 2 (getD here 2 0) count streams streams′ w o) where
   pub still : AtPlace index count chunks here streams′ rows
   still = record { four = f .four; most = f .most; held = t .held; ahead = f .ahead; small = f .small }
 
-  pub coming-none : getD here 2 0 ≤ o → (file : ℕ) → coming file index count chunks here streams ≡ joinFrom file (foldedKeywords (listIn index)) (getD here 1 0 + getD here 2 0) (drop (getD here 0 0) chunks)
+  pub coming-none : getD here 2 0 ≤ o → (file : ℕ)
+      → coming file index count chunks here streams
+      ≡ joinFrom file (foldedKeywords (listIn index)) (getD here 1 0 + getD here 2 0) (drop (getD here 0 0) chunks)
   unfolding coming
   coming-none h file = rw (t .ended h file (getD here 1 0))
 
@@ -142,7 +159,8 @@ module _ (index : List ℕ) (count : ℕ) (chunks : List ChunkRecords) (here : L
   unfolding coming
   coming-some h file = rw (t .found h file (getD here 1 0))
 
-  module _ (here₀ : List ℕ) (streams₀ : List (List ℕ)) (inv : (file : ℕ) → coming file index count chunks here₀ streams₀ ≡ coming file index count chunks here streams) where
+  module _ (here₀ : List ℕ) (streams₀ : List (List ℕ))
+      (inv : (file : ℕ) → coming file index count chunks here₀ streams₀ ≡ coming file index count chunks here streams) where
     pub next-taken : o < getD here 2 0 → NextOf index count chunks here₀ streams₀ here streams′ rows w (getD here 1 0 + o)
     next-taken h =
         record {
@@ -152,6 +170,11 @@ module _ (index : List ℕ) (count : ℕ) (chunks : List ChunkRecords) (here : L
           ended = λ u file. let z : ⊥ = omega (arith, t .named h) in absurd z;
         }
 
+    -- after a move what is to come is still what was
+    pub next-moved : getD here 2 0 ≤ o → (here′ : List ℕ) (streams″ rows′ : List (List ℕ)) → Moved index count chunks here here′ streams″ rows′
+        → (file : ℕ) → coming file index count chunks here₀ streams₀ ≡ coming file index count chunks here′ streams″
+    next-moved h here′ streams″ rows′ m file = inv file ∙ coming-none h file ∙ sym (m .same file)
+
     pub next-none : getD here 2 0 ≤ o → length chunks ≤ getD here 0 0 → NextOf index count chunks here₀ streams₀ here streams′ rows count 0
     unfolding joinFrom
     next-none h e =
@@ -159,13 +182,18 @@ module _ (index : List ℕ) (count : ℕ) (chunks : List ChunkRecords) (here : L
           at = still;
           found = λ u file. let z : ⊥ = omega arith in absurd z;
           small = λ u. let z : ⊥ = omega arith in absurd z;
-          ended = λ _ file. inv file ∙ coming-none h file ∙ ap (joinFrom file (foldedKeywords (listIn index)) (getD here 1 0 + getD here 2 0)) (drop-of-length-le chunks e);
+          ended = λ _ file.
+              inv file
+              ∙ coming-none h file
+              ∙ ap (joinFrom file (foldedKeywords (listIn index)) (getD here 1 0 + getD here 2 0)) (drop-of-length-le chunks e);
         }
 
 -- ---- before the first place
 
-pub start-place : (index : List ℕ) (count : ℕ) (chunks : List ChunkRecords) (here : List ℕ) (streams rows : List (List ℕ)) → length here ≡ 4 → getD here 0 0 ≡ 0 → getD here 1 0 ≡ 0 → getD here 2 0 ≡ 0
-    → count ≤ length streams → ((k : ℕ) → k < count → (getD (streamOf streams k) 1 0 ≡ 0) × (getD (streamOf streams k) 2 0 ≡ 0) × (getD (streamOf streams k) 4 0 ≡ 0))
+pub start-place : (index : List ℕ) (count : ℕ) (chunks : List ChunkRecords) (here : List ℕ) (streams rows : List (List ℕ)) → length here ≡ 4
+    → getD here 0 0 ≡ 0 → getD here 1 0 ≡ 0 → getD here 2 0 ≡ 0
+    → count ≤ length streams
+    → ((k : ℕ) → k < count → (getD (streamOf streams k) 1 0 ≡ 0) × (getD (streamOf streams k) 2 0 ≡ 0) × (getD (streamOf streams k) 4 0 ≡ 0))
     → sizeOf chunks < 2 ^ 32 → LoadedAt index count chunks 0 rows (getD here 3 0) → AtPlace index count chunks here streams rows
 unfolding stream
 start-place index count chunks here streams rows n e₀ e₁ e₂ long zero′ small l =
@@ -186,6 +214,7 @@ start-place index count chunks here streams rows n e₀ e₁ e₂ long zero′ s
     }
 
 pub start-coming : (file : ℕ) (index : List ℕ) (count : ℕ) (chunks : List ChunkRecords) (here : List ℕ) (streams : List (List ℕ))
-    → getD here 0 0 ≡ 0 → getD here 1 0 ≡ 0 → getD here 2 0 ≡ 0 → coming file index count chunks here streams ≡ joinFile file (foldedKeywords (listIn index)) chunks
+    → getD here 0 0 ≡ 0 → getD here 1 0 ≡ 0 → getD here 2 0 ≡ 0
+    → coming file index count chunks here streams ≡ joinFile file (foldedKeywords (listIn index)) chunks
 unfolding coming occurrences
 start-coming file index count chunks here streams e₀ e₁ e₂ = rw (e₀, e₁, e₂)

@@ -2,7 +2,7 @@
 use mathlib.Core.Path.{_≡_, refl, sym, ap, ap₂, _∙_}
 use mathlib.Core.Bool.{Bool, true, and-false}
 use mathlib.Core.List.{List, [], _∷_, _++_}
-use Prim.Native.Nat.{ℕ, suc, _+_, _-_, _≤_, _<_}
+use Prim.Native.Nat.{ℕ, suc, _+_, _-_, _^_, _≤_, _<_}
 use native.Mathlib.Nat.{add-zero, lt-of-lt-of-le}
 use native.Mathlib.Numerals.{add-one}
 use native.Mathlib.Omega.{arith}
@@ -39,28 +39,33 @@ pub record Crossing (size count : ℕ) (tables : List (List (List ℕ))) (here n
   pub long : count ≤ length streams
   pub all : many ≡ total streams k
   pub done : (m : ℕ) → m < k → streamOf streams m
-      ≡ size ∷ getD (rowOf here m) 2 0 ∷ getD (rowOf here m) 3 0 ∷ (size - getD (rowOf here m) 0 0) ∷ cellAt tables m (getD (rowOf here m) 0 0) (getD (rowOf next m) 1 0) ∷ []
+      ≡ size ∷ getD (rowOf here m) 2 0 ∷ getD (rowOf here m) 3 0 ∷ (size - getD (rowOf here m) 0 0)
+      ∷ cellAt tables m (getD (rowOf here m) 0 0) (getD (rowOf next m) 1 0) ∷ []
 
 module _ (size count : ℕ) (tables : List (List (List ℕ))) (here next : List (List ℕ)) where
   pub crossing-start : (streams : List (List ℕ)) → count ≤ length streams → Crossing size count tables here next streams 0 0
   crossing-start streams l = record { long = l; all = refl; done = λ m h. let z : ⊥ = omega arith in absurd z }
 
-  pub crossing-on : (streams : List (List ℕ)) (k x many m : ℕ) → Crossing size count tables here next streams k many → k < count → x ≡ cellAt tables k (getD (rowOf here k) 0 0) (getD (rowOf next k) 1 0)
+  pub crossing-on : (streams : List (List ℕ)) (k x many m : ℕ) → Crossing size count tables here next streams k many → k < count
+      → x ≡ cellAt tables k (getD (rowOf here k) 0 0) (getD (rowOf next k) 1 0)
       → m ≡ numbers (size ∷ getD (rowOf here k) 2 0 ∷ getD (rowOf here k) 3 0 ∷ (size - getD (rowOf here k) 0 0) ∷ x ∷ [])
-      → Crossing size count tables here next (set streams k (size ∷ getD (rowOf here k) 2 0 ∷ getD (rowOf here k) 3 0 ∷ (size - getD (rowOf here k) 0 0) ∷ x ∷ [])) (k + 1) (many + m)
+      → Crossing size count tables here next
+      (set streams k (size ∷ getD (rowOf here k) 2 0 ∷ getD (rowOf here k) 3 0 ∷ (size - getD (rowOf here k) 0 0) ∷ x ∷ [])) (k + 1) (many + m)
   crossing-on streams k x many m g h e q =
-      let new : List ℕ = size ∷ getD (rowOf here k) 2 0 ∷ getD (rowOf here k) 3 0 ∷ (size - getD (rowOf here k) 0 0) ∷ x ∷ [] in
+      let row : ℕ → ℕ → List ℕ = λ m y. size ∷ getD (rowOf here m) 2 0 ∷ getD (rowOf here m) 3 0 ∷ (size - getD (rowOf here m) 0 0) ∷ y ∷ [] in
+      let filled : ℕ → List ℕ = λ m. row m (cellAt tables m (getD (rowOf here m) 0 0) (getD (rowOf next m) 1 0)) in
+      let new : List ℕ = row k x in
       record {
         long = rw length-set (g .long);
         all = ap₂ (λ (y z : ℕ). y + z) (g .all) q ∙ sym (total-set streams k new (omega (arith, g .long)));
-        done = below-more (λ (m : ℕ). streamOf (set streams k new) m
-            ≡ size ∷ getD (rowOf here m) 2 0 ∷ getD (rowOf here m) 3 0 ∷ (size - getD (rowOf here m) 0 0) ∷ cellAt tables m (getD (rowOf here m) 0 0) (getD (rowOf next m) 1 0) ∷ []) k
+        done = below-more (λ (m : ℕ). streamOf (set streams k new) m ≡ filled m) k
             (λ m l. getD-set-other streams k m new [] (λ q. omega arith) ∙ g .done m l)
             (getD-set-same streams k new [] (omega (arith, g .long))
-            ∙ ap {B = List ℕ} (λ (y : ℕ). size ∷ getD (rowOf here k) 2 0 ∷ getD (rowOf here k) 3 0 ∷ (size - getD (rowOf here k) 0 0) ∷ y ∷ []) e);
+            ∙ ap {B = List ℕ} (row k) e);
       }
 
-  pub crossing-end : (streams : List (List ℕ)) (k many : ℕ) → Crossing size count tables here next streams k many → k ≡ count → Filled size count tables here next streams many
+  pub crossing-end : (streams : List (List ℕ)) (k many : ℕ) → Crossing size count tables here next streams k many → k ≡ count
+      → Filled size count tables here next streams many
   crossing-end streams k many g h = record { crossed = record { long = g .long; each = λ m l. g .done m (omega arith) }; all = g .all ∙ ap (total streams) h }
 
 -- ---- lists in range
@@ -75,10 +80,12 @@ stream-is w offsets i j size up under short small =
 listed-is : (keywords : List (List ℕ)) (here : ChunkRecords) (rest : List ChunkRecords) (p k : ℕ) → recordAt here k .prefix < length (keywordAt keywords k)
     → listed keywords here rest p k ≡ atPlace (keywordAt keywords k) (recordAt here k .offsets) (recordAt here k .prefix) (firstSuffix rest k) (here .size) p
 unfolding listed crosses
-listed-is keywords here [] p k h = rw (cell-no-suffix (keywordAt keywords k) (recordAt here k .prefix) (recordAt here k .prefix - (here .size - p)) h, and-false)
+listed-is keywords here [] p k h =
+    rw (cell-no-suffix (keywordAt keywords k) (recordAt here k .prefix) (recordAt here k .prefix - (here .size - p)) h, and-false)
 listed-is keywords here (next ∷ rest) p k h = refl
 
-pub occurrences-same : (file count base size : ℕ) (s t : ℕ → List ℕ) → ((k : ℕ) → k < count → s k ≡ t k) → occurrences file count base size s ≡ occurrences file count base size t
+pub occurrences-same : (file count base size : ℕ) (s t : ℕ → List ℕ) → ((k : ℕ) → k < count → s k ≡ t k)
+    → occurrences file count base size s ≡ occurrences file count base size t
 unfolding occurrences
 occurrences-same file count base size s t h = each-match _ _ 0 0 size (λ p l. hits-same file count (base + (0 + p)) _ _ (λ k hk. rw (h k hk)))
 
@@ -87,7 +94,8 @@ occurrences-are : (file count base size : ℕ) (s : ℕ → List ℕ) (t : ℕ �
     → occurrences file count base size s ≡ each (λ p. hits file count (λ k. t k p) (base + p)) 0 size
 unfolding occurrences
 occurrences-are file count base size s t h =
-    each-match _ _ 0 0 size (λ p l. hits-same file count (base + (0 + p)) _ _ (λ k hk. rw (h k hk) (member-passing (t k) (0 + p) 0 size (omega arith) (omega arith))))
+    each-match _ _ 0 0 size (λ p l.
+    hits-same file count (base + (0 + p)) _ _ (λ k hk. rw (h k hk) (member-passing (t k) (0 + p) 0 size (omega arith) (omega arith))))
 
 -- ---- a place
 
@@ -95,10 +103,12 @@ occurrences-are file count base size s t h =
 pub record AllGood (keywords : List (List ℕ)) (chunks : List ChunkRecords) : Type 0 where
   pub proper : (k : ℕ) → k < length keywords → (1 ≤ length (keywordAt keywords k)) × (length (keywordAt keywords k) ≤ 32)
   pub sizes : (n : ℕ) → n < length chunks → chunkIn chunks n .size ≤ 65535
-  pub ranges : (n : ℕ) → n < length chunks → (k : ℕ) → k < length keywords → inRange (length (keywordAt keywords k)) (chunkIn chunks n .size) (recordAt (chunkIn chunks n) k) ≡ true
+  pub ranges : (n : ℕ) → n < length chunks → (k : ℕ) → k < length keywords
+      → inRange (length (keywordAt keywords k)) (chunkIn chunks n .size) (recordAt (chunkIn chunks n) k) ≡ true
 
 module _ (keywords : List (List ℕ)) (chunks : List ChunkRecords) (good : AllGood keywords chunks) where
-  prefix-le : (n : ℕ) → n < length chunks → (k : ℕ) → k < length keywords → recordAt (chunkIn chunks n) k .prefix ≤ reach (length (keywordAt keywords k)) (chunkIn chunks n .size)
+  prefix-le : (n : ℕ) → n < length chunks → (k : ℕ) → k < length keywords
+      → recordAt (chunkIn chunks n) k .prefix ≤ reach (length (keywordAt keywords k)) (chunkIn chunks n .size)
   prefix-le n h k u = prefix-in (length (keywordAt keywords k)) (chunkIn chunks n .size) (recordAt (chunkIn chunks n) k) (good .ranges n h k u)
 
   prefix-small : (n : ℕ) → n < length chunks → (k : ℕ) → k < length keywords → recordAt (chunkIn chunks n) k .prefix < length (keywordAt keywords k)
@@ -112,14 +122,16 @@ module _ (keywords : List (List ℕ)) (chunks : List ChunkRecords) (good : AllGo
   suffix-one : (n : ℕ) → n < length chunks → (k : ℕ) → k < length keywords → recordAt (chunkIn chunks n) k .suffix < length (keywordAt keywords k)
   unfolding reach
   suffix-one n h k u =
-      omega (arith, suffix-in (length (keywordAt keywords k)) (chunkIn chunks n .size) (recordAt (chunkIn chunks n) k) (good .ranges n h k u), good .proper k u .0)
+      let c : ChunkRecords = chunkIn chunks n in
+      omega (arith, suffix-in (length (keywordAt keywords k)) (c .size) (recordAt c k) (good .ranges n h k u), good .proper k u .0)
 
   offsets-few : (n : ℕ) → n < length chunks → (k : ℕ) → k < length keywords → length (recordAt (chunkIn chunks n) k .offsets) ≤ chunkIn chunks n .size
   offsets-few n h k u =
       let w : ℕ = length (keywordAt keywords k) in
+      let c : ChunkRecords = chunkIn chunks n in
       let g = good .ranges n h k u in
-      offsets-count w (chunkIn chunks n .size) (recordAt (chunkIn chunks n) k .offsets) (good .proper k u .0) (offsets-rise w (chunkIn chunks n .size) (recordAt (chunkIn chunks n) k) g)
-      (offsets-in w (chunkIn chunks n .size) (recordAt (chunkIn chunks n) k) g)
+      offsets-count w (c .size) (recordAt c k .offsets) (good .proper k u .0)
+      (offsets-rise w (c .size) (recordAt c k) g) (offsets-in w (c .size) (recordAt c k) g)
 
   suffix-small : (n k : ℕ) → k < length keywords → firstSuffix (drop n chunks) k < length (keywordAt keywords k)
   suffix-small n k u = go (drop n chunks) refl
@@ -128,11 +140,14 @@ module _ (keywords : List (List ℕ)) (chunks : List ChunkRecords) (good : AllGo
       go [] e = omega (arith, good .proper k u .0)
       go (c ∷ l) e =
           let m : n < length chunks = omega (arith, ap length e, length-drop n chunks) in
-          let q : c ≡ chunkIn chunks n = ap (λ (x : List ChunkRecords). getD x 0 noChunk) (sym e) ∙ getD-drop n chunks 0 noChunk ∙ ap (λ (i : ℕ). getD chunks i noChunk) (add-zero n) in
+          let first : c ≡ getD (drop n chunks) 0 noChunk = ap (λ (x : List ChunkRecords). getD x 0 noChunk) (sym e) in
+          let q : c ≡ chunkIn chunks n = first ∙ getD-drop n chunks 0 noChunk ∙ ap (λ (i : ℕ). getD chunks i noChunk) (add-zero n) in
           rw q (suffix-one n m k u)
 
-module _ (index : List ℕ) (count : ℕ) (tables : List (List (List ℕ))) (chunks : List ChunkRecords) (keyed : Keyed index count tables) (good : AllGood (foldedKeywords (listIn index)) chunks)
-    (n : ℕ) (rows rows′ : List (List ℕ)) (size size′ : ℕ) (h : n < length chunks) (l : LoadedAt index count chunks n rows size) (l′ : LoadedAt index count chunks (n + 1) rows′ size′) where
+module _ (index : List ℕ) (count : ℕ) (tables : List (List (List ℕ))) (chunks : List ChunkRecords) (keyed : Keyed index count tables)
+    (good : AllGood (foldedKeywords (listIn index)) chunks)
+    (n : ℕ) (rows rows′ : List (List ℕ)) (size size′ : ℕ) (h : n < length chunks)
+    (l : LoadedAt index count chunks n rows size) (l′ : LoadedAt index count chunks (n + 1) rows′ size′) where
   abbrev keywords : List (List ℕ)
   keywords = foldedKeywords (listIn index)
 
@@ -166,6 +181,13 @@ module _ (index : List ℕ) (count : ℕ) (tables : List (List (List ℕ))) (chu
       (cell-at keywords tables (keyed .tabled) k (recordAt here k .prefix) (firstSuffix rest k) (omega (arith, keyed .few)) (good .proper k v .1)
       (prefix-small keywords chunks good n h k v) (suffix-small keywords chunks good (n + 1) k v))
 
+  cell-lt : (k : ℕ) → k < count → cellAt tables k (getD (rowOf rows k) 0 0) (getD (rowOf rows′ k) 1 0) < 2 ^ 32
+  cell-lt k u =
+      let v = in-keywords k u in
+      let i : ℕ = recordAt here k .prefix in
+      let short : i ≤ 32 = omega (arith, prefix-small keywords chunks good n h k v, good .proper k v .1) in
+      rw (cell-is k u) (lt-of-lt-of-le (set-lt (inCell (keywordAt keywords k) i (firstSuffix rest k)) i) (pow-mono {i = i} {j = 32} short))
+
   module _ (streams : List (List ℕ)) (c : Crossed size count tables rows rows′ streams) where
     unread-is : (k : ℕ) → k < count → unreadAt index 2 streams k ≡ passing (test k) 0 size
     unfolding unread
@@ -175,11 +197,14 @@ module _ (index : List ℕ) (count : ℕ) (tables : List (List (List ℕ))) (chu
         let g = good .ranges n h k v in
         let w : length (keywordAt keywords k) ≤ 32 = good .proper k v .1 in
         let p = prefix-small keywords chunks good n h k v in
+        let i : ℕ = recordAt here k .prefix in
+        let offsets : List ℕ = recordAt here k .offsets in
+        let z : ℕ = length (keywordAt keywords k) in
+        let up : rising offsets ≡ true = offsets-rise z (here .size) (recordAt here k) g in
+        let inside : allBelow (here .size - i) offsets ≡ true = below-prefix z (here .size) i offsets p (offsets-in z (here .size) (recordAt here k) g) in
         rw (c .each k u, r .offsets, cell-is k u, r .prefix)
-        (stream-is (keywordAt keywords k) (recordAt here k .offsets) (recordAt here k .prefix) (firstSuffix rest k) size
-        (offsets-rise (length (keywordAt keywords k)) (here .size) (recordAt here k) g)
-        (rw (l .sized h) (below-prefix (length (keywordAt keywords k)) (here .size) (recordAt here k .prefix) (recordAt here k .offsets) p (offsets-in (length (keywordAt keywords k)) (here .size) (recordAt here k) g)))
-        (rw (l .sized h) (prefix-short keywords chunks good n h k v)) (omega arith))
+        (stream-is (keywordAt keywords k) offsets i (firstSuffix rest k) size up
+        (rw (l .sized h) inside) (rw (l .sized h) (prefix-short keywords chunks good n h k v)) (omega arith))
 
     pub place-ready : Ready index 2 size count streams
     place-ready =
@@ -189,24 +214,30 @@ module _ (index : List ℕ) (count : ℕ) (tables : List (List (List ℕ))) (chu
             up = ap rising (unread-is k u) ∙ passing-rises (test k) 0 size;
             under = ap (below size) (unread-is k u) ∙ passing-every (test k) (λ x. ltb x size) 0 size (λ x a b t. leb-true (suc x) size (omega arith));
             inside = rw (c .each k u) (l .each k u h .inside);
-            set = rw (c .each k u, cell-is k u) (lt-of-lt-of-le (set-lt (inCell (keywordAt keywords k) (recordAt here k .prefix) (firstSuffix rest k)) (recordAt here k .prefix)) (pow-mono {i = recordAt here k .prefix} {j = 32} (omega (arith, prefix-small keywords chunks good n h k (in-keywords k u), good .proper k (in-keywords k u) .1))));
+            set = rw (c .each k u) (cell-lt k u);
           };
         }
 
-    place-is : (file base : ℕ) → occurrences file count base size (unreadAt index 2 streams) ≡ each (λ p. hits file (length keywords) (listed keywords here rest p) (base + p)) 0 size
+    place-is : (file base : ℕ)
+        → occurrences file count base size (unreadAt index 2 streams) ≡ each (λ p. hits file (length keywords) (listed keywords here rest p) (base + p)) 0 size
     place-is file base =
         occurrences-are file count base size _ test unread-is
         ∙ ap (λ (m : ℕ). each (λ p. hits file m (λ k. test k p) (base + p)) 0 size) (keyed .counts)
         ∙ each-match _ _ 0 0 size (λ x u. hits-same file (length keywords) (base + (0 + x)) _ _ (λ k v.
         sym (listed-is keywords here rest (0 + x) k (prefix-small keywords chunks good n h k v)
-        ∙ ap (λ (z : ℕ). atPlace (keywordAt keywords k) (recordAt here k .offsets) (recordAt here k .prefix) (firstSuffix rest k) z (0 + x)) (sym (l .sized h)))))
+        ∙ ap (λ (z : ℕ). atPlace (keywordAt keywords k) (recordAt here k .offsets) (recordAt here k .prefix) (firstSuffix rest k) z (0 + x))
+        (sym (l .sized h)))))
 
     -- what the definition lists from this place on: what the streams give, and then the places behind
-    pub place-join : (file base : ℕ) → joinFrom file keywords base (drop n chunks) ≡ occurrences file count base size (unreadAt index 2 streams) ++ joinFrom file keywords (base + size) (drop (n + 1) chunks)
+    pub place-join : (file base : ℕ)
+        → joinFrom file keywords base (drop n chunks)
+        ≡ occurrences file count base size (unreadAt index 2 streams) ++ joinFrom file keywords (base + size) (drop (n + 1) chunks)
     unfolding joinFrom
     place-join file base =
         let e : drop (suc n) chunks ≡ drop (n + 1) chunks = ap (λ (m : ℕ). drop m chunks) (sym (add-one n)) in
+        let from : List ChunkRecords → ℕ → List Occurrence = λ r z.
+        each (λ p. hits file (length keywords) (listed keywords here r p) (base + p)) 0 z ++ joinFrom file keywords (base + z) r in
         ap (joinFrom file keywords base) (drop-cons chunks n noChunk h)
-        ∙ ap {B = List Occurrence} (λ (r : List ChunkRecords). each (λ p. hits file (length keywords) (listed keywords here r p) (base + p)) 0 (here .size) ++ joinFrom file keywords (base + here .size) r) e
-        ∙ ap {B = List Occurrence} (λ (z : ℕ). each (λ p. hits file (length keywords) (listed keywords here rest p) (base + p)) 0 z ++ joinFrom file keywords (base + z) rest) (sym (l .sized h))
+        ∙ ap {B = List Occurrence} (λ (r : List ChunkRecords). from r (here .size)) e
+        ∙ ap {B = List Occurrence} (from rest) (sym (l .sized h))
         ∙ ap {B = List Occurrence} (λ (x : List Occurrence). x ++ joinFrom file keywords (base + size) rest) (sym (place-is file base))

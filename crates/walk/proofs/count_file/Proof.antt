@@ -2,9 +2,11 @@
 use Prim.Native.Nat.{_+_, _-_, _/_, _≤_}
 use native.Mathlib.Omega.{arith}
 use lib.ListN.{length}
+use Rattle.spec.specs.Keywords.{foldedKeywords}
+use Rattle.spec.specs.Index.{listIn}
 use Rattle.walk.specs.Walking.{chunksIn, LoadedAt}
 use Rattle.walk.proofs.Entries.{in-chunks, out-chunks}
-use Rattle.walk.proofs.Places.{crossable}
+use Rattle.walk.proofs.Places.{AllGood, crossable}
 use Rattle.walk.proofs.Moves.{all-good}
 use Rattle.walk.proofs.Counts.{walkable, count-few, Counting, counting-on, counting-end}
 use Rattle.walk.proofs.count_file.Statement.{statement}
@@ -22,8 +24,17 @@ abbrev μ-loop : tie.MeasureT-loop
 μ-loop index directory entries heads chain file slots count tables rows₀ streams₀ size₀ sum₀ n₀ rows streams size sum n =
     length file / 20 - n
 
+-- the file's chunks are in range
+ranges : (s : tie.Start Inv-loop μ-loop) → let a = s .args in AllGood (foldedKeywords (listIn (a .index .now))) (chunksIn (a .index .now) (a .file .now))
+ranges s =
+    let a = s .args in
+    let w = walkable (a .index .now) (a .directory) (a .entries) (a .heads .now) (a .chain .now) (a .tables .now) (a .file .now) (a .slots .now) (a .count)
+    (s .pre .0) (s .pre .1 .0) (s .pre .1 .1) in
+    all-good (a .index .now) (a .directory) (a .entries) (a .heads .now) (a .chain .now) (a .tables .now) (a .file .now) (a .slots .now) (a .count) w
+
 -- one more place is counted
-turn : (c : tie.After-cross Inv-loop μ-loop) → let p = c .before .before .before .before .before .before .before in let a = p .before .before .before .before .before .before .before .before .args in
+turn : (c : tie.After-cross Inv-loop μ-loop) → let p = c .before .before .before .before .before .before .before in
+    let a = p .before .before .before .before .before .before .before .before .args in
     Counting (a .index .now) (chunksIn (a .index .now) (a .file .now)) (p .loop .n + 1) (p .loop .sum + c .cross .result)
 turn c =
     let p = c .before .before .before .before .before .before .before in
@@ -32,10 +43,9 @@ turn c =
     let chunks = chunksIn (a .index .now) (a .file .now) in
     let t = c .before .before .before .before .load2 in
     let x = c .cross in
-    let good = all-good (a .index .now) (a .directory) (a .entries) (a .heads .now) (a .chain .now) (a .tables .now) (a .file .now) (a .slots .now) (a .count)
-    (walkable (a .index .now) (a .directory) (a .entries) (a .heads .now) (a .chain .now) (a .tables .now) (a .file .now) (a .slots .now) (a .count) (s .pre .0) (s .pre .1 .0) (s .pre .1 .1)) in
-    counting-on (a .index .now) (a .count) (a .tables .now) chunks (s .pre .1 .1) good (p .loop .n) (p .loop .rows) (t .last .1 .1 .1 .1 .1 .1 .1 .1 .1 .0) (p .loop .size) (t .result)
-    (in-chunks (a .index .now) (a .file .now) (p .loop .n) (c .before .before .before .before .before .before .loop-test .taken)) (p .loop .inv .2) (t .ensures)
+    let more = in-chunks (a .index .now) (a .file .now) (p .loop .n) (c .before .before .before .before .before .before .loop-test .taken) in
+    counting-on (a .index .now) (a .count) (a .tables .now) chunks (s .pre .1 .1) (ranges s)
+    (p .loop .n) (p .loop .rows) (t .last .1 .1 .1 .1 .1 .1 .1 .1 .1 .0) (p .loop .size) (t .result) more (p .loop .inv .2) (t .ensures)
     (x .last .1 .1 .1 .1 .1 .0) (x .ensures .crossed) (p .loop .sum) (p .loop .inv .3) (x .result) (x .ensures .all)
 
 load-requires : tie.Need-load-requires Inv-loop μ-loop
@@ -61,12 +71,11 @@ cross-requires c κs =
     let a = s .args in
     let chunks = chunksIn (a .index .now) (a .file .now) in
     let t = c .before .before .before .load2 in
-    let good = all-good (a .index .now) (a .directory) (a .entries) (a .heads .now) (a .chain .now) (a .tables .now) (a .file .now) (a .slots .now) (a .count)
-    (walkable (a .index .now) (a .directory) (a .entries) (a .heads .now) (a .chain .now) (a .tables .now) (a .file .now) (a .slots .now) (a .count) (s .pre .0) (s .pre .1 .0) (s .pre .1 .1)) in (
+    let more = in-chunks (a .index .now) (a .file .now) (p .loop .n) (c .before .before .before .before .before .loop-test .taken) in (
       s .pre .1 .1 .few,
       p .loop .inv .1,
-      crossable (a .index .now) (a .count) (a .tables .now) chunks (s .pre .1 .1) good (p .loop .n) (p .loop .rows) (t .last .1 .1 .1 .1 .1 .1 .1 .1 .1 .0) (p .loop .size) (t .result)
-          (in-chunks (a .index .now) (a .file .now) (p .loop .n) (c .before .before .before .before .before .loop-test .taken)) (p .loop .inv .2) (t .ensures),
+      crossable (a .index .now) (a .count) (a .tables .now) chunks (s .pre .1 .1) (ranges s)
+          (p .loop .n) (p .loop .rows) (t .last .1 .1 .1 .1 .1 .1 .1 .1 .1 .0) (p .loop .size) (t .result) more (p .loop .inv .2) (t .ensures),
     )
 
 add-sum : tie.Need-add-sum Inv-loop μ-loop
@@ -76,19 +85,27 @@ add-sum c =
     omega (arith, turn c, count-few (a .index .now) (a .count) (a .tables .now) (a .file .now) (a .slots .now) (s .pre .1 .1) (s .pre .1 .0))
 
 add-n : tie.Need-add-n Inv-loop μ-loop
-add-n c = omega (arith, c .before .before .before .before .before .before .loop-test .taken, c .before .before .before .before .before .before .before .before .before .before .before .before .before .before .before)
+add-n c =
+    let l = c .before .before .before .before .before .before in
+    omega (arith, l .loop-test .taken, l .before .before .before .before .before .before .before .before .before)
 
 loop-less : tie.Need-loop-less Inv-loop μ-loop
 loop-less c = omega (arith, c .before .before .before .before .before .before .loop-test .taken)
 
 loop-again : tie.Need-loop-again Inv-loop μ-loop
-loop-again c = (omega (arith, c .before .before .before .before .before .before .loop-test .taken), c .cross .ensures .crossed .long, c .before .before .before .before .load2 .ensures, turn c)
+loop-again c = (
+  omega (arith, c .before .before .before .before .before .before .loop-test .taken),
+  c .cross .ensures .crossed .long,
+  c .before .before .before .before .load2 .ensures,
+  turn c,
+)
 
 returns : tie.Need-returns Inv-loop μ-loop
 returns c = let p = c .before in
     let s = p .before .before .before .before .before .before .before .before in
     let a = s .args in
-    counting-end (a .index .now) (a .file .now) (p .loop .n) (p .loop .sum) (out-chunks (a .index .now) (a .file .now) (p .loop .n) (c .loop-test .left)) (p .loop .inv .3)
+    let past = out-chunks (a .index .now) (a .file .now) (p .loop .n) (c .loop-test .left) in
+    counting-end (a .index .now) (a .file .now) (p .loop .n) (p .loop .sum) past (p .loop .inv .3)
 
 pub count-file-spec : {M : Type 1} → statement M
 count-file-spec =

@@ -3,7 +3,6 @@ use Prim.Native.Nat.{_-_, _*_, _^_, _≤_}
 use native.Mathlib.Omega.{arith}
 use lib.Count.{ones-le}
 use Rattle.walk.proofs.Places.{Crossing, crossing-start, crossing-on, crossing-end}
-use borrow.Author.Needs.{needs}
 use Rattle.walk.proofs.cross.Statement.{statement}
 use Rattle.walk.proofs.cross.Tie as tie
 use Rattle.walk.proofs.cross.Reads as reads
@@ -23,7 +22,8 @@ few c =
     let l = c .before in
     let p = l .before .before .before .before .before .before .before in
     let w = l .before .before .wide in
-    omega (arith, c .offsets-in .ensures, p .before .pre .2 .few (p .loop .k) (l .before .before .before .before .before .before .loop-test .taken), ones-le 32 (w .result) (w .ensures .1))
+    let offsets = p .before .pre .2 .few (p .loop .k) (l .before .before .before .before .before .before .loop-test .taken) in
+    omega (arith, c .offsets-in .ensures, offsets, ones-le 32 (w .result) (w .ensures .1))
 
 loop-holds : tie.Need-loop-holds Inv-loop μ-loop
 loop-holds c = let a = c .args in
@@ -66,7 +66,7 @@ index-3-wide : tie.Need-index-3-wide Inv-loop μ-loop
 index-3-wide c = omega (arith, c .before .before .before .before .pre .2 .column (c .before .before .before .loop .k) (omega arith))
 
 wide-requires : tie.Need-wide-requires Inv-loop μ-loop
-wide-requires c κs = search needs
+wide-requires c κs = tt
 
 mul-at : tie.Need-mul-at Inv-loop μ-loop
 mul-at c = omega arith
@@ -87,7 +87,9 @@ index-2-left : tie.Need-index-2-left Inv-loop μ-loop
 index-2-left c = omega arith
 
 sub-many : tie.Need-sub-many Inv-loop μ-loop
-sub-many c = c .before .before .before .before .before .before .before .before .pre .2 .short (c .before .before .before .before .before .before .before .loop .k) (c .before .before .before .before .before .before .loop-test .taken)
+sub-many c =
+    let l = c .before .before .before .before .before .before in
+    l .before .before .pre .2 .short (l .before .loop .k) (l .loop-test .taken)
 
 mul-s : tie.Need-mul-s Inv-loop μ-loop
 mul-s c = omega arith
@@ -97,11 +99,13 @@ element-set-from-s c = omega arith
 
 offsets-in-requires : tie.Need-offsets-in-requires Inv-loop μ-loop
 offsets-in-requires c κs =
-    let p = c .before .before .before .before .before .before .before in
-    record { left = p .before .pre .2 .few (p .loop .k) (c .before .before .before .before .before .before .loop-test .taken); set = c .before .before .wide .ensures .1 }
+    let l = c .before .before .before .before .before .before in
+    record { left = l .before .before .pre .2 .few (l .before .loop .k) (l .loop-test .taken); set = c .before .before .wide .ensures .1 }
 
 add-many : tie.Need-add-many Inv-loop μ-loop
-add-many c = omega (arith, few c, c .before .before .before .before .before .before .before .before .loop .inv .2, c .before .before .before .before .before .before .before .before .before .pre .0)
+add-many c =
+    let p = c .before .before .before .before .before .before .before .before in
+    omega (arith, few c, p .loop .inv .2, p .before .pre .0)
 
 add-k : tie.Need-add-k Inv-loop μ-loop
 add-k c = omega arith
@@ -117,14 +121,16 @@ loop-again c =
     let t = l .before .before .before .before .before .before .loop-test .taken in
     let w = l .before .before .wide in (
       omega (arith, t),
-      crossing-on (a .size) (a .count) (a .tables .now) (a .here .now) (a .next .now) (p .loop .streams) (p .loop .k) (w .result) (p .loop .many) (c .offsets-in .result) (p .loop .inv .1) t (w .ensures .0) (c .offsets-in .ensures),
+      crossing-on (a .size) (a .count) (a .tables .now) (a .here .now) (a .next .now) (p .loop .streams) (p .loop .k) (w .result) (p .loop .many)
+          (c .offsets-in .result) (p .loop .inv .1) t (w .ensures .0) (c .offsets-in .ensures),
       omega (arith, few c, p .loop .inv .2),
     )
 
 returns : tie.Need-returns Inv-loop μ-loop
 returns c = let p = c .before in
     let a = p .before .args in
-    crossing-end (a .size) (a .count) (a .tables .now) (a .here .now) (a .next .now) (p .loop .streams) (p .loop .k) (p .loop .many) (p .loop .inv .1) (omega arith)
+    crossing-end (a .size) (a .count) (a .tables .now) (a .here .now) (a .next .now) (p .loop .streams) (p .loop .k) (p .loop .many)
+    (p .loop .inv .1) (omega arith)
 
 pub cross-spec : {M : Type 1} → statement M
 cross-spec =

@@ -1,19 +1,17 @@
 -- `walk::entry_at` meets its contract.
-use mathlib.Core.Path.{ap, _∙_}
 use Prim.Native.Nat.{_*_}
 use native.Mathlib.Omega.{arith}
 use denote.Ref.{now}
-use Rattle.spec.specs.Bytes.{part, positionOf}
-use Rattle.walk.proofs.Entries.{lies, keys-are, slot-is}
-use borrow.Author.Needs.{needs}
+use Rattle.spec.specs.Bytes.{part}
+use Rattle.walk.proofs.Entries.{lies, position-is, slot-is}
 use Rattle.walk.proofs.entry_at.Statement.{statement}
 use Rattle.walk.proofs.entry_at.Tie as tie
 
 mul-result : tie.Need-mul-result
-mul-result c = search needs
+mul-result c = omega arith
 
 shared-slice-read-result : tie.Need-shared-slice-read-result
-shared-slice-read-result c = search needs
+shared-slice-read-result c = omega (arith, c .before .if1 .taken)
 
 cast-result : tie.Need-cast-result
 cast-result c = omega (arith, c .shared-slice-known6 .given (c .before .before .before .before .before .before .before .args .n))
@@ -22,7 +20,8 @@ returns : tie.Need-returns
 returns c =
     let s = c .before .before .before .before .before .before .before in
     let a = s .args in
-    slot-is (now (a .index)) (a .directory) (a .entries) (now (a .heads)) (now (a .chain)) (now (a .file)) (now (a .slots)) (s .pre .0) (s .pre .1 .0) (a .n) (s .pre .1 .1) (c .before .if1 .taken)
+    slot-is (now (a .index)) (a .directory) (a .entries) (now (a .heads)) (now (a .chain)) (now (a .file)) (now (a .slots))
+    (s .pre .0) (s .pre .1 .0) (a .n) (s .pre .1 .1) (c .before .if1 .taken)
 
 entry-of-requires : tie.Need-entry-of-requires
 entry-of-requires c κs =
@@ -34,8 +33,8 @@ returns-2 : tie.Need-returns-2
 returns-2 c =
     let s = c .before .before .before .before .before .before .before in
     let a = s .args in
-    c .entry-of .ensures
-    ∙ ap (positionOf (part (now (a .file)) (20 * a .n) 20)) (keys-are (now (a .index)) (a .directory) (a .entries) (now (a .heads)) (now (a .chain)) (s .pre .0))
+    position-is (now (a .index)) (a .directory) (a .entries) (now (a .heads)) (now (a .chain)) (s .pre .0)
+    (part (now (a .file)) (20 * a .n) 20) (c .entry-of .result) (c .entry-of .ensures)
 
 pub entry-at-spec : {M : Type 1} → statement M
 entry-at-spec =

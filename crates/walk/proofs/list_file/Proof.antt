@@ -1,12 +1,10 @@
 -- `walk::list_file` meets its contract. The invariant: what is written and what is still to come are the whole list.
-use mathlib.Core.Path.{ap}
 use native.Mathlib.Omega.{arith}
 use lib.ListN.{length}
 use Rattle.spec.specs.Join.{Occurrence, listBytes}
 use Rattle.spec.proofs.Writing.{Going}
 use Rattle.walk.specs.Walking.{chunksIn, fileList, AtPlace, coming}
-use Rattle.walk.proofs.Counts.{walkable, first-place, first-going, list-room, list-on, list-bytes, list-ends}
-use borrow.Author.Needs.{needs}
+use Rattle.walk.proofs.Counts.{walkable, first-place, first-going, one-less, list-room, list-on, list-bytes, list-ends}
 use Rattle.walk.proofs.list_file.Statement.{statement}
 use Rattle.walk.proofs.list_file.Tie as tie
 use Rattle.walk.proofs.list_file.Reads as reads
@@ -29,20 +27,23 @@ load-requires c κs = let s = c .before .before .before .before .before .before 
     (s .pre .0, (s .pre .1 .0, (s .pre .1 .1 .0 .counts, s .pre .1 .1 .0 .few, s .pre .1 .1 .0 .few)))
 
 array-write-here : tie.Need-array-write-here Inv-loop μ-loop
-array-write-here c = search needs
+array-write-here c = omega arith
 
 loop-holds : tie.Need-loop-holds Inv-loop μ-loop
 loop-holds c = let s = c .before .before .before .before .before .before .before .before in
-    let a = s .args in (
-      first-place (a .index .now) (a .file .now) (a .count) (c .load .last .1 .1 .1 .1 .1 .1 .1 .1 .1 .0) (c .load .result) (a .slots .now) (s .pre .1 .1 .0 .few) (s .pre .1 .0) (c .load .ensures),
-      first-going (a .index .now) (a .file .now) (a .count) (c .load .last .1 .1 .1 .1 .1 .1 .1 .1 .1 .0) (c .load .result) (a .out .now) (a .place) (a .number),
+    let a = s .args in
+    let rows = c .load .last .1 .1 .1 .1 .1 .1 .1 .1 .1 .0 in (
+      first-place (a .index .now) (a .file .now) (a .count) rows (c .load .result) (a .slots .now) (s .pre .1 .1 .0 .few) (s .pre .1 .0) (c .load .ensures),
+      first-going (a .index .now) (a .file .now) (a .count) rows (c .load .result) (a .out .now) (a .place) (a .number),
     )
 
 next-requires : tie.Need-next-requires Inv-loop μ-loop
 next-requires c κs = let p = c .before .before .before in
     let s = p .before .before .before .before .before .before .before .before .before in
     let a = s .args in
-    ((walkable (a .index .now) (a .directory) (a .entries) (a .heads .now) (a .chain .now) (a .tables .now) (a .file .now) (a .slots .now) (a .count) (s .pre .0) (s .pre .1 .0) (s .pre .1 .1 .0)), p .loop .inv .0)
+    let w = walkable (a .index .now) (a .directory) (a .entries) (a .heads .now) (a .chain .now) (a .tables .now) (a .file .now) (a .slots .now) (a .count)
+    (s .pre .0) (s .pre .1 .0) (s .pre .1 .1 .0) in
+    (w, p .loop .inv .0)
 
 same-length : tie.Need-same-length Inv-loop μ-loop
 same-length c = c .before .before .before .before .before .before .loop .inv .1 .same
@@ -70,7 +71,8 @@ put-requires c κs = let p = c .before .before .before .before .before .before .
     let still = coming (a .number) (a .index .now) (a .count) chunks (p .loop .here) (p .loop .streams) in
     let rest = coming (a .number) (a .index .now) (a .count) chunks (n .last .1 .1 .1 .1 .1 .1 .1 .1 .1 .0) (n .last .1 .1 .1 .1 .1 .1 .1 .1 .1 .1 .0) in
     let taken : Occurrence = record { file = a .number; offset = n .result .offset; keyword = n .result .keyword } in
-    let room = list-room (a .out .now) (p .loop .out) (a .place) (p .loop .p) whole still (p .loop .inv .1) taken rest (s .pre .1 .1 .1) (n .ensures .found (c .before .if1 .left) (a .number)) in
+    let e = n .ensures .found (c .before .if1 .left) (a .number) in
+    let room = list-room (a .out .now) (p .loop .out) (a .place) (p .loop .p) whole still (p .loop .inv .1) taken rest (s .pre .1 .1 .1) e in
     (room, omega (arith, s .pre .1 .1 .0 .few, c .before .if1 .left))
 
 add-p : tie.Need-add-p Inv-loop μ-loop
@@ -84,14 +86,19 @@ add-p c = let p = c .before .before .before .before .before .before .before .bef
     let rest = coming (a .number) (a .index .now) (a .count) chunks (n .last .1 .1 .1 .1 .1 .1 .1 .1 .1 .0) (n .last .1 .1 .1 .1 .1 .1 .1 .1 .1 .1 .0) in
     let taken : Occurrence = record { file = a .number; offset = n .result .offset; keyword = n .result .keyword } in
     let e = n .ensures .found (c .before .before .before .before .if1 .left) (a .number) in
-    omega (arith, list-room (a .out .now) (p .loop .out) (a .place) (p .loop .p) whole still (p .loop .inv .1) taken rest (s .pre .1 .1 .1) e, p .loop .inv .1 .same, s)
+    let room = list-room (a .out .now) (p .loop .out) (a .place) (p .loop .p) whole still (p .loop .inv .1) taken rest (s .pre .1 .1 .1) e in
+    omega (arith, room, p .loop .inv .1 .same, s)
 
 loop-less : tie.Need-loop-less Inv-loop μ-loop
 loop-less c = let p = c .before .before .before .before .before .before .before .before .before .before in
     let s = p .before .before .before .before .before .before .before .before .before in
     let a = s .args in
+    let chunks = chunksIn (a .index .now) (a .file .now) in
     let n = c .before .before .before .before .before .before .next in
-    omega (arith, ap length (n .ensures .found (c .before .before .before .before .if1 .left) (a .number)))
+    let still = coming (a .number) (a .index .now) (a .count) chunks (p .loop .here) (p .loop .streams) in
+    let rest = coming (a .number) (a .index .now) (a .count) chunks (n .last .1 .1 .1 .1 .1 .1 .1 .1 .1 .0) (n .last .1 .1 .1 .1 .1 .1 .1 .1 .1 .1 .0) in
+    let taken : Occurrence = record { file = a .number; offset = n .result .offset; keyword = n .result .keyword } in
+    one-less taken still rest (n .ensures .found (c .before .before .before .before .if1 .left) (a .number))
 
 loop-again : tie.Need-loop-again Inv-loop μ-loop
 loop-again c = let p = c .before .before .before .before .before .before .before .before .before .before in
@@ -104,8 +111,10 @@ loop-again c = let p = c .before .before .before .before .before .before .before
     let rest = coming (a .number) (a .index .now) (a .count) chunks (n .last .1 .1 .1 .1 .1 .1 .1 .1 .1 .0) (n .last .1 .1 .1 .1 .1 .1 .1 .1 .1 .1 .0) in
     let taken : Occurrence = record { file = a .number; offset = n .result .offset; keyword = n .result .keyword } in
     let e = n .ensures .found (c .before .before .before .before .if1 .left) (a .number) in
-    let w = c .before .before .put in
-    (n .ensures .at, list-on (a .out .now) (p .loop .out) (a .place) (p .loop .p) whole still (p .loop .inv .1) (w .last .0) taken rest (s .pre .1 .1 .1) e (w .ensures))
+    let w = c .before .before .put in (
+      n .ensures .at,
+      list-on (a .out .now) (p .loop .out) (a .place) (p .loop .p) whole still (p .loop .inv .1) (w .last .0) taken rest (s .pre .1 .1 .1) e (w .ensures),
+    )
 
 pub list-file-spec : {M : Type 1} → statement M
 list-file-spec =

@@ -15,9 +15,11 @@ inside : (c : tie.After-entry-at) → let s = c .before .before .before .before 
 inside c =
     let s = c .before .before .before .before .before .before .before in
     let a = s .args in
-    entry-in (now (a .index)) (a .directory) (a .entries) (now (a .heads)) (now (a .chain)) (now (a .file)) (now (a .slots)) (s .pre .0) (s .pre .1 .0) (a .n) (c .before .if1 .left) (c .entry-at .result) (c .entry-at .ensures)
+    entry-in (now (a .index)) (a .directory) (a .entries) (now (a .heads)) (now (a .chain)) (now (a .file)) (now (a .slots))
+    (s .pre .0) (s .pre .1 .0) (a .n) (c .before .if1 .left) (c .entry-at .result) (c .entry-at .ensures)
 
-room : (c : tie.After-entry-at) → let s = c .before .before .before .before .before .before .before in s .args .directory + 32 * c .entry-at .result + 32 ≤ length (now (s .args .index))
+room : (c : tie.After-entry-at) → let a = c .before .before .before .before .before .before .before .args in
+    a .directory + 32 * c .entry-at .result + 32 ≤ length (now (a .index))
 room c =
     let s = c .before .before .before .before .before .before .before in
     let a = s .args in
@@ -67,7 +69,9 @@ load-requires : tie.Need-load-requires
 load-requires c κs = loadable (c .before)
 
 add-read-3 : tie.Need-add-read-3
-add-read-3 c = omega (arith, room (c .before .before .before .before), c .before .before .before .before .before .before .before .before .before .before .before)
+add-read-3 c =
+    let f = c .before .before .before .before in
+    omega (arith, room f, f .before .before .before .before .before .before .before)
 
 read-requires-3 : tie.Need-read-requires-3
 read-requires-3 c κs = omega (arith, room (c .before .before .before .before))
@@ -79,10 +83,13 @@ returns-2 c =
     let f = r .before .before in
     let s = f .before .before .before .before .before .before .before in
     let a = s .args in
-    place-loaded (now (a .index)) (a .directory) (a .entries) (now (a .heads)) (now (a .chain)) (now (a .file)) (now (a .slots)) (s .pre .0) (s .pre .1 .0) (a .n) (f .before .if1 .left) (f .entry-at .result) (f .entry-at .ensures)
-    (r .before .read .result) (r .read2 .result) (a .count) (c .read3 .result) (o .load .last .1 .1 .1 .1 .0)
-    (r .before .read .ensures) (r .read2 .ensures) (c .read3 .ensures) (s .pre .1 .1 .0)
-    (loaded (now (a .index)) (r .before .read .result) (r .read2 .result) (a .count) (now (a .rows)) (o .load .last .1 .1 .1 .1 .0) (loadable r) (o .load .ensures))
+    let at = r .before .read in
+    let len = r .read2 in
+    let rows = o .load .last .1 .1 .1 .1 .0 in
+    place-loaded (now (a .index)) (a .directory) (a .entries) (now (a .heads)) (now (a .chain)) (now (a .file)) (now (a .slots))
+    (s .pre .0) (s .pre .1 .0) (a .n) (f .before .if1 .left) (f .entry-at .result) (f .entry-at .ensures)
+    (at .result) (len .result) (a .count) (c .read3 .result) rows (at .ensures) (len .ensures) (c .read3 .ensures) (s .pre .1 .1 .0)
+    (loaded (now (a .index)) (at .result) (len .result) (a .count) (now (a .rows)) rows (loadable r) (o .load .ensures))
 
 pub load-spec : {M : Type 1} → statement M
 load-spec =

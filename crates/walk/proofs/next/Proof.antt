@@ -1,13 +1,12 @@
 -- `walk::next` meets its contract. The invariant: what is still to come is what was.
-use mathlib.Core.Path.{_≡_, refl, sym, _∙_}
+use mathlib.Core.Path.{_≡_, refl}
 use Prim.Native.Nat.{ℕ, _-_, _/_}
 use native.Mathlib.Omega.{arith}
 use lib.ListN.{length, getD}
 use Rattle.listing.proofs.Stepping.{NextTaken, next-taken as listing-taken}
 use Rattle.walk.specs.Walking.{chunksIn, AtPlace, coming}
 use Rattle.walk.proofs.Entries.{out-chunks}
-use Rattle.walk.proofs.Moves.{still, coming-none, next-taken, next-none}
-use borrow.Author.Needs.{needs}
+use Rattle.walk.proofs.Moves.{still, next-taken, next-moved, next-none}
 use Rattle.walk.proofs.next.Statement.{statement}
 use Rattle.walk.proofs.next.Tie as tie
 use Rattle.walk.proofs.next.Reads as reads
@@ -27,7 +26,8 @@ abbrev μ-loop : tie.MeasureT-loop
 -- the next occurrence of the open place is taken
 taken : (c : tie.After-next Inv-loop μ-loop) → let p = c .before .before .before in
     let a = p .before .before .before .before .before .before .args in
-    NextTaken (a .index .now) 2 (getD (p .loop .here) 2 0) (a .count) (p .loop .streams) (c .next .last .1 .1 .1 .1 .0) (c .next .result .keyword) (c .next .result .offset)
+    NextTaken (a .index .now) 2 (getD (p .loop .here) 2 0) (a .count) (p .loop .streams)
+    (c .next .last .1 .1 .1 .1 .0) (c .next .result .keyword) (c .next .result .offset)
 taken c =
     let p = c .before .before .before in
     let s = p .before .before .before .before .before .before in
@@ -39,7 +39,7 @@ loop-holds : tie.Need-loop-holds Inv-loop μ-loop
 loop-holds c = (c .before .before .before .before .before .pre .1, λ file. refl)
 
 element-copy-out-size : tie.Need-element-copy-out-size Inv-loop μ-loop
-element-copy-out-size c = search needs
+element-copy-out-size c = omega arith
 
 next-requires : tie.Need-next-requires Inv-loop μ-loop
 next-requires c κs = let p = c .before .before in
@@ -47,7 +47,7 @@ next-requires c κs = let p = c .before .before in
     (s .pre .0 .keyed .some, s .pre .0 .keyed .few, omega arith, p .loop .inv .0 .held)
 
 element-copy-out-t22 : tie.Need-element-copy-out-t22 Inv-loop μ-loop
-element-copy-out-t22 c = search needs
+element-copy-out-t22 c = omega arith
 
 add-t23 : tie.Need-add-t23 Inv-loop μ-loop
 add-t23 c = omega (arith, c .before .before .before .before .before .before .before .loop .inv .0 .small, c .before .before .if1 .taken)
@@ -63,7 +63,7 @@ returns c = let p = c .before .before .before .before .before .before .before in
     (a .here .now) (a .streams .now) (p .loop .inv .1) (c .before .before .if1 .taken)
 
 element-copy-out-if2 : tie.Need-element-copy-out-if2 Inv-loop μ-loop
-element-copy-out-if2 c = search needs
+element-copy-out-if2 c = omega arith
 
 returns-2 : tie.Need-returns-2 Inv-loop μ-loop
 returns-2 c = let p = c .before .before .before .before .before .before .before in
@@ -95,10 +95,13 @@ loop-again c = let p = c .before .before .before .before .before .before .before
     let a = s .args in
     let chunks = chunksIn (a .index .now) (a .file .now) in
     let t = c .before .before .before .before .before .before .before .before .next in
-    let none = coming-none (a .index .now) (a .count) chunks (p .loop .here) (p .loop .streams) (p .loop .rows) (p .loop .inv .0)
-    (t .last .1 .1 .1 .1 .0) (t .result .keyword) (t .result .offset) (taken (c .before .before .before .before .before .before .before .before))
-    (c .before .before .before .before .before .before .if1 .left) in
-    (c .move-on .ensures .at, λ file. p .loop .inv .1 file ∙ none file ∙ sym (c .move-on .ensures .same file))
+    let m = c .move-on in (
+      m .ensures .at,
+      next-moved (a .index .now) (a .count) chunks (p .loop .here) (p .loop .streams) (p .loop .rows) (p .loop .inv .0)
+          (t .last .1 .1 .1 .1 .0) (t .result .keyword) (t .result .offset) (taken (c .before .before .before .before .before .before .before .before))
+          (a .here .now) (a .streams .now) (p .loop .inv .1) (c .before .before .before .before .before .before .if1 .left)
+          (m .last .1 .1 .1 .1 .1 .1 .1 .1 .1 .0) (m .last .1 .1 .1 .1 .1 .1 .1 .1 .1 .1 .0) (m .last .1 .1 .1 .1 .1 .1 .1 .1 .1 .1 .1 .0) (m .ensures),
+    )
 
 pub next-spec : {M : Type 1} → statement M
 next-spec =
