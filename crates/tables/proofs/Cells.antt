@@ -28,7 +28,8 @@ use Rattle.tables.specs.Tabled.{cellSet, cellIn, cellsOf, tableOf, table
 
 -- ---- one start
 
-cell-split : (w : List ℕ) (i j s : ℕ) → i ≤ length w → s < i → inCell w i j s ≡ (begins (take (i - s) w) (drop s (take i w)) && begins (drop (i - s) w) (drop (length w - j) w))
+cell-split : (w : List ℕ) (i j s : ℕ) → i ≤ length w → s < i
+    → inCell w i j s ≡ (begins (take (i - s) w) (drop s (take i w)) && begins (drop (i - s) w) (drop (length w - j) w))
 unfolding crosses starts
 cell-split w i j s h l =
     let e : i - (i - s) ≡ s = omega arith in
@@ -42,12 +43,16 @@ module _ (flag : ℕ) (word : List ℕ) (i j s : ℕ) (hi : i < length word) (hj
       rw (take-all, folded-drop)
 
   pub in-cell-parts : inCell (folded flag word) i j s
-      ≡ (occursAt (folded flag (take (length word - (i - s)) (drop (i - s) word))) (folded flag (take (length word - (length word - j)) (drop (length word - j) word))) 0
+      ≡ (occursAt (folded flag (take (length word - (i - s)) (drop (i - s) word)))
+      (folded flag (take (length word - (length word - j)) (drop (length word - j) word))) 0
       && occursAt (folded flag (take (i - s) word)) (folded flag (take i word)) s)
   in-cell-parts =
-      let l : i ≤ length (folded flag word) = rw folded-length (omega arith) in
-      cell-split (folded flag word) i j s l hs
-      ∙ rw (tail-part (i - s), tail-part (length word - j), folded-take, folded-take, folded-length) (and-comm (begins (take (i - s) (folded flag word)) (drop s (take i (folded flag word)))) (begins (drop (i - s) (folded flag word)) (drop (length word - j) (folded flag word))))
+      let w = folded flag word in
+      let l : i ≤ length w = rw folded-length (omega arith) in
+      let front = begins (take (i - s) w) (drop s (take i w)) in
+      let back = begins (drop (i - s) w) (drop (length word - j) w) in
+      cell-split w i j s l hs
+      ∙ rw (tail-part (i - s), tail-part (length word - j), folded-take, folded-take, folded-length) (and-comm front back)
 
 -- ---- the set
 
@@ -70,12 +75,15 @@ set-beyond t m zero h = rw zero-add
 set-beyond t m (suc d) h = let e : suc d + m ≡ suc (d + m) = omega arith in rw (e, h (d + m) (omega arith), zero-mul, zero-add) (set-beyond t m d h)
 
 -- the keyword has room for the starts below i + j - n + 1 only
-pub cell-ends : (flag : ℕ) (word : List ℕ) (i j m : ℕ) → j < length word → m ≤ i → i + j < m + length word → setOf (inCell (folded flag word) i j) m ≡ cellSet (folded flag word) i j
+pub cell-ends : (flag : ℕ) (word : List ℕ) (i j m : ℕ) → j < length word → m ≤ i → i + j < m + length word
+    → setOf (inCell (folded flag word) i j) m ≡ cellSet (folded flag word) i j
 unfolding cellSet
 cell-ends flag word i j m hj l h =
+    let w = folded flag word in
     let n = folded-length flag word in
     let e : i - m + m ≡ i = omega arith in
-    sym (set-beyond (inCell (folded flag word) i j) m (i - m) (λ s u. cell-edge (folded flag word) i j s (omega (arith, n)) (omega (arith, n)))) ∙ ap (setOf (inCell (folded flag word) i j)) e
+    sym (set-beyond (inCell w i j) m (i - m) (λ s u. cell-edge w i j s (omega (arith, n)) (omega (arith, n))))
+    ∙ ap (setOf (inCell w i j)) e
 
 -- ---- the elements of the arrays
 

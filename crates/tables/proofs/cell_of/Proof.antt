@@ -1,6 +1,7 @@
 -- `tables::cell_of` meets its contract.
 use mathlib.Core.Path.{_≡_, refl, sym, ap, _∙_}
 use mathlib.Core.Logic.{⊎-elim}
+use mathlib.Core.Bool.{Bool, true, false}
 use Prim.Native.Nat.{ℕ, _+_, _-_, _*_, _%_, _^_, _≤_, _<_}
 use native.Mathlib.Omega.{arith}
 use lib.ListN.{length}
@@ -14,7 +15,8 @@ use Rattle.tables.proofs.cell_of.Lts as lts
 use Rattle.tables.proofs.in_cell.Reads as in-cell-reads
 
 abbrev Inv-loop : tie.InvT-loop
-Inv-loop flag keyword i j n ends set₀ s₀ set s = (s ≤ ends) × (ends ≤ i) × (i < 32) × (i + j < ends + length keyword) × (set ≡ setOf (inCell (folded flag keyword) i j) s)
+Inv-loop flag keyword i j n ends set₀ s₀ set s =
+    (s ≤ ends) × (ends ≤ i) × (i < 32) × (i + j < ends + length keyword) × (set ≡ setOf (inCell (folded flag keyword) i j) s)
 
 abbrev μ-loop : tie.MeasureT-loop
 μ-loop flag keyword i j n ends set₀ s₀ set s = ends - s
@@ -51,7 +53,16 @@ shl-set c = omega arith
 add-set : tie.Need-add-set Inv-loop μ-loop
 add-set c = let p = c .before .before .before in
     let a = p .before .before .before .args in
-    rw (shl-one (p .loop .s) (omega arith)) (record { fits = rw (p .loop .inv .4) (set-room (inCell (folded (a .flag) (a .keyword .now)) (a .i) (a .j)) (p .loop .s) (omega arith)) })
+    let t = inCell (folded (a .flag) (a .keyword .now)) (a .i) (a .j) in
+    rw (shl-one (p .loop .s) (omega arith)) (record { fits = rw (p .loop .inv .4) (set-room t (p .loop .s) (omega arith)) })
+
+-- a turn: the set with start s in it, and without, by the answer r
+turn-in : (t : ℕ → Bool) (s set next : ℕ) (r : Bool) → s < 32 → set ≡ setOf t s → r ≡ t s → r ≡ true
+    → next ≡ set + 1 * 2 ^ s % 4294967296 → next ≡ setOf t (s + 1)
+turn-in t s set next r h i e y n = n ∙ ap (λ (x : ℕ). x + 1 * 2 ^ s % 4294967296) i ∙ set-in t s h (sym e ∙ y)
+
+turn-out : (t : ℕ → Bool) (s set next : ℕ) (r : Bool) → set ≡ setOf t s → r ≡ t s → r ≡ false → next ≡ set → next ≡ setOf t (s + 1)
+turn-out t s set next r i e y n = n ∙ i ∙ set-out t s (sym e ∙ y)
 
 add-s : tie.Need-add-s Inv-loop μ-loop
 add-s c = omega arith
@@ -69,8 +80,8 @@ loop-again c = let p = c .before .before .before in
       omega arith,
       omega arith,
       ⊎-elim
-          (λ w. w .1 ∙ ap (λ (x : ℕ). x + 1 * 2 ^ (p .loop .s) % 4294967296) (p .loop .inv .4) ∙ set-in t (p .loop .s) (omega arith) (sym (r .ensures) ∙ w .0 .taken))
-          (λ w. w .1 ∙ p .loop .inv .4 ∙ set-out t (p .loop .s) (sym (r .ensures) ∙ w .0 .left))
+          (λ w. turn-in t (p .loop .s) (p .loop .set) _ (r .result) (omega arith) (p .loop .inv .4) (r .ensures) (w .0 .taken) (w .1))
+          (λ w. turn-out t (p .loop .s) (p .loop .set) _ (r .result) (p .loop .inv .4) (r .ensures) (w .0 .left) (w .1))
           (c .if2 .came),
     )
 

@@ -1,11 +1,7 @@
 -- `tables::in_cell` meets its contract.
-use mathlib.Core.Path.{sym, ap, _∙_}
+use mathlib.Core.Path.{_≡_, sym, ap, _∙_}
 use native.Mathlib.Omega.{arith}
-use Prim.Native.Nat.{_-_}
-use mathlib.Core.Bool.{Bool, _&&_}
-use Rattle.spec.specs.Bytes.{occursAt}
-use Rattle.spec.specs.Keywords.{folded}
-use lib.ListN.{take}
+use mathlib.Core.Bool.{Bool, true, false, _&&_}
 use lib.Seq.{length-take-le}
 use Rattle.tables.proofs.Cells.{in-cell-parts}
 use borrow.Author.Needs.{needs}
@@ -51,19 +47,26 @@ slice-aggregate-occurs-at-2 c = sym (length-take-le _ _ (omega arith))
 occurs-at-requires-2 : tie.Need-occurs-at-requires-2
 occurs-at-requires-2 c κs = search needs
 
+-- the two tests' answers are those of the cell: the second where the first is met, else no
+met : (x p q t r : Bool) → x ≡ (p && q) → t ≡ p → t ≡ true → r ≡ q → r ≡ x
+met x p q t r e f y g = g ∙ sym (e ∙ ap (λ (b : Bool). b && q) (sym f ∙ y))
+
+not-met : (x p q t : Bool) → x ≡ (p && q) → t ≡ p → t ≡ false → false ≡ x
+not-met x p q t e f n = sym (e ∙ ap (λ (b : Bool). b && q) (sym f ∙ n))
+
 returns : tie.Need-returns
 returns c = let s = c .before .before .before .before .before .before .before .before in
     let a = s .args in
     let t = c .before .before .before .before .occurs-at in
-    sym (in-cell-parts (a .flag) (a .keyword .now) (a .i) (a .j) (a .s) (s .pre .0) (s .pre .1) (s .pre .2)
-    ∙ ap (λ (b : Bool). b && occursAt (folded (a .flag) (take (a .i - a .s) (a .keyword .now))) (folded (a .flag) (take (a .i) (a .keyword .now))) (a .s)) (sym (t .ensures) ∙ c .before .before .before .if1 .taken)
-    ∙ sym (c .occurs-at2 .ensures))
+    let e = in-cell-parts (a .flag) (a .keyword .now) (a .i) (a .j) (a .s) (s .pre .0) (s .pre .1) (s .pre .2) in
+    met _ _ _ (t .result) (c .occurs-at2 .result) e (t .ensures) (c .before .before .before .if1 .taken) (c .occurs-at2 .ensures)
 
 returns-2 : tie.Need-returns-2
 returns-2 c = let s = c .before .before .before .before .before in
     let a = s .args in
-    sym (in-cell-parts (a .flag) (a .keyword .now) (a .i) (a .j) (a .s) (s .pre .0) (s .pre .1) (s .pre .2)
-    ∙ ap (λ (b : Bool). b && occursAt (folded (a .flag) (take (a .i - a .s) (a .keyword .now))) (folded (a .flag) (take (a .i) (a .keyword .now))) (a .s)) (sym (c .before .occurs-at .ensures) ∙ c .if1 .left))
+    let t = c .before .occurs-at in
+    let e = in-cell-parts (a .flag) (a .keyword .now) (a .i) (a .j) (a .s) (s .pre .0) (s .pre .1) (s .pre .2) in
+    not-met _ _ _ (t .result) e (t .ensures) (c .if1 .left)
 
 pub in-cell-spec : {M : Type 1} → statement M
 in-cell-spec =
