@@ -46,7 +46,8 @@ not-ltb a b = go (le-or-lt b a)
     go (inr h) = rw (lt-ltb a b h, lt-leb b a h)
 
 -- one place: `rest` are the sizes behind it
-roomy-step : (due j n size : ℕ) (rest : List ℕ) → suc j + length rest ≡ n → roomyFrom due j (size ∷ rest) ≡ (not (innerShort j n size due) && roomyFrom due (suc j) rest)
+roomy-step : (due j n size : ℕ) (rest : List ℕ) → suc j + length rest ≡ n
+    → roomyFrom due j (size ∷ rest) ≡ (not (innerShort j n size due) && roomyFrom due (suc j) rest)
 roomy-step due zero n size rest e = refl
 roomy-step due (suc j) n size [] e = rw (le-ltb (suc (suc j)) n (omega arith), and-false)
 roomy-step due (suc j) n size (t ∷ rest) e = rw (lt-ltb 0 (suc j) (omega arith), lt-ltb (suc (suc j)) n (omega arith), not-ltb size due)
@@ -89,18 +90,23 @@ module _ (keys : List (List ℕ)) (sizeOf : ℕ → ℕ) (due : ℕ) (file : Lis
 
   pub measuring-on : (j total : ℕ) (short : Bool) (slots : List ℕ) → Measuring j total short slots → (h : j < length file)
       → (k size : ℕ) → k ≡ positionOf (getD file j []) keys → k < length keys → size ≡ sizeOf k
-      → (more : ℕ) → more ≡ min (total + size) 4294967296 → (tight : Bool) → tight ≡ innerShort j (length file) size due → Measuring (j + 1) more (tight || short) (set slots j k)
+      → (more : ℕ) → more ≡ min (total + size) 4294967296 → (tight : Bool) → tight ≡ innerShort j (length file) size due
+      → Measuring (j + 1) more (tight || short) (set slots j k)
   measuring-on j total short slots m h k size e l s more f tight g =
-      let here : sizes (drop j file) ≡ size ∷ sizes (drop (j + 1) file) = rw (add-one, drop-cons file j [] h, ← e, ← s) in
-      let there : known (drop j file) ≡ known (drop (j + 1) file) = rw (add-one, drop-cons file j [] h, contains-position (getD file j []) keys, ← e, lt-ltb k (length keys) l) in
-      let behind : suc j + length (sizes (drop (j + 1) file)) ≡ length file = omega (arith, length-sizes (drop (j + 1) file), length-drop (j + 1) file) in
-      let step : roomyFrom due j (size ∷ sizes (drop (j + 1) file)) ≡ (not tight && roomyFrom due (j + 1) (sizes (drop (j + 1) file)))
+      let rest = drop (j + 1) file in
+      let here : sizes (drop j file) ≡ size ∷ sizes rest = rw (add-one, drop-cons file j [] h, ← e, ← s) in
+      let there : known (drop j file) ≡ known rest =
+      rw (add-one, drop-cons file j [] h, contains-position (getD file j []) keys, ← e, lt-ltb k (length keys) l) in
+      let behind : suc j + length (sizes rest) ≡ length file = omega (arith, length-sizes rest, length-drop (j + 1) file) in
+      let step : roomyFrom due j (size ∷ sizes rest) ≡ (not tight && roomyFrom due (j + 1) (sizes rest))
       = rw (g, add-one j) (roomy-step due j (length file) size (sizes (drop (suc j) file)) (rw add-one at behind)) in
+      let turn : (not tight && roomyFrom due (j + 1) (sizes rest)) ≡ roomyFrom due j (sizes (drop j file)) =
+      sym step ∙ ap (λ (x : List ℕ). roomyFrom due j x) (sym here) in
       record {
         found = sym there ∙ m .found;
         few = omega arith;
         long = omega (arith, ap sum here, m .long, f);
-        inner = or-not tight short (roomyFrom due (j + 1) (sizes (drop (j + 1) file))) ∙ ap (λ (x : Bool). not short && x) (sym step ∙ ap (λ (x : List ℕ). roomyFrom due j x) (sym here)) ∙ m .inner;
+        inner = or-not tight short (roomyFrom due (j + 1) (sizes rest)) ∙ ap (λ (x : Bool). not short && x) turn ∙ m .inner;
         slotted = filled-on keys file slots j h k e l ∙ m .slotted;
       }
 

@@ -51,7 +51,8 @@ module _ (file index : List ℕ) (start count due : ℕ) (slots₀ : List ℕ) (
       → (slots′ : List ℕ) → slots′ ≡ set slots j k → Measuring keys (sizesAt index start) due (named file) slots₀ (j + 1) more (tight || short) slots′
   place-on m h k size e l s more f tight g slots′ w =
       rw w
-      (measuring-on keys (sizesAt index start) due (named file) slots₀ j total short slots m (omega (arith, places)) k size (place-of k h e) (omega (arith, entries)) s more f tight (rw places g))
+      (measuring-on keys (sizesAt index start) due (named file) slots₀ j total short slots m (omega (arith, places))
+      k size (place-of k h e) (omega (arith, entries)) s more f tight (rw places g))
 
   pub place-end : Before → length file / 20 ≤ j → Measured keys (sizesAt index start) due (named file) slots₀ slots false total short
   place-end m h = measuring-end keys (sizesAt index start) due (named file) slots₀ j total short slots m (omega (arith, places))

@@ -79,7 +79,9 @@ module _ (keys : List (List ℕ)) where
   unfolding entriesIn
   entry-at [] e j h = absurd (not-suc-le-zero h)
   entry-at (p ∷ file) e zero h = rw (and-left (contains p keys) (known file) e)
-  entry-at (p ∷ file) e (suc j) h = rw (and-left (contains p keys) (known file) e) (entry-at file (and-right (contains p keys) (known file) e) j (le-of-suc-le-suc h))
+  entry-at (p ∷ file) e (suc j) h =
+      rw (and-left (contains p keys) (known file) e)
+      (entry-at file (and-right (contains p keys) (known file) e) j (le-of-suc-le-suc h))
 
   none-missing : (sizeOf : ℕ → ℕ) (due : ℕ) (file : List (List ℕ)) → fileCode keys sizeOf due file ≡ 0 → known file ≡ true
   unfolding fileCode
@@ -91,7 +93,8 @@ module _ (keys : List (List ℕ)) where
   slotted sizeOf due file slots₀ slots code t z =
       let n = none-missing sizeOf due file (sym (t .0) ∙ z) in
       let v = take (length slots₀) (entriesIn keys file) in
-      let s : length v ≡ min (length slots₀) (length file) = length-take (length slots₀) (entriesIn keys file) ∙ ap (min (length slots₀)) (length-entries file n) in
+      let s : length v ≡ min (length slots₀) (length file) =
+      length-take (length slots₀) (entriesIn keys file) ∙ ap (min (length slots₀)) (length-entries file n) in
       let w : length slots ≡ length slots₀ = ap length (t .1) ∙ length-splice slots₀ 0 v (omega arith) in
       let f : take (length v) slots ≡ v = ap (take (length v)) (t .1) ∙ splice-read slots₀ 0 v (omega arith) in
       record {

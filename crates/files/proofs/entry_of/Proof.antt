@@ -1,11 +1,11 @@
 -- `files::entry_of` meets its contract. Assumes nothing.
-use mathlib.Core.Path.{ap, _∙_}
+use mathlib.Core.Path.{_≡_, ap, _∙_}
 use mathlib.Core.List.{List}
-use Prim.Native.Nat.{ℕ, _*_}
+use Prim.Native.Nat.{ℕ, _+_, _-_, _*_}
 use native.Mathlib.Omega.{arith}
-use lib.ListN.{length-take, length-drop}
+use lib.ListN.{take, drop, length-take, length-drop}
 use denote.Ref.{now}
-use Rattle.spec.specs.Bytes.{positionOf}
+use Rattle.spec.specs.Bytes.{part, positionOf}
 use Rattle.files.specs.Measures.{keysAt}
 use Rattle.files.proofs.Places.{slice-part}
 use borrow.Author.Needs.{needs}
@@ -35,10 +35,15 @@ find-requires c κs =
     let s = c .before .before .before .before .before in
     (s .pre .0, (s .pre .1 .0, rw (length-take, length-drop) (omega (arith, s .pre .1 .1))))
 
+-- the place of the slice is that of the fingerprint
+place : (file : List ℕ) (at : ℕ) (keys : List (List ℕ)) (k : ℕ) → k ≡ positionOf (take (at + 20 - at) (drop at file)) keys
+    → k ≡ positionOf (part file at 20) keys
+place file at keys k e = e ∙ ap (λ (x : List ℕ). positionOf x keys) (slice-part file at)
+
 returns : tie.Need-returns
 returns c =
-    let s = c .before .before .before .before .before .before in
-    c .find .ensures ∙ ap (λ (x : List ℕ). positionOf x (keysAt (now (s .args .index)) (s .args .start) (s .args .count))) (slice-part (now (s .args .file)) (20 * s .args .j))
+    let a = c .before .before .before .before .before .before .args in
+    place (now (a .file)) (20 * a .j) (keysAt (now (a .index)) (a .start) (a .count)) (c .find .result) (c .find .ensures)
 
 pub entry-of-spec : {M : Type 1} → statement M
 entry-of-spec =

@@ -5,19 +5,27 @@ use Rattle.files.proofs.inner_short.Statement.{statement}
 use Rattle.files.proofs.inner_short.Tie as tie
 
 returns : tie.Need-returns
-returns c = inner-first (c .before .args .j) (c .before .args .n) (c .before .args .size) (c .before .args .due) (c .if1 .taken)
+returns c =
+    let a = c .before .args in
+    inner-first (a .j) (a .n) (a .size) (a .due) (c .if1 .taken)
 
 add-if2 : tie.Need-add-if2
 add-if2 c = search needs
 
 returns-2 : tie.Need-returns-2
-returns-2 c = inner-last (c .before .before .args .j) (c .before .before .args .n) (c .before .before .args .size) (c .before .before .args .due) (c .if2 .taken)
+returns-2 c =
+    let a = c .before .before .args in
+    inner-last (a .j) (a .n) (a .size) (a .due) (c .if2 .taken)
 
 returns-3 : tie.Need-returns-3
-returns-3 c = inner-long (c .before .before .before .args .j) (c .before .before .before .args .n) (c .before .before .before .args .size) (c .before .before .before .args .due) (c .if3 .taken)
+returns-3 c =
+    let a = c .before .before .before .args in
+    inner-long (a .j) (a .n) (a .size) (a .due) (c .if3 .taken)
 
 returns-4 : tie.Need-returns-4
-returns-4 c = inner-tight (c .before .before .before .args .j) (c .before .before .before .args .n) (c .before .before .before .args .size) (c .before .before .before .args .due) (c .before .before .if1 .left) (c .before .if2 .left) (c .if3 .left)
+returns-4 c =
+    let a = c .before .before .before .args in
+    inner-tight (a .j) (a .n) (a .size) (a .due) (c .before .before .if1 .left) (c .before .if2 .left) (c .if3 .left)
 
 pub inner-short-spec : {M : Type 1} → statement M
 inner-short-spec = tie.close (tie.spec returns add-if2 returns-2 returns-3 returns-4)

@@ -20,7 +20,12 @@ abbrev μ-loop : tie.MeasureT-loop
 loop-holds : tie.Need-loop-holds Inv-loop μ-loop
 loop-holds c =
     let a = c .before .before .before .before .before .args in
-    (omega arith, refl, refl, measuring-start (keysAt (now (a .index)) (a .start) (a .count)) (sizesAt (now (a .index)) (a .start)) (a .due) (named (now (a .file))) (now (a .slots)))
+    let index = now (a .index) in (
+      omega arith,
+      refl,
+      refl,
+      measuring-start (keysAt index (a .start) (a .count)) (sizesAt index (a .start)) (a .due) (named (now (a .file))) (now (a .slots)),
+    )
 
 entry-of-requires : tie.Need-entry-of-requires Inv-loop μ-loop
 entry-of-requires c κs =
@@ -36,7 +41,8 @@ returns c =
     let a = p .before .before .before .before .before .before .args in
     let l = p .loop in
     let e = c .before .entry-of in
-    place-missing (now (a .file)) (now (a .index)) (a .start) (a .count) (a .due) (now (a .slots)) (l .j) (l .total) (l .short) (l .slots) (l .inv .3) (omega arith) (e .result) (e .ensures) (c .if1 .taken)
+    place-missing (now (a .file)) (now (a .index)) (a .start) (a .count) (a .due) (now (a .slots))
+    (l .j) (l .total) (l .short) (l .slots) (l .inv .3) (omega arith) (e .result) (e .ensures) (c .if1 .taken)
 
 keep-requires : tie.Need-keep-requires Inv-loop μ-loop
 keep-requires c κs =
@@ -73,8 +79,10 @@ loop-again c =
       omega arith,
       l .inv .1,
       k .keep .kept .0 ∙ l .inv .2,
-      place-on (now (a .file)) (now (a .index)) (a .start) (a .count) (a .due) (now (a .slots)) (l .j) (l .total) (l .short) (l .slots) (l .inv .3) (omega arith) (f .result) (z .result) (f .ensures) (e .if1 .left) (z .ensures)
-          (t .result) (t .ensures) (c .inner-short .result) (c .inner-short .ensures) (k .keep .last .0) (k .keep .ensures),
+      place-on (now (a .file)) (now (a .index)) (a .start) (a .count) (a .due) (now (a .slots))
+          (l .j) (l .total) (l .short) (l .slots) (l .inv .3) (omega arith)
+          (f .result) (z .result) (f .ensures) (e .if1 .left) (z .ensures) (t .result) (t .ensures)
+          (c .inner-short .result) (c .inner-short .ensures) (k .keep .last .0) (k .keep .ensures),
     )
 
 same-length-2 : tie.Need-same-length-2 Inv-loop μ-loop
