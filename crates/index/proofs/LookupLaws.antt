@@ -16,7 +16,8 @@ use Rattle.spec.specs.declared.Outcome.{Outcome}
 use Rattle.spec.specs.declared.Outcome.the-variants.{Done, Refused}
 use Rattle.spec.specs.Outcome.{answer}
 use Rattle.spec.specs.Lookup.{findBody, bodyStart, bodyLength, bodyOf}
-use Rattle.spec.proofs.LookupLaws.{refuses, finds, done-code, refused-number, lookup-refused, lookup-length, lookup-none, lookup-found, lookup-passed, start-found, length-found, start-refused, length-refused}
+use Rattle.spec.proofs.LookupLaws.{refuses, finds, done-code, refused-number, lookup-refused, lookup-length, lookup-none, lookup-found}
+use Rattle.spec.proofs.LookupLaws.{lookup-passed, start-found, length-found, start-refused, length-refused}
 use Rattle.spec.proofs.KeywordLaws.{accepted}
 use Rattle.spec.proofs.IndexChecks.{index-good, length-indexKeys}
 use Rattle.directory.specs.Chains.{keysFrom, Lies}

@@ -85,12 +85,13 @@ module _ (index : List ℕ) (start count : ℕ) (o : Opened index start count) w
   pub laid : directoryCode index ≡ 0 → Laid index start count
   unfolding directoryCode
   laid e =
-      let a = passed (ltb (length index) (directoryEnd (indexLayout index) (chunkCount index))) 11 _ (omega arith) e in
-      let b = passed-whole (entriesCode (indexLayout index) index 65535 11 (chunkCount index) 0 (directoryEnd (indexLayout index) (chunkCount index))) 0 (a .1) .0 in
-      let g = entries-good (indexLayout index) index 65535 11 (omega arith) (chunkCount index) 0 (directoryEnd (indexLayout index) (chunkCount index)) b in
+      let end = directoryEnd (indexLayout index) (chunkCount index) in
+      let a = passed (ltb (length index) end) 11 _ (omega arith) e in
+      let b = passed-whole (entriesCode (indexLayout index) index 65535 11 (chunkCount index) 0 end) 0 (a .1) .0 in
+      let g = entries-good (indexLayout index) index 65535 11 (omega arith) (chunkCount index) 0 end b in
       record {
         opened = o;
-        room = rw end-is (ltb-false (length index) (directoryEnd (indexLayout index) (chunkCount index)) (a .0));
+        room = rw end-is (ltb-false (length index) end (a .0));
         sizes = λ e h. g .sized e (omega arith) (omega (arith, o .counts)) .1;
         ends = λ e h. g .within e (omega arith) (omega (arith, o .counts)) .1;
       }
@@ -98,8 +99,10 @@ module _ (index : List ℕ) (start count : ℕ) (o : Opened index start count) w
 -- ---- the bodies
 
 -- what the body check of an entry's fields says
-module _ (index : List ℕ) (start count : ℕ) (l : Laid index start count) (words : ℕ) (lens : List ℕ) (k : Lens index words lens) (e size at n : ℕ) (h : e < count)
-    (sizes : size ≡ fieldAt index (start + 32 * e + 20) 4) (offsets : at ≡ fieldAt index (start + 32 * e + 24) 4) (lengths : n ≡ fieldAt index (start + 32 * e + 28) 4) where
+module _ (index : List ℕ) (start count : ℕ) (l : Laid index start count) (words : ℕ) (lens : List ℕ) (k : Lens index words lens)
+    (e size at n : ℕ) (h : e < count)
+    (sizes : size ≡ fieldAt index (start + 32 * e + 20) 4) (offsets : at ≡ fieldAt index (start + 32 * e + 24) 4)
+    (lengths : n ≡ fieldAt index (start + 32 * e + 28) 4) where
   size-in : size ≡ sizeAt (indexLayout index) index e
   unfolding indexLayout
   size-in = sizes ∙ field-is index start count (l .opened) 20 e

@@ -29,7 +29,8 @@ entry-good-requires c κs = (c .before .before .before .before .pre .0, c .loop-
 returns : tie.Need-returns Inv-loop μ-loop
 returns c =
     let s = c .before .before .before .before .before .before in
-    all-no (now (s .args .index)) (c .before .before .before .loop .e) (omega (arith, s .pre .0 .opened .counts)) (sym (c .before .entry-good .ensures) ∙ not-true _ (c .if1 .taken))
+    let bad = sym (c .before .entry-good .ensures) ∙ not-true _ (c .if1 .taken) in
+    all-no (now (s .args .index)) (c .before .before .before .loop .e) (omega (arith, s .pre .0 .opened .counts)) bad
 
 add-e : tie.Need-add-e Inv-loop μ-loop
 add-e c = search needs
@@ -41,7 +42,8 @@ loop-again : tie.Need-loop-again Inv-loop μ-loop
 loop-again c =
     let at = c .before .before .before in
     let index = now (at .before .before .before .args .index) in
-    (omega arith, below-more (λ (k : ℕ). goodAt form1 index k ≡ true) (at .loop .e) (at .loop .inv .1) (sym (c .before .entry-good .ensures) ∙ not-false _ (c .if1 .left)))
+    let good = sym (c .before .entry-good .ensures) ∙ not-false _ (c .if1 .left) in
+    (omega arith, below-more (λ (k : ℕ). goodAt form1 index k ≡ true) (at .loop .e) (at .loop .inv .1) good)
 
 returns-2 : tie.Need-returns-2 Inv-loop μ-loop
 returns-2 c =

@@ -54,10 +54,13 @@ returns-2 : tie.Need-returns-2
 returns-2 c =
     let called = c .before .before .before in
     let a = called .before .before .before .args in
-    let d = told-refused (now (a .index)) (now (a .fp)) (c .before .enum-told .given .0 .0) (sym (c .before .enum-told .given .1) ∙ called .locate .ensures) .1 in (
-      slice-none (now (a .index)) (now (a .fp)) d,
+    let index = now (a .index) in
+    let fp = now (a .fp) in
+    let refused = c .before .enum-told .given in
+    let d = told-refused index fp (refused .0 .0) (sym (refused .1) ∙ called .locate .ensures) .1 in (
+      slice-none index fp d,
       refl,
-      sym (zero-add (a .index .ptr .1)) ∙ ap (λ (n : ℕ). n + a .index .ptr .1) (start-none (now (a .index)) (now (a .fp)) d),
+      sym (zero-add (a .index .ptr .1)) ∙ ap (λ (n : ℕ). n + a .index .ptr .1) (start-none index fp d),
     )
 
 pub body-spec : {M : Type 1} → statement M

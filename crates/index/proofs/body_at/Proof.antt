@@ -12,9 +12,10 @@ use Rattle.index.proofs.body_at.Tie as tie
 -- the body lies in the index
 room : (c : tie.After-entry-field2) → c .before .entry-field .result + c .entry-field2 .result ≤ length (now (c .before .before .before .args .index))
 room c =
-    let first = c .before in
-    let s = first .before .before in
-    body-room (now (s .args .index)) (s .args .k) (s .pre) (first .entry-field .result) (c .entry-field2 .result) (first .entry-field .ensures) (c .entry-field2 .ensures)
+    let one = c .before .entry-field in
+    let two = c .entry-field2 in
+    let s = c .before .before .before in
+    body-room (now (s .args .index)) (s .args .k) (s .pre) (one .result) (two .result) (one .ensures) (two .ensures)
 
 entry-field-requires : tie.Need-entry-field-requires
 entry-field-requires c κs = search needs

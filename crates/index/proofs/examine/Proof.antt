@@ -12,7 +12,8 @@ use Rattle.keywords.specs.Parsed.{Parsed}
 use Rattle.directory.proofs.ChainLists.{Built}
 use Rattle.index.specs.Stages.{headerCode, directoryCode, laidCode, Opened, Laid}
 use Rattle.index.proofs.StageLaws.{header-passed, laid, built-of}
-use Rattle.index.proofs.CheckLaws.{header-stops, list-stops, directory-stops, refused-early, twin-told, body-told, all-told, list-is, listed, opened, lens}
+use Rattle.index.proofs.CheckLaws.{header-stops, list-stops, directory-stops, refused-early, twin-told, body-told, all-told}
+use Rattle.index.proofs.CheckLaws.{list-is, listed, opened, lens}
 use Rattle.index.proofs.examine.Statement.{statement}
 use Rattle.index.proofs.examine.Tie as tie
 

@@ -7,7 +7,7 @@ use denote.Ref.{now}
 use Rattle.spec.specs.Bytes.{positionOf}
 use Rattle.spec.specs.Records.{form1}
 use Rattle.spec.specs.Index.{indexKeys, indexCode}
-use Rattle.directory.specs.Chains.{Chained}
+use Rattle.directory.specs.Chains.{keysFrom, Chained}
 use Rattle.directory.proofs.ChainLaws.{zeros}
 use Rattle.index.proofs.CheckLaws.{index-chains}
 use Rattle.index.proofs.LookupLaws.{header-there, lies-in, keys-in, refused-check, refused-length, refused-none, found-at}
@@ -23,16 +23,21 @@ behind-check c = c .before .before .before .before .before .before
 passed : (c : tie.Else1) → indexCode form1 (now (c .before .before .before .before .before .before .before .before .args .index)) ≡ 0
 passed c = sym (c .before .before .before .examine .ensures .0) ∙ c .if1 .left
 
+-- the place among the fingerprints of the directory is that among the index's
+placed-in : (index fp : List ℕ) (start count k : ℕ) → keysFrom index start 32 count ≡ indexKeys index
+    → k ≡ positionOf fp (keysFrom index start 32 count) → k ≡ positionOf fp (indexKeys index)
+placed-in index fp start count k e p = p ∙ ap (positionOf fp) e
+
 -- the fingerprint's place
 placed : (c : tie.After-find)
     → let a = behind-check c .before .before .before .before .before .before .before .before .args in
     c .find .result ≡ positionOf (now (a .fp)) (indexKeys (now (a .index)))
 placed c =
-    let counted = c .before .before .before in
+    let n = c .before .before .before .count in
+    let s = c .before .before .before .before .start-of in
     let a = behind-check c .before .before .before .before .before .before .before .before .args in
-    c .find .ensures
-    ∙ ap (positionOf (now (a .fp)))
-    (keys-in (now (a .index)) (passed (behind-check c)) (counted .before .start-of .result) (counted .count .result) (counted .before .start-of .ensures) (counted .count .ensures))
+    let e = keys-in (now (a .index)) (passed (behind-check c)) (s .result) (n .result) (s .ensures) (n .ensures) in
+    placed-in (now (a .index)) (now (a .fp)) (s .result) (n .result) (c .find .result) e (c .find .ensures)
 
 -- the arrays hold the chains of its fingerprints
 chains : (c : tie.Else1)
