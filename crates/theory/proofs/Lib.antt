@@ -8,3 +8,5 @@ pub mod RecordTheorems
 pub mod ListRead
 pub mod WrittenBytes
 pub mod SearchLaws
+pub mod AnyOrder
+pub mod Moved

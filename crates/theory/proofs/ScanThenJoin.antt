@@ -31,7 +31,7 @@ use Rattle.spec.proofs.ScanLaws.{ScanReads}
 -- ---- lists
 
 -- what is the same where a test passes is the same of a list that passes
-map-same : {A B : Type 0} (p : A → Bool) (f g : A → B) (l : List A) → every p l ≡ true → ((x : A) → p x ≡ true → f x ≡ g x) → map f l ≡ map g l
+pub map-same : {A B : Type 0} (p : A → Bool) (f g : A → B) (l : List A) → every p l ≡ true → ((x : A) → p x ≡ true → f x ≡ g x) → map f l ≡ map g l
 map-same p f g [] e h = refl
 map-same {B = B} p f g (x ∷ l) e h =
     ap₂ {C = List B} (λ a as′. a ∷ as′) (h x (and-left (p x) (every p l) e)) (map-same p f g l (and-right (p x) (every p l) e) h)
@@ -45,9 +45,21 @@ accepted-none-empty list e =
     let a : Accepted list = accepted list (keyword-front list e) in
     none-empty (keywordsOf list) (λ k l. a .proper k (omega (arith, a .count)) .0)
 
+-- ---- answers and buffers: equal numbers, and equal work where that is done
+
+pub answer-same : (c d v w : ℕ) → c ≡ d → (d ≡ 0 → v ≡ w) → answer c v ≡ answer d w
+unfolding answer
+answer-same c zero v w e h = rw (e, h refl)
+answer-same c (suc d) v w e h = rw (e, ne-eqb (suc d) 0 (λ z. let y : ⊥ = omega arith in absurd y))
+
+pub buffer-same : (c d : ℕ) (v w out : List ℕ) → c ≡ d → (d ≡ 0 → v ≡ w) → unlessRefused c v out ≡ unlessRefused d w out
+unfolding unlessRefused
+buffer-same c zero v w out e h = rw (e, h refl)
+buffer-same c (suc d) v w out e h = rw (e, ne-eqb (suc d) 0 (λ z. let y : ⊥ = omega arith in absurd y))
+
 -- ---- tests 15, 16 and 17
 
-position-in : (keys : List (List ℕ)) (key : List ℕ) → contains key keys ≡ true → positionOf key keys < length keys
+pub position-in : (keys : List (List ℕ)) (key : List ℕ) → contains key keys ≡ true → positionOf key keys < length keys
 position-in keys key e = ltb-true (positionOf key keys) (length keys) (sym (contains-position key keys) ∙ e)
 
 module _ (keys : List (List ℕ)) (s t : ℕ → ℕ) (m : ℕ) (h : (k : ℕ) → k < length keys → s k ≡ t k) where
@@ -158,16 +170,6 @@ module _ (f : Form) (plain : f .sets ≡ false) (list store index : List ℕ) (a
       lists-same recipes (passed-whole (storeFilesCode (filesOf recipes)) _ (a .1) .0)
 
   -- ---- the answer and the buffer
-
-  answer-same : (c d v w : ℕ) → c ≡ d → (d ≡ 0 → v ≡ w) → answer c v ≡ answer d w
-  unfolding answer
-  answer-same c zero v w e h = rw (e, h refl)
-  answer-same c (suc d) v w e h = rw (e, ne-eqb (suc d) 0 (λ z. let y : ⊥ = omega arith in absurd y))
-
-  buffer-same : (c d : ℕ) (v w out : List ℕ) → c ≡ d → (d ≡ 0 → v ≡ w) → unlessRefused c v out ≡ unlessRefused d w out
-  unfolding unlessRefused
-  buffer-same c zero v w out e h = rw (e, h refl)
-  buffer-same c (suc d) v w out e h = rw (e, ne-eqb (suc d) 0 (λ z. let y : ⊥ = omega arith in absurd y))
 
   pub outcome-of-scan : (recipes : List ℕ) (room : ℕ)
       → joinOutcome f index recipes room ≡ answer (searchJoinCode f list store recipes room) (length (directSearch list store recipes))
