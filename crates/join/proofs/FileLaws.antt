@@ -36,11 +36,13 @@ keys-take (suc n) bytes =
     rw (e, take-take 20 (20 + 20 * n) bytes (omega arith), drop-take 20 (20 * n) bytes, keys-take n (drop 20 bytes))
 
 -- a file's slice, as the code cuts it
-pub slice-is : (recipes : List ℕ) (at n : ℕ) → n ≡ fieldAt recipes at 4 → take (at + 4 + 20 * n - (at + 4)) (drop (at + 4) recipes) ≡ part recipes (at + 4) (20 * fieldAt recipes at 4)
+pub slice-is : (recipes : List ℕ) (at n : ℕ) → n ≡ fieldAt recipes at 4
+    → take (at + 4 + 20 * n - (at + 4)) (drop (at + 4) recipes) ≡ part recipes (at + 4) (20 * fieldAt recipes at 4)
 slice-is recipes at n e = ap (λ (m : ℕ). take m (drop (at + 4) recipes)) (add-sub-cancel-left (at + 4) (20 * n) ∙ ap (λ (m : ℕ). 20 * m) e)
 
 -- the sizes of a file's chunks
-sizes-are : (index : List ℕ) (file : List (List ℕ)) → sizeOf (fileRecords form1 index file) ≡ sum (sizesIn (indexKeys index) (sizeAt (indexLayout index) index) (due form1 (listIn index)) file)
+sizes-are : (index : List ℕ) (file : List (List ℕ))
+    → sizeOf (fileRecords form1 index file) ≡ sum (sizesIn (indexKeys index) (sizeAt (indexLayout index) index) (due form1 (listIn index)) file)
 unfolding fileRecords indexRecords
 sizes-are index [] = refl
 sizes-are index (key ∷ file) = ap (λ (m : ℕ). sizeAt (indexLayout index) index (positionOf key (indexKeys index)) + m) (sizes-are index file)
@@ -75,7 +77,8 @@ module _ (index recipes : List ℕ) where
   codes-end k at w h = rw (walk-end recipes k at w h)
 
   -- file k is at `at`, and `file` is its slice
-  module _ (k at : ℕ) (w : Walk recipes k at) (turn : k < fileCount recipes) (file : List ℕ) (f : file ≡ part recipes (at + 4) (20 * fieldAt recipes at 4)) where
+  module _ (k at : ℕ) (w : Walk recipes k at) (turn : k < fileCount recipes) (file : List ℕ)
+      (f : file ≡ part recipes (at + 4) (20 * fieldAt recipes at 4)) where
     abbrev n : ℕ
     n = fieldAt recipes at 4
 
@@ -84,7 +87,9 @@ module _ (index recipes : List ℕ) where
     names = keysOf 20 n (drop (at + 4) recipes)
 
     file-length : length file ≡ 20 * n
-    file-length = ap length f ∙ length-take-le (20 * n) (drop (at + 4) recipes) (omega (arith, length-drop (at + 4) recipes, walk-file recipes k at n w turn refl .room))
+    file-length =
+        let inside : 20 * n ≤ length (drop (at + 4) recipes) = omega (arith, length-drop (at + 4) recipes, walk-file recipes k at n w turn refl .room) in
+        ap length f ∙ length-take-le (20 * n) (drop (at + 4) recipes) inside
 
     file-count : length file / 20 ≡ n
     file-count = omega (arith, file-length)

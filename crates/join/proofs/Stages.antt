@@ -47,7 +47,8 @@ module _ (index recipes heads chain : List ℕ) (code : ℕ) where
       }
 
 -- where both pass, the files' code is the whole number
-pub files-number : (index recipes : List ℕ) → indexCode form1 index ≡ 0 → recipesCode recipes ≡ 0 → allFilesCode index recipes ≡ joinableCode form1 index recipes
+pub files-number : (index recipes : List ℕ) → indexCode form1 index ≡ 0 → recipesCode recipes ≡ 0
+    → allFilesCode index recipes ≡ joinableCode form1 index recipes
 unfolding joinableCode
 files-number index recipes i r = sym (next-whole (indexCode form1 index) _ i ∙ next-whole (recipesCode recipes) _ r ∙ last-whole (allFilesCode index recipes))
 
@@ -113,7 +114,8 @@ module _ (index : List ℕ) (i : indexCode form1 index ≡ 0) where
 -- ---- the plan
 
 module _ (index recipes heads chain : List ℕ) (code : ℕ) (q : Prepared index recipes heads chain code) where
-  pub plan-refused : (tables : List (List (List ℕ))) (some : List ℕ) (total directory entries count : ℕ) → code ≢ 0 → Planned index recipes heads chain tables some code total directory entries count
+  pub plan-refused : (tables : List (List (List ℕ))) (some : List ℕ) (total directory entries count : ℕ) → code ≢ 0
+      → Planned index recipes heads chain tables some code total directory entries count
   plan-refused tables some total directory entries count h =
       record { number = q .refused h; counted = λ z. absurd (h z); marked = λ z. absurd (h z); joinable = λ z. absurd (h z) }
 

@@ -127,13 +127,19 @@ module _ (index recipes : List ℕ) where
       whole-room : 0 + length (listBytes (joinList form1 index recipes)) ≤ length out₀
       whole-room = omega (arith, length-list (joinList form1 index recipes))
 
+      -- the bytes of the whole list, of what is to come, and of what comes behind this file
+      abbrev whole : List ℕ
+      whole = listBytes (joinList form1 index recipes)
+
+      abbrev coming : List ℕ
+      coming = listBytes (left index recipes k)
+
+      abbrev behind : List ℕ
+      behind = listBytes (left index recipes (k + 1))
+
       pub listing-room : place + 9 * length here ≤ length out
       listing-room =
-          omega (
-            arith,
-            length-list here,
-            going-room out₀ out 0 place (listBytes (joinList form1 index recipes)) (listBytes (left index recipes k)) (g .going) (listBytes here) (listBytes (left index recipes (k + 1))) whole-room bytes-step,
-          )
+          omega (arith, length-list here, going-room out₀ out 0 place whole coming (g .going) (listBytes here) behind whole-room bytes-step)
 
       pub listing-on : (out′ : List ℕ) (end : ℕ) → (end ≡ place + 9 * length here) × (out′ ≡ splice out place (listBytes here))
           → Listing out₀ out′ (k + 1) (at + 4 + length file) end
@@ -141,11 +147,12 @@ module _ (index recipes : List ℕ) where
           record {
             walk = file-next index recipes k at (g .walk) turn file f;
             going =
-                going-on out₀ out 0 place (listBytes (joinList form1 index recipes)) (listBytes (left index recipes k)) (g .going) out′ (listBytes here) (listBytes (left index recipes (k + 1))) end whole-room
-                bytes-step (l .0 ∙ ap (λ (x : ℕ). place + x) (sym (length-list here))) (l .1);
+                going-on out₀ out 0 place whole coming (g .going) out′ (listBytes here) behind end
+                whole-room bytes-step (l .0 ∙ ap (λ (x : ℕ). place + x) (sym (length-list here))) (l .1);
           }
 
-  pub survey-end : (some : List ℕ) (k at total : ℕ) → Surveying some k at total → fileCount recipes ≤ k → 65535 ≤ length some → Surveyed index recipes some 0 total
+  pub survey-end : (some : List ℕ) (k at total : ℕ) → Surveying some k at total → fileCount recipes ≤ k → 65535 ≤ length some
+      → Surveyed index recipes some 0 total
   survey-end some k at total g h l =
       record {
         number = sym (codes-end index recipes k at (g .walk) h) ∙ g .coded;
@@ -153,7 +160,8 @@ module _ (index recipes : List ℕ) where
         marked = λ _. record { long = omega (arith, g .few); none = λ j u. g .marks j (omega arith) };
       }
 
-  pub listing-end : (out₀ out : List ℕ) (k at place : ℕ) → Listing out₀ out k at place → fileCount recipes ≤ k → out ≡ splice out₀ 0 (listBytes (joinList form1 index recipes))
+  pub listing-end : (out₀ out : List ℕ) (k at place : ℕ) → Listing out₀ out k at place → fileCount recipes ≤ k
+      → out ≡ splice out₀ 0 (listBytes (joinList form1 index recipes))
   listing-end out₀ out k at place g h =
       going-end out₀ out 0 place (listBytes (joinList form1 index recipes)) (listBytes (left index recipes k)) (g .going)
       (ap listBytes (left-end index recipes k at (g .walk) h) ∙ list-nil)

@@ -6,7 +6,6 @@ use Prim.Native.Nat.{ℕ}
 use denote.Ref.{now}
 use Rattle.directory.proofs.ChainLaws.{zeros}
 use Rattle.join.proofs.Answers.{count-refused, count-done}
-use borrow.Author.Needs.{needs}
 use Rattle.join.proofs.count.Statement.{statement}
 use Rattle.join.proofs.count.Tie as tie
 

@@ -1,30 +1,30 @@
 -- `file_at` meets its contract. Assumes nothing.
+use native.Mathlib.Omega.{arith}
 use denote.Ref.{now}
 use Rattle.join.proofs.FileLaws.{slice-is}
-use borrow.Author.Needs.{needs}
 use Rattle.join.proofs.file_at.Statement.{statement}
 use Rattle.join.proofs.file_at.Tie as tie
 
 count-at-requires : tie.Need-count-at-requires
-count-at-requires c κs = search needs
+count-at-requires c κs = omega (arith, c .before .pre)
 
 add-from : tie.Need-add-from
-add-from c = search needs
+add-from c = omega (arith, c .before .before .pre, c .before)
 
 mul-result : tie.Need-mul-result
-mul-result c = search needs
+mul-result c = omega (arith, c .count-at .ensures, c .before .before .pre, c .before)
 
 add-result : tie.Need-add-result
-add-result c = search needs
+add-result c = omega (arith, c .count-at .ensures, c .before .before .pre, c .before)
 
 sub-result : tie.Need-sub-result
-sub-result c = search needs
+sub-result c = omega arith
 
 part-result-start : tie.Need-part-result-start
-part-result-start c = search needs
+part-result-start c = omega arith
 
 part-result-end : tie.Need-part-result-end
-part-result-end c = search needs
+part-result-end c = omega (arith, c .count-at .ensures, c .before .before .pre)
 
 returns : tie.Need-returns
 returns c =

@@ -1,5 +1,5 @@
 -- `join` meets its contract: one law for each way out (Answers).
-use mathlib.Core.Path.{refl}
+use mathlib.Core.Path.{refl, sym}
 use Prim.Native.Nat.{ℕ}
 use native.Mathlib.Omega.{arith}
 use lib.ListN.{length-replicate}
@@ -7,7 +7,6 @@ use denote.Ref.{now}
 use Rattle.directory.proofs.ChainLaws.{zeros}
 use Rattle.join.proofs.Stages.{all-pass}
 use Rattle.join.proofs.Answers.{join-refused, join-long, join-room, join-done}
-use borrow.Author.Needs.{needs}
 use Rattle.join.proofs.join.Statement.{statement}
 use Rattle.join.proofs.join.Tie as tie
 
@@ -37,16 +36,17 @@ returns-2 c =
     let a = m .before .before .before .before .before .before .before .before .args in
     let p = m .make-plan in
     let z = e .if1 .left in
-    join-long (now (a .index)) (now (a .recipes)) (p .result .code) (p .ensures .number) (now (a .out)) (p .result .total) z (p .ensures .counted z) (c .if2 .taken)
+    let r = p .result in
+    join-long (now (a .index)) (now (a .recipes)) (r .code) (p .ensures .number) (now (a .out)) (r .total) z (p .ensures .counted z) (c .if2 .taken)
 
 slice-aggregate-list-files : tie.Need-slice-aggregate-list-files
-slice-aggregate-list-files c = search needs
+slice-aggregate-list-files c = sym (c .before .before .before .before .before .before .before .heads2 .given)
 
 slice-aggregate-list-files-2 : tie.Need-slice-aggregate-list-files-2
-slice-aggregate-list-files-2 c = search needs
+slice-aggregate-list-files-2 c = sym (c .before .before .before .before .before .before .before .chain2 .given)
 
 slice-aggregate-list-files-3 : tie.Need-slice-aggregate-list-files-3
-slice-aggregate-list-files-3 c = search needs
+slice-aggregate-list-files-3 c = sym (c .before .before .before .before .before .before .before .before .some2 .given)
 
 list-files-requires : tie.Need-list-files-requires
 list-files-requires c κs =
@@ -55,16 +55,15 @@ list-files-requires c κs =
     let m = e .before .before .before .before .before in
     let a = m .before .before .before .before .before .before .before .before .args in
     let p = m .make-plan in
-    let z = e .if1 .left in (
-      p .ensures .joinable z,
-      (
-        (all-pass _ _ _ _ _ _ _ _ _ _ _ (p .ensures) z, p .ensures .marked z),
-        join-room (now (a .index)) (now (a .recipes)) (p .result .code) (p .ensures .number) (now (a .out)) (p .result .total) (p .ensures .counted z) (f .if2 .left),
-      ),
-    )
+    let r = p .result in
+    let z = e .if1 .left in
+    let pass = all-pass (now (a .index)) (now (a .recipes)) (p .last .1 .1 .0) (p .last .1 .1 .1 .0) (p .last .1 .1 .1 .1 .0) (p .last .1 .1 .1 .1 .1 .0)
+    (r .code) (r .total) (r .directory) (r .entries) (r .count) (p .ensures) z in
+    let room = join-room (now (a .index)) (now (a .recipes)) (r .code) (p .ensures .number) (now (a .out)) (r .total) (p .ensures .counted z) (f .if2 .left) in
+    (p .ensures .joinable z, ((pass, p .ensures .marked z), room))
 
 same-length : tie.Need-same-length
-same-length c = search needs
+same-length c = c .before .before .list-files .kept .1 .1 .1 .1 .1 .1 .1 .1 .1 .0
 
 returns-3 : tie.Need-returns-3
 returns-3 c =
@@ -75,7 +74,10 @@ returns-3 c =
     let a = m .before .before .before .before .before .before .before .before .args in
     let p = m .make-plan in
     let z = e .if1 .left in
-    join-done (now (a .index)) (now (a .recipes)) (p .result .code) (p .ensures .number) (now (a .out)) (p .result .total) (w .list-files .last .1 .1 .1 .1 .1 .1 .1 .1 .1 .0) z (p .ensures .counted z) (f .if2 .left) (w .list-files .ensures)
+    let r = p .result in
+    let l = w .list-files in
+    join-done (now (a .index)) (now (a .recipes)) (r .code) (p .ensures .number) (now (a .out)) (r .total)
+    (l .last .1 .1 .1 .1 .1 .1 .1 .1 .1 .0) z (p .ensures .counted z) (f .if2 .left) (l .ensures)
 
 pub join-spec : {M : Type 1} → statement M
 join-spec =

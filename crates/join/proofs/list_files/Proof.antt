@@ -1,7 +1,7 @@
 -- `list_files` meets its contract: the walk along the files (Turns).
 use mathlib.Core.Path.{_≡_, refl, sym, _∙_}
 use mathlib.Core.List.{[]}
-use Prim.Native.Nat.{_+_, _-_, _≤_}
+use Prim.Native.Nat.{_+_, _-_, _≤_, _<_}
 use native.Mathlib.Omega.{arith}
 use lib.ListN.{length}
 use denote.Ref.{now}
@@ -17,7 +17,8 @@ use Rattle.join.proofs.list_files.Statement.{statement}
 use Rattle.join.proofs.list_files.Tie as tie
 
 abbrev Inv-loop : tie.InvT-loop
-Inv-loop index recipes directory entries heads chain count tables some out₀ files place₀ at₀ number₀ out place at number = (files ≡ fileCount recipes) × Listing index recipes out₀ out number at place
+Inv-loop index recipes directory entries heads chain count tables some out₀ files place₀ at₀ number₀ out place at number =
+    (files ≡ fileCount recipes) × Listing index recipes out₀ out number at place
 
 abbrev μ-loop : tie.MeasureT-loop
 μ-loop index recipes directory entries heads chain count tables some out₀ files place₀ at₀ number₀ out place at number = files - number
@@ -27,8 +28,9 @@ room : (c : tie.After-file-at Inv-loop μ-loop) → let p = c .before .before in
     p .loop .at + 4 + length (now (c .file-at .result)) ≤ length (now (s .args .recipes))
 room c =
     let p = c .before .before in
-    let s = p .before .before .before .before .before .before .before .before in
-    file-next (now (s .args .index)) (now (s .args .recipes)) (p .loop .number) (p .loop .at) (p .loop .inv .1 .walk) (omega arith) (now (c .file-at .result)) (c .file-at .ensures) .within
+    let a = p .before .before .before .before .before .before .before .before .args in
+    let f = c .file-at in
+    file-next (now (a .index)) (now (a .recipes)) (p .loop .number) (p .loop .at) (p .loop .inv .1 .walk) (omega arith) (now (f .result)) (f .ensures) .within
 
 count-at-requires : tie.Need-count-at-requires Inv-loop μ-loop
 count-at-requires c κs =
@@ -59,20 +61,16 @@ list-marked-requires c κs =
     let index = now (s .args .index) in
     let recipes = now (s .args .recipes) in
     let file = now (r .file-at .result) in
-    let w = p .loop .inv .1 .walk in
-    let k = p .loop .number in (
-      (λ z. sym (list-is index recipes k (p .loop .at) w (omega arith) file (r .file-at .ensures)) ∙ s .pre .1 .0 .1 .none k (omega arith) z),
-      (
-        s .pre .0 .looked,
-        (
-          file-walks index recipes k (p .loop .at) w (omega arith) file (r .file-at .ensures) [] (file-passes index recipes k (p .loop .at) w (omega arith) file (r .file-at .ensures) (s .pre .1 .0 .0)) (no-slots (indexKeys index) (named file)),
-          (
-            s .pre .0 .keyed,
-            listing-room index recipes k (p .loop .at) (omega arith) file (r .file-at .ensures) (now (s .args .out)) (p .loop .out) (p .loop .place) (p .loop .inv .1) (s .pre .1 .1),
-          ),
-        ),
-      ),
-    )
+    let f = r .file-at .ensures in
+    let l = p .loop in
+    let k = l .number in
+    let w = l .inv .1 .walk in
+    let turn : k < fileCount recipes = omega arith in
+    let listed = list-is index recipes k (l .at) w turn file f in
+    let passes = file-passes index recipes k (l .at) w turn file f (s .pre .1 .0 .0) in
+    let walks = file-walks index recipes k (l .at) w turn file f [] passes (no-slots (indexKeys index) (named file)) in
+    let room = listing-room index recipes k (l .at) turn file f (now (s .args .out)) (l .out) (l .place) (l .inv .1) (s .pre .1 .1) in
+    (λ z. sym listed ∙ s .pre .1 .0 .1 .none k turn z, (s .pre .0 .looked, (walks, (s .pre .0 .keyed, room))))
 
 add-at : tie.Need-add-at Inv-loop μ-loop
 add-at c = omega (arith, room (c .before .before .before .before .before))
@@ -92,7 +90,13 @@ loop-again c =
     let r = c .before .before .before .before .before in
     let p = r .before .before in
     let s = p .before .before .before .before .before .before .before .before in
-    (p .loop .inv .0, listing-on (now (s .args .index)) (now (s .args .recipes)) (p .loop .number) (p .loop .at) (omega arith) (now (r .file-at .result)) (r .file-at .ensures) (now (s .args .out)) (p .loop .out) (p .loop .place) (p .loop .inv .1) (s .pre .1 .1) (w .last .1 .1 .1 .1 .1 .1 .1 .1 .1 .1 .0) (w .result) (w .ensures))
+    let a = s .args in
+    let f = r .file-at in
+    let l = p .loop in (
+      l .inv .0,
+      listing-on (now (a .index)) (now (a .recipes)) (l .number) (l .at) (omega arith) (now (f .result)) (f .ensures) (now (a .out)) (l .out) (l .place)
+          (l .inv .1) (s .pre .1 .1) (w .last .1 .1 .1 .1 .1 .1 .1 .1 .1 .1 .0) (w .result) (w .ensures),
+    )
 
 same-length : tie.Need-same-length Inv-loop μ-loop
 same-length c = c .before .loop .inv .1 .going .same
@@ -100,8 +104,9 @@ same-length c = c .before .loop .inv .1 .going .same
 returns : tie.Need-returns Inv-loop μ-loop
 returns c =
     let p = c .before in
-    let s = p .before .before .before .before .before .before .before .before in
-    listing-end (now (s .args .index)) (now (s .args .recipes)) (now (s .args .out)) (p .loop .out) (p .loop .number) (p .loop .at) (p .loop .place) (p .loop .inv .1) (omega arith)
+    let a = p .before .before .before .before .before .before .before .before .args in
+    let l = p .loop in
+    listing-end (now (a .index)) (now (a .recipes)) (now (a .out)) (l .out) (l .number) (l .at) (l .place) (l .inv .1) (omega arith)
 
 pub list-files-spec : {M : Type 1} → statement M
 list-files-spec =

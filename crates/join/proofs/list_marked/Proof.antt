@@ -1,7 +1,7 @@
 -- `list_marked` meets its contract.
+use mathlib.Core.Path.{refl}
 use denote.Ref.{now}
 use Rattle.join.proofs.Turns.{listed-none}
-use borrow.Author.Needs.{needs}
 use Rattle.join.proofs.list_marked.Statement.{statement}
 use Rattle.join.proofs.list_marked.Tie as tie
 
@@ -12,16 +12,16 @@ returns c =
     listed-none (now (a .index)) (now (a .file)) (a .number) (now (a .out)) (a .place) (s .pre .0 (c .if1 .taken))
 
 slice-aggregate-list-file : tie.Need-slice-aggregate-list-file
-slice-aggregate-list-file c = search needs
+slice-aggregate-list-file c = refl
 
 list-file-requires : tie.Need-list-file-requires
-list-file-requires c κs = search needs
+list-file-requires c κs = c .before .before .before .before .before .before .before .before .pre .1
 
 same-length : tie.Need-same-length
-same-length c = search needs
+same-length c = c .before .before .list-file .kept .1 .1 .1 .1 .1 .1 .1 .1 .1 .1 .0
 
 returns-2 : tie.Need-returns-2
-returns-2 c = search needs
+returns-2 c = c .before .before .list-file .ensures
 
 pub list-marked-spec : {M : Type 1} → statement M
 list-marked-spec =

@@ -8,7 +8,6 @@ use Rattle.spec.specs.Records.{form1}
 use Rattle.spec.specs.Index.{indexCode}
 use Rattle.join.specs.Joining.{Joinable}
 use Rattle.join.proofs.Stages.{header, list-good, reads, size-short, some-long, due-is, joinable, plan-refused, planned}
-use borrow.Author.Needs.{needs}
 use Rattle.join.proofs.make_plan.Statement.{statement}
 use Rattle.join.proofs.make_plan.Tie as tie
 
@@ -19,13 +18,20 @@ lent c = now (c .before .before .before .before .before .before .before .before 
 indexed : (c : tie.Else1) → indexCode form1 (lent c) ≡ 0
 indexed c = c .before .before .before .before .before .prepare .ensures .indexed (c .if1 .left)
 
+-- where the index and the recipes are checked
+abbrev checked : tie.After-slice-known6 → tie.After-prepare
+checked c =
+    let d = c .before .before .before .before .before .before .before .before .before .before in
+    d .before .before .before .before .before .before .before .before .before .before
+
 -- all files can be walked
 walks : (c : tie.After-read)
     → let w = c .before .before .before in
     let q = w .before .before .before .before .before .before .before in
     let a = q .before .before .before .before .before .before .before .before .args in
     let r = w .parse .result in
-    Joinable (now (a .index)) (now (a .recipes)) (8 + r .size) (c .read .result) (q .prepare .last .1 .1 .0) (q .prepare .last .1 .1 .1 .0) (r .count) (c .before .before .tables-of .result)
+    Joinable (now (a .index)) (now (a .recipes)) (8 + r .size) (c .read .result) (q .prepare .last .1 .1 .0) (q .prepare .last .1 .1 .1 .0)
+    (r .count) (c .before .before .tables-of .result)
 walks c =
     let w = c .before .before .before in
     let e = w .before .before in
@@ -41,17 +47,18 @@ prepare-requires : tie.Need-prepare-requires
 prepare-requires c κs = c .before .before .before .before .before .before .before .pre .0
 
 same-length : tie.Need-same-length
-same-length c = search needs
+same-length c = c .before .before .before .before .before .prepare .kept .1 .1 .0
 
 same-length-2 : tie.Need-same-length-2
-same-length-2 c = search needs
+same-length-2 c = c .before .before .before .before .before .prepare .kept .1 .1 .1 .0
 
 returns : tie.Need-returns
 returns c =
     let q = c .before .before .before .before .before in
     let a = q .before .before .before .before .before .before .before .before .args in
     let r = q .prepare in
-    plan-refused (now (a .index)) (now (a .recipes)) _ _ (r .result) (r .ensures) _ _ _ _ _ _ (c .if1 .taken)
+    plan-refused (now (a .index)) (now (a .recipes)) (r .last .1 .1 .0) (r .last .1 .1 .1 .0) (r .result) (r .ensures)
+    (now (a .tables)) (now (a .some)) 0 0 0 0 (c .if1 .taken)
 
 sub-list : tie.Need-sub-list
 sub-list c = header (lent c) (indexed c)
@@ -60,7 +67,7 @@ part-list-start : tie.Need-part-list-start
 part-list-start c = header (lent c) (indexed c)
 
 part-list-end : tie.Need-part-list-end
-part-list-end c = search needs
+part-list-end c = omega arith
 
 parse-requires : tie.Need-parse-requires
 parse-requires c κs = list-good (lent (c .before)) (indexed (c .before))
@@ -101,13 +108,13 @@ survey-files-requires c κs =
     (walks d, (due-is (now (s .args .index)) (indexed e) r (w .parse .ensures), s .pre .1))
 
 same-length-3 : tie.Need-same-length-3
-same-length-3 c = c .before .before .before .before .before .before .before .before .before .before .before .before .before .before .before .before .before .before .before .before .prepare .kept .1 .1 .0
+same-length-3 c = let q = checked c in q .prepare .kept .1 .1 .0
 
 same-length-4 : tie.Need-same-length-4
-same-length-4 c = search needs
+same-length-4 c = let q = checked c in q .prepare .kept .1 .1 .1 .0
 
 same-length-5 : tie.Need-same-length-5
-same-length-5 c = search needs
+same-length-5 c = c .before .before .before .survey-files .kept .1 .1 .1 .1 .1 .1 .1 .1 .1 .1 .0
 
 returns-2 : tie.Need-returns-2
 returns-2 c =
@@ -116,7 +123,12 @@ returns-2 c =
     let e = d .before .before .before .before .before in
     let q = e .before .before .before .before .before in
     let a = q .before .before .before .before .before .before .before .before .args in
-    planned (now (a .index)) (now (a .recipes)) _ _ (q .prepare .result) (q .prepare .ensures) _ _ _ _ _ _ _ (e .if1 .left) (v .survey-files .ensures) (walks d)
+    let r = q .prepare in
+    let w = d .before .before .before .parse .result in
+    let f = v .survey-files in
+    planned (now (a .index)) (now (a .recipes)) (r .last .1 .1 .0) (r .last .1 .1 .1 .0) (r .result) (r .ensures)
+    (d .before .before .tables-of .result) (f .last .1 .1 .1 .1 .1 .1 .1 .1 .1 .1 .0) (f .result .code) (f .result .total)
+    (8 + w .size) (d .read .result) (w .count) (e .if1 .left) (f .ensures) (walks d)
 
 pub make-plan-spec : {M : Type 1} → statement M
 make-plan-spec =

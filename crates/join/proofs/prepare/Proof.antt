@@ -3,34 +3,33 @@ use mathlib.Core.Path.{sym, _∙_}
 use denote.Ref.{now}
 use Rattle.index.proofs.CheckLaws.{index-chains}
 use Rattle.join.proofs.Stages.{stop-index, prepared}
-use borrow.Author.Needs.{needs}
 use Rattle.join.proofs.prepare.Statement.{statement}
 use Rattle.join.proofs.prepare.Tie as tie
 
 examine-requires : tie.Need-examine-requires
-examine-requires c κs = search needs
+examine-requires c κs = c .before .before .before .before .before .before .pre
 
 same-length : tie.Need-same-length
-same-length c = search needs
+same-length c = c .before .before .before .before .before .examine .kept .1 .0
 
 same-length-2 : tie.Need-same-length-2
-same-length-2 c = search needs
+same-length-2 c = c .before .before .before .before .before .examine .kept .1 .1 .0
 
 returns : tie.Need-returns
 returns c =
     let x = c .before .before .before .before .before in
     let a = x .before .before .before .before .before .before .before .args in
     let e = x .examine in
-    stop-index (now (a .index)) (now (a .recipes)) _ _ (e .result) (e .ensures .0) (c .if1 .taken)
+    stop-index (now (a .index)) (now (a .recipes)) (e .last .1 .0) (e .last .1 .1 .0) (e .result) (e .ensures .0) (c .if1 .taken)
 
 check-requires : tie.Need-check-requires
-check-requires c κs = search needs
+check-requires c κs = tt
 
 same-length-3 : tie.Need-same-length-3
-same-length-3 c = search needs
+same-length-3 c = c .before .before .before .before .before .before .examine .kept .1 .0
 
 same-length-4 : tie.Need-same-length-4
-same-length-4 c = search needs
+same-length-4 c = c .before .before .before .before .before .before .examine .kept .1 .1 .0
 
 returns-2 : tie.Need-returns-2
 returns-2 c =
@@ -39,7 +38,7 @@ returns-2 c =
     let a = start .args in
     let e = x .examine in
     let z = sym (e .ensures .0) ∙ c .before .if1 .left in
-    prepared (now (a .index)) (now (a .recipes)) _ _ (c .check .result) z
+    prepared (now (a .index)) (now (a .recipes)) (e .last .1 .0) (e .last .1 .1 .0) (c .check .result) z
     (index-chains (now (a .index)) (now (a .heads)) (now (a .chain)) (e .last .1 .0) (e .last .1 .1 .0) z (e .ensures .1) (e .ensures .2) (start .pre .long))
     (c .check .ensures)
 

@@ -17,7 +17,6 @@ use Rattle.walk.proofs.Entries.{lies}
 use Rattle.walk.proofs.Counts.{count-few}
 use Rattle.join.proofs.FileLaws.{file-walks, file-next}
 use Rattle.join.proofs.Turns.{tested-code, tested-slots, Surveying, survey-start, survey-refused, survey-on, survey-end}
-use borrow.Author.Needs.{needs}
 use Rattle.join.proofs.survey_files.Statement.{statement}
 use Rattle.join.proofs.survey_files.Tie as tie
 
@@ -33,8 +32,9 @@ room : (c : tie.After-file-at Inv-loop μ-loop) → let p = c .before .before in
     p .loop .at + 4 + length (now (c .file-at .result)) ≤ length (now (s .args .recipes))
 room c =
     let p = c .before .before in
-    let s = p .before .before .before .before .before .before .before .before in
-    file-next (now (s .args .index)) (now (s .args .recipes)) (p .loop .k) (p .loop .at) (p .loop .inv .3 .walk) (omega arith) (now (c .file-at .result)) (c .file-at .ensures) .within
+    let a = p .before .before .before .before .before .before .before .before .args in
+    let f = c .file-at in
+    file-next (now (a .index)) (now (a .recipes)) (p .loop .k) (p .loop .at) (p .loop .inv .3 .walk) (omega arith) (now (f .result)) (f .ensures) .within
 
 -- what its test says
 test : (c : tie.After-file-code Inv-loop μ-loop)
@@ -46,9 +46,9 @@ test c =
     let f = c .before .before in
     let s = f .before .before .before .before .before .before .before .before .before .before in
     let a = s .args in
-    tested-code (now (a .index)) (a .directory) (a .entries) (now (a .heads)) (now (a .chain)) (s .pre .0 .looked) (a .least) (named (now (f .file-at .result)))
-    (f .before .before .loop .slots) (c .file-code .last .1 .1 .1 .1 .1 .1 .1 .0) (c .file-code .result) (c .file-code .ensures)
-    (s .pre .1 .0)
+    tested-code (now (a .index)) (a .directory) (a .entries) (now (a .heads)) (now (a .chain)) (s .pre .0 .looked) (a .least)
+    (named (now (f .file-at .result))) (f .before .before .loop .slots)
+    (c .file-code .last .1 .1 .1 .1 .1 .1 .1 .0) (c .file-code .result) (c .file-code .ensures) (s .pre .1 .0)
 
 -- and what it leaves
 slots : (c : tie.After-file-code Inv-loop μ-loop)
@@ -60,8 +60,9 @@ slots c =
     let f = c .before .before in
     let s = f .before .before .before .before .before .before .before .before .before .before in
     let a = s .args in
-    tested-slots (now (a .index)) (a .directory) (a .entries) (now (a .heads)) (now (a .chain)) (s .pre .0 .looked) (a .least) (named (now (f .file-at .result)))
-    (f .before .before .loop .slots) (c .file-code .last .1 .1 .1 .1 .1 .1 .1 .0) (c .file-code .result) (c .file-code .ensures)
+    tested-slots (now (a .index)) (a .directory) (a .entries) (now (a .heads)) (now (a .chain)) (s .pre .0 .looked) (a .least)
+    (named (now (f .file-at .result))) (f .before .before .loop .slots)
+    (c .file-code .last .1 .1 .1 .1 .1 .1 .1 .0) (c .file-code .result) (c .file-code .ensures)
 
 count-at-requires : tie.Need-count-at-requires Inv-loop μ-loop
 count-at-requires c κs =
@@ -98,7 +99,9 @@ returns c =
     let f = t .before .before in
     let p = f .before .before in
     let a = p .before .before .before .before .before .before .before .before .args in
-    survey-refused (now (a .index)) (now (a .recipes)) (p .loop .k) (p .loop .at) (omega arith) (now (f .file-at .result)) (f .file-at .ensures) (p .loop .some) (p .loop .total) (p .loop .inv .3) (t .file-code .result) (test t) (c .if1 .taken)
+    let l = p .loop in
+    survey-refused (now (a .index)) (now (a .recipes)) (l .k) (l .at) (omega arith) (now (f .file-at .result)) (f .file-at .ensures)
+    (l .some) (l .total) (l .inv .3) (t .file-code .result) (test t) (c .if1 .taken)
 
 -- the file that passed can be walked
 walks : (e : tie.Else1 Inv-loop μ-loop) → let t = e .before .before .before in
@@ -110,8 +113,9 @@ walks e =
     let f = t .before .before in
     let p = f .before .before in
     let a = p .before .before .before .before .before .before .before .before .args in
+    let l = p .loop in
     let z = e .if1 .left in
-    file-walks (now (a .index)) (now (a .recipes)) (p .loop .k) (p .loop .at) (p .loop .inv .3 .walk) (omega arith) (now (f .file-at .result)) (f .file-at .ensures)
+    file-walks (now (a .index)) (now (a .recipes)) (l .k) (l .at) (l .inv .3 .walk) (omega arith) (now (f .file-at .result)) (f .file-at .ensures)
     (t .file-code .last .1 .1 .1 .1 .1 .1 .1 .0) (sym (test t) ∙ z) (slots t z)
 
 count-file-requires : tie.Need-count-file-requires Inv-loop μ-loop
@@ -120,7 +124,7 @@ count-file-requires c κs =
     (s .pre .0 .looked, (walks (c .before), s .pre .0 .keyed))
 
 mark-of-requires : tie.Need-mark-of-requires Inv-loop μ-loop
-mark-of-requires c κs = search needs
+mark-of-requires c κs = tt
 
 slice-write-some : tie.Need-slice-write-some Inv-loop μ-loop
 slice-write-some c =
@@ -144,10 +148,14 @@ add-total c =
     omega (arith, p .loop .inv .3 .small, p .loop .inv .3 .few, small (c .before))
 
 add-at : tie.Need-add-at Inv-loop μ-loop
-add-at c = omega (arith, room (c .before .before .before .before .before .before .before .before), c .before .before .before .before .before .before .before .before .before .before .before .before .before .before .before .before .before .before)
+add-at c =
+    let f = c .before .before .before .before .before .before .before .before in
+    omega (arith, room f, f .before .before .before .before .before .before .before .before .before .before)
 
 add-at-2 : tie.Need-add-at-2 Inv-loop μ-loop
-add-at-2 c = omega (arith, room (c .before .before .before .before .before .before .before .before), c .before .before .before .before .before .before .before .before .before .before .before .before .before .before .before .before .before .before)
+add-at-2 c =
+    let f = c .before .before .before .before .before .before .before .before in
+    omega (arith, room f, f .before .before .before .before .before .before .before .before .before .before)
 
 add-k : tie.Need-add-k Inv-loop μ-loop
 add-k c = omega arith
@@ -164,12 +172,14 @@ loop-again c =
     let p = f .before .before in
     let s = p .before .before .before .before .before .before .before .before in
     let a = s .args in
-    let l = p .loop in (
+    let l = p .loop in
+    let long : l .k < length (l .some) = omega (arith, l .inv .0, l .inv .2, l .inv .3 .few, s .pre .1 .1) in (
       l .inv .0,
       t .file-code .kept .1 .1 .1 .1 .1 .1 .1 .0 ∙ l .inv .1,
       length-set (l .some) (l .k) (c .mark-of .result) ∙ l .inv .2,
-      survey-on (now (a .index)) (now (a .recipes)) (l .k) (l .at) (omega arith) (now (f .file-at .result)) (f .file-at .ensures) (l .some) (l .total) (l .inv .3) (t .file-code .result) (test t) (e .if1 .left)
-          (n .result) (c .mark-of .result) (n .ensures) (small (c .before)) (c .mark-of .ensures) (omega (arith, l .inv .0, l .inv .2, l .inv .3 .few, s .pre .1 .1)),
+      survey-on (now (a .index)) (now (a .recipes)) (l .k) (l .at) (omega arith) (now (f .file-at .result)) (f .file-at .ensures)
+          (l .some) (l .total) (l .inv .3) (t .file-code .result) (test t) (e .if1 .left)
+          (n .result) (c .mark-of .result) (n .ensures) (small (c .before)) (c .mark-of .ensures) long,
     )
 
 same-length-3 : tie.Need-same-length-3 Inv-loop μ-loop
@@ -182,7 +192,9 @@ returns-2 : tie.Need-returns-2 Inv-loop μ-loop
 returns-2 c =
     let p = c .before in
     let s = p .before .before .before .before .before .before .before .before in
-    survey-end (now (s .args .index)) (now (s .args .recipes)) (p .loop .some) (p .loop .k) (p .loop .at) (p .loop .total) (p .loop .inv .3) (omega arith) (omega (arith, p .loop .inv .2, s .pre .1 .1))
+    let a = s .args in
+    let l = p .loop in
+    survey-end (now (a .index)) (now (a .recipes)) (l .some) (l .k) (l .at) (l .total) (l .inv .3) (omega arith) (omega (arith, l .inv .2, s .pre .1 .1))
 
 pub survey-files-spec : {M : Type 1} → statement M
 survey-files-spec =
