@@ -28,14 +28,17 @@ use Rattle.matcher.proofs.Shapes.{size-one, size-two, size-three}
 module _ (f : Form) (list chunk : List ℕ) where
   -- what is left from keyword k on
   abbrev pub bodyRest : ℕ → List ℕ
-  bodyRest k = bodyFrom f k (map length (drop k (foldedKeywords list))) (map (λ keyword. recordOf keyword (folded (flagOf list) chunk)) (drop k (foldedKeywords list)))
+  bodyRest k =
+      bodyFrom f k (map length (drop k (foldedKeywords list)))
+      (map (λ keyword. recordOf keyword (folded (flagOf list) chunk)) (drop k (foldedKeywords list)))
 
   pub rest-start : bodyRest 0 ≡ scanBody f list chunk
   unfolding scanBody scanRecords recordsOf
   rest-start = refl
 
   rest-step : (k : ℕ) → k < length (foldedKeywords list)
-      → bodyRest k ≡ recordBytes f (length (getD (foldedKeywords list) k [])) k (recordOf (getD (foldedKeywords list) k []) (folded (flagOf list) chunk)) ++ bodyRest (k + 1)
+      → bodyRest k
+      ≡ recordBytes f (length (getD (foldedKeywords list) k [])) k (recordOf (getD (foldedKeywords list) k []) (folded (flagOf list) chunk)) ++ bodyRest (k + 1)
   unfolding bodyFrom
   rest-step k h = rw (add-one, drop-cons (foldedKeywords list) k [] h)
 
@@ -88,12 +91,20 @@ body-from-most : (k : ℕ) (keywords : List (List ℕ)) (chunk : List ℕ) → l
 unfolding bodyFrom
 body-from-most k [] chunk h = omega arith
 body-from-most k (w ∷ keywords) chunk h =
-    omega (arith, length-append (recordBytes form1 (length w) k (recordOf w chunk)) (bodyFrom form1 (suc k) (map length keywords) (map (λ keyword. recordOf keyword chunk) keywords)), recorded-most (length w) k w chunk h, body-from-most (suc k) keywords chunk h)
+    let first : List ℕ = recordBytes form1 (length w) k (recordOf w chunk) in
+    let rest : List ℕ = bodyFrom form1 (suc k) (map length keywords) (map (λ keyword. recordOf keyword chunk) keywords) in
+    omega (arith, length-append first rest, recorded-most (length w) k w chunk h, body-from-most (suc k) keywords chunk h)
 
 -- a body has at most 16 records
 pub body-most : (list chunk : List ℕ) → keywordFrontCode list ≡ 0 → length chunk ≤ 65535 → length (scanBody form1 list chunk) ≤ 2097264
 body-most list chunk a h =
-    omega (arith, ap length (rest-start form1 list chunk), body-from-most 0 (foldedKeywords list) (folded (flagOf list) chunk) (rw folded-length h), words-count form1 list chunk a, accepted list a .most)
+    omega (
+      arith,
+      ap length (rest-start form1 list chunk),
+      body-from-most 0 (foldedKeywords list) (folded (flagOf list) chunk) (rw folded-length h),
+      words-count form1 list chunk a,
+      accepted list a .most,
+    )
 
 -- ---- one record written: the others are left
 
@@ -124,7 +135,8 @@ module _ (list : List ℕ) (words : Keywords) (r : Reads list words) (k : ℕ) (
   keyword-length = simp (length-take, length-drop) (omega (arith, within))
 
   pub next-record : (f : Form) (chunk : List ℕ)
-      → bodyRest f list chunk k ≡ recordBytes f (length keyword) k (recordOf (folded (words .flag) keyword) (folded (words .flag) chunk)) ++ bodyRest f list chunk (k + 1)
+      → bodyRest f list chunk k
+      ≡ recordBytes f (length keyword) k (recordOf (folded (words .flag) keyword) (folded (words .flag) chunk)) ++ bodyRest f list chunk (k + 1)
   next-record f chunk =
       rest-word f list chunk (r .accepted) k (getD (words .start) k 0) (getD (words .len) k 0) (words .count) (words .flag) place (read .counts) (read .flags) h
 
@@ -133,7 +145,8 @@ pub no-record : (list : List ℕ) (words : Keywords) → Reads list words → (f
 no-record list words r f chunk k h = rest-ended f list chunk (r .accepted) k (words .count) (parsed list words r .counts) h
 
 -- a record written into the part from `at` on, as the writer promises it
-pub record-turn : (out last whole : List ℕ) (at end : ℕ) (v rest here : List ℕ) → here ≡ v ++ rest → at + length v ≤ length out → Wrote (midOf at (length out - at) out) 0 v last end
+pub record-turn : (out last whole : List ℕ) (at end : ℕ) (v rest here : List ℕ) → here ≡ v ++ rest → at + length v ≤ length out
+    → Wrote (midOf at (length out - at) out) 0 v last end
     → splice out at here ≡ whole → splice (putMid at (length out - at) out last) (at + end) rest ≡ whole
 record-turn out last whole at end v rest here p h w e =
     let n : at + end ≡ at + length v = omega (arith, w .ends) in

@@ -36,7 +36,10 @@ module _ (flag : ℕ) (keyword chunk : List ℕ) (k : ℕ) (s : Summary) (e : s 
       (le-or-lt (length chunk) (s .first))
     where
       first : s .first ≡ next flag keyword chunk 0
-      first = at-first s m e ∙ ap (λ (l : List ℕ). getD l 0 0) (recorded-offsets flag keyword chunk) ∙ head-same (left flag keyword chunk 0) 0 (length chunk) (omega (arith, counted))
+      first =
+          at-first s m e
+          ∙ ap (λ (l : List ℕ). getD l 0 0) (recorded-offsets flag keyword chunk)
+          ∙ head-same (left flag keyword chunk 0) 0 (length chunk) (omega (arith, counted))
 
       none : length chunk ≤ s .first → ⊥
       none l = omega (arith, counted, ap length (left-ended flag keyword chunk 0 (s .first) first l))
@@ -59,11 +62,13 @@ module _ (flag : ℕ) (keyword chunk : List ℕ) (k : ℕ) (s : Summary) (e : s 
   pub room-head : (n : ℕ) → length (fullBytes form1 k m) ≤ n → 7 ≤ n
   room-head n h = omega (arith, length-full form1 k m)
 
-  pub room-two : (head n : ℕ) {l after : List ℕ} → Wrote l 0 (headBytes form1 k m) after head → 1 < s .count → s .count ≤ 254 → length (fullBytes form1 k m) ≤ n → head + 2 * length (left flag keyword chunk (s .first)) ≤ n
+  pub room-two : (head n : ℕ) {l after : List ℕ} → Wrote l 0 (headBytes form1 k m) after head → 1 < s .count → s .count ≤ 254
+      → length (fullBytes form1 k m) ≤ n → head + 2 * length (left flag keyword chunk (s .first)) ≤ n
   room-two head n w l h f =
       omega (arith, w .ends, length-head k m, size-two (s .count) k m (at-count s m e) l h, ap length (left-first (omega arith)), at-count s m e)
 
-  pub room-three : (head n : ℕ) {l after : List ℕ} → Wrote l 0 (headBytes form1 k m) after head → 254 < s .count → length (fullBytes form1 k m) ≤ n → head + 2 + 2 * length (left flag keyword chunk (s .first)) ≤ n
+  pub room-three : (head n : ℕ) {l after : List ℕ} → Wrote l 0 (headBytes form1 k m) after head → 254 < s .count → length (fullBytes form1 k m) ≤ n
+      → head + 2 + 2 * length (left flag keyword chunk (s .first)) ≤ n
   room-three head n w h f =
       omega (arith, w .ends, length-head k m, size-three (s .count) k m (at-count s m e) h, ap length (left-first (omega arith)), at-count s m e)
 
@@ -74,11 +79,15 @@ module _ (flag : ℕ) (keyword chunk : List ℕ) (k : ℕ) (s : Summary) (e : s 
 
   pub put-two : (l l₁ l₂ : List ℕ) (head end : ℕ) → 1 < s .count → s .count ≤ 254 → Wrote l 0 (headBytes form1 k m) l₁ head
       → Wrote l₁ head (fieldsBytes 2 (left flag keyword chunk (s .first))) l₂ end → Wrote l 0 (fullBytes form1 k m) l₂ end
-  put-two l l₁ l₂ head end n h v w = rw (some n h) (wrote-then l l₁ l₂ 0 head end (headBytes form1 k m) (fieldsBytes 2 (left flag keyword chunk (s .first))) (omega arith) v w)
+  put-two l l₁ l₂ head end n h v w =
+      rw (some n h) (wrote-then l l₁ l₂ 0 head end (headBytes form1 k m) (fieldsBytes 2 (left flag keyword chunk (s .first))) (omega arith) v w)
 
   pub put-three : (l l₁ l₂ l₃ : List ℕ) (head end : ℕ) → 254 < s .count → Wrote l 0 (headBytes form1 k m) l₁ head
-      → l₂ ≡ splice l₁ head (leBytes 2 (s .count)) → Wrote l₂ (head + 2) (fieldsBytes 2 (left flag keyword chunk (s .first))) l₃ end → Wrote l 0 (fullBytes form1 k m) l₃ end
+      → l₂ ≡ splice l₁ head (leBytes 2 (s .count)) → Wrote l₂ (head + 2) (fieldsBytes 2 (left flag keyword chunk (s .first))) l₃ end
+      → Wrote l 0 (fullBytes form1 k m) l₃ end
   put-three l l₁ l₂ l₃ head end h v x w =
-      let c : Wrote l₁ head (leBytes 2 (s .count)) l₂ (head + 2) = record { written = x; ends = ap (λ (n : ℕ). head + n) (sym (length-leBytes 2 (s .count))) } in
-      let p = wrote-then l l₁ l₂ 0 head (head + 2) (headBytes form1 k m) (leBytes 2 (s .count)) (omega arith) v c in
-      rw (many h) (wrote-then l l₂ l₃ 0 (head + 2) end (headBytes form1 k m ++ leBytes 2 (s .count)) (fieldsBytes 2 (left flag keyword chunk (s .first))) (omega arith) p w)
+      let count : List ℕ = leBytes 2 (s .count) in
+      let offsets : List ℕ = fieldsBytes 2 (left flag keyword chunk (s .first)) in
+      let c : Wrote l₁ head count l₂ (head + 2) = record { written = x; ends = ap (λ (n : ℕ). head + n) (sym (length-leBytes 2 (s .count))) } in
+      let p = wrote-then l l₁ l₂ 0 head (head + 2) (headBytes form1 k m) count (omega arith) v c in
+      rw (many h) (wrote-then l l₂ l₃ 0 (head + 2) end (headBytes form1 k m ++ count) offsets (omega arith) p w)

@@ -1,6 +1,6 @@
 -- The record of a real chunk as it is written: empty, tiny or full, by the summary's tests; its numbers are bytes. Assumes nothing.
 use mathlib.Core.Path.{_≡_, refl, sym}
-use mathlib.Core.Bool.{true, false, _&&_, not}
+use mathlib.Core.Bool.{Bool, true, false, _&&_, not}
 use mathlib.Core.List.{List}
 use Prim.Native.Nat.{ℕ, _-_, _≤_, _<_}
 use native.Mathlib.Omega.{arith}
@@ -27,19 +27,29 @@ module _ (flag : ℕ) (keyword chunk : List ℕ) (s : Summary) (e : s ≡ summar
   pub prefix-byte : length keyword ≤ 32 → s .prefix < 256
   unfolding reach
   prefix-byte h =
-      omega (arith, at-prefix s m e, folded-length flag keyword, prefix-in (length (folded flag keyword)) (length (folded flag chunk)) m (record-in-range (folded flag keyword) (folded flag chunk)))
+      let w : List ℕ = folded flag keyword in
+      let c : List ℕ = folded flag chunk in
+      omega (arith, at-prefix s m e, folded-length flag keyword, prefix-in (length w) (length c) m (record-in-range w c))
 
   pub suffix-byte : length keyword ≤ 32 → s .suffix < 256
   unfolding reach
   suffix-byte h =
-      omega (arith, at-suffix s m e, folded-length flag keyword, suffix-in (length (folded flag keyword)) (length (folded flag chunk)) m (record-in-range (folded flag keyword) (folded flag chunk)))
+      let w : List ℕ = folded flag keyword in
+      let c : List ℕ = folded flag chunk in
+      omega (arith, at-suffix s m e, folded-length flag keyword, suffix-in (length w) (length c) m (record-in-range w c))
 
   pub tiny-prefix-most : isTiny form1 (length keyword) m ≡ true → s .prefix ≤ 1
-  tiny-prefix-most t = omega (arith, at-prefix s m e, le-of (m .prefix) 1 (and-right (eqb (length (m .offsets)) 0) (leb (m .prefix) 1) (and-left _ (leb (m .suffix) 1) (and-left _ (not (isEmpty m)) t))))
+  tiny-prefix-most t =
+      let none : Bool = eqb (length (m .offsets)) 0 in
+      let p : Bool = leb (m .prefix) 1 in
+      let q : Bool = leb (m .suffix) 1 in
+      omega (arith, at-prefix s m e, le-of (m .prefix) 1 (and-right none p (and-left (none && p) q (and-left (none && p && q) (not (isEmpty m)) t))))
 
   pub tiny-suffix-most : isTiny form1 (length keyword) m ≡ true → s .suffix ≤ 1
   tiny-suffix-most t =
-      omega (arith, at-suffix s m e, le-of (m .suffix) 1 (and-right (eqb (length (m .offsets)) 0 && leb (m .prefix) 1) (leb (m .suffix) 1) (and-left _ (not (isEmpty m)) t)))
+      let p : Bool = eqb (length (m .offsets)) 0 && leb (m .prefix) 1 in
+      let q : Bool = leb (m .suffix) 1 in
+      omega (arith, at-suffix s m e, le-of (m .suffix) 1 (and-right p q (and-left (p && q) (not (isEmpty m)) t)))
 
 -- ---- the three forms
 
@@ -47,8 +57,10 @@ module _ (n k : ℕ) (m : MatchRecord) (l : List ℕ) where
   pub put-nothing : isEmpty m ≡ true → Wrote l 0 (recordBytes form1 n k m) l 0
   put-nothing h = rw (written-empty form1 n k m h) (record { written = sym (splice-nil l 0); ends = refl })
 
-  pub put-as-tiny : (after : List ℕ) (end : ℕ) → isTiny form1 n m ≡ true → Wrote l 0 (tinyBytes form1 k m) after end → Wrote l 0 (recordBytes form1 n k m) after end
+  pub put-as-tiny : (after : List ℕ) (end : ℕ) → isTiny form1 n m ≡ true → Wrote l 0 (tinyBytes form1 k m) after end
+      → Wrote l 0 (recordBytes form1 n k m) after end
   put-as-tiny after end h w = rw (written-tiny form1 n k m h) w
 
-  pub put-as-full : (after : List ℕ) (end : ℕ) → isEmpty m ≡ false → isTiny form1 n m ≡ false → Wrote l 0 (fullBytes form1 k m) after end → Wrote l 0 (recordBytes form1 n k m) after end
+  pub put-as-full : (after : List ℕ) (end : ℕ) → isEmpty m ≡ false → isTiny form1 n m ≡ false → Wrote l 0 (fullBytes form1 k m) after end
+      → Wrote l 0 (recordBytes form1 n k m) after end
   put-as-full after end h t w = rw (written-full form1 n k m h t) w

@@ -82,7 +82,14 @@ module _ (count k : ℕ) (m : MatchRecord) (e : count ≡ length (m .offsets)) w
 
   pub size-three : 254 < count → 9 + 2 * count ≡ length (fullBytes form1 k m)
   size-three h =
-      omega (arith, length-full form1 k m, ap length (offsets-three form1 (m .offsets) (omega arith)), length-fieldsBytes 2 (m .offsets), length-leBytes 2 (length (m .offsets)), length-append (leBytes 2 (length (m .offsets))) (fieldsBytes 2 (m .offsets)))
+      omega (
+        arith,
+        length-full form1 k m,
+        ap length (offsets-three form1 (m .offsets) (omega arith)),
+        length-fieldsBytes 2 (m .offsets),
+        length-leBytes 2 (length (m .offsets)),
+        length-append (leBytes 2 (length (m .offsets))) (fieldsBytes 2 (m .offsets)),
+      )
 
 -- ---- stores into a buffer
 
@@ -107,7 +114,8 @@ module _ (l : List ℕ) (k : ℕ) (s : Summary) (m : MatchRecord) (e : s ≡ sum
       }
 
 -- one more offset written: the others are left
-pub field-turn : (width : ℕ) (out after : List ℕ) (end r : ℕ) (here rest : List ℕ) → here ≡ r ∷ rest → end ≤ length out → after ≡ splice out end (leBytes width r)
+pub field-turn : (width : ℕ) (out after : List ℕ) (end r : ℕ) (here rest : List ℕ) → here ≡ r ∷ rest → end ≤ length out
+    → after ≡ splice out end (leBytes width r)
     → splice after (end + width) (fieldsBytes width rest) ≡ splice out end (fieldsBytes width here)
 unfolding fieldsBytes
 field-turn width out after end r here rest h l w =
@@ -115,7 +123,8 @@ field-turn width out after end r here rest h l w =
 
 -- ---- one run after another
 
-pub wrote-then : (l l₁ l₂ : List ℕ) (at end end₂ : ℕ) (v w : List ℕ) → at ≤ length l → Wrote l at v l₁ end → Wrote l₁ end w l₂ end₂ → Wrote l at (v ++ w) l₂ end₂
+pub wrote-then : (l l₁ l₂ : List ℕ) (at end end₂ : ℕ) (v w : List ℕ) → at ≤ length l → Wrote l at v l₁ end → Wrote l₁ end w l₂ end₂
+    → Wrote l at (v ++ w) l₂ end₂
 wrote-then l l₁ l₂ at end end₂ v w h p q = record {
   written = splice-then l at v w h (p .written) (p .ends) (q .written);
   ends = omega (arith, p .ends, q .ends, length-append v w);

@@ -19,12 +19,14 @@ module _ (flag : ℕ) (keyword chunk : List ℕ) where
   unfolding recordOf
   recorded-offsets = offsets-all (folded flag keyword) (folded flag chunk)
 
-  module _ {prefix suffix first : ℕ} (p : prefix ≡ prefixOf (folded flag keyword) (folded flag chunk)) (s : suffix ≡ suffixOf (folded flag keyword) (folded flag chunk)) (f : first ≡ next flag keyword chunk 0) where
+  module _ {prefix suffix first : ℕ} (p : prefix ≡ prefixOf (folded flag keyword) (folded flag chunk))
+      (s : suffix ≡ suffixOf (folded flag keyword) (folded flag chunk)) (f : first ≡ next flag keyword chunk 0) where
     pub summary-none : length chunk ≤ first → record { prefix = prefix; suffix = suffix; count = 0; first = 0 } ≡ summaryOf recorded
     unfolding summaryOf recordOf
     summary-none h = rw (p, s, offsets-all (folded flag keyword) (folded flag chunk), left-ended flag keyword chunk 0 first f h)
 
-    pub summary-some : {count : ℕ} → first < length chunk → count ≡ length (left flag keyword chunk first) → record { prefix = prefix; suffix = suffix; count = count; first = first } ≡ summaryOf recorded
+    pub summary-some : {count : ℕ} → first < length chunk → count ≡ length (left flag keyword chunk first)
+        → record { prefix = prefix; suffix = suffix; count = count; first = first } ≡ summaryOf recorded
     unfolding summaryOf recordOf
     summary-some h n =
         let x = left-next flag keyword chunk 0 first f h in

@@ -67,12 +67,14 @@ record-size-requires c κs =
     let s = p .before .before .before .before .before in
     let a = s .args in
     let t = c .before .loop-test .taken in
-    (omega (arith, keyword-length (a .list .now) (a .words) (s .pre .reads) (p .loop .k) t, place (a .list .now) (a .words) (s .pre .reads) (p .loop .k) t .some), s .pre .short)
+    let n = keyword-length (a .list .now) (a .words) (s .pre .reads) (p .loop .k) t in
+    (omega (arith, n, place (a .list .now) (a .words) (s .pre .reads) (p .loop .k) t .some), s .pre .short)
 
 -- the record measured is the first of what is left
 step : (c : tie.After-record-size Inv-loop μ-loop)
     → let p = c .before .before .before in let a = p .before .before .before .before .before .args in
-    length (bodyRest form1 (a .list .now) (a .chunk .now) (p .loop .k)) ≡ c .record-size .result + length (bodyRest form1 (a .list .now) (a .chunk .now) (p .loop .k + 1))
+    length (bodyRest form1 (a .list .now) (a .chunk .now) (p .loop .k))
+    ≡ c .record-size .result + length (bodyRest form1 (a .list .now) (a .chunk .now) (p .loop .k + 1))
 step c =
     let p = c .before .before .before in
     let s = p .before .before .before .before .before in
@@ -82,7 +84,12 @@ step c =
     let t = c .before .before .loop-test .taken in
     let w = keyword (a .list .now) (a .words) r k t in
     let v = recordBytes form1 (length w) k (recordOf (folded (a .words .flag) w) (folded (a .words .flag) (a .chunk .now))) in
-    omega (arith, ap length (next-record (a .list .now) (a .words) r k t form1 (a .chunk .now)), length-append v (bodyRest form1 (a .list .now) (a .chunk .now) (k + 1)), c .record-size .ensures k)
+    omega (
+      arith,
+      ap length (next-record (a .list .now) (a .words) r k t form1 (a .chunk .now)),
+      length-append v (bodyRest form1 (a .list .now) (a .chunk .now) (k + 1)),
+      c .record-size .ensures k,
+    )
 
 add-size : tie.Need-add-size Inv-loop μ-loop
 add-size c =
@@ -103,7 +110,9 @@ returns : tie.Need-returns Inv-loop μ-loop
 returns c =
     let p = c .before in
     let s = p .before .before .before .before .before in
-    omega (arith, p .loop .inv .1, ap length (no-record (s .args .list .now) (s .args .words) (s .pre .reads) form1 (s .args .chunk .now) (p .loop .k) (c .loop-test .left)))
+    let a = s .args in
+    let none = no-record (a .list .now) (a .words) (s .pre .reads) form1 (a .chunk .now) (p .loop .k) (c .loop-test .left) in
+    omega (arith, p .loop .inv .1, ap length none)
 
 pub body-size-spec : {M : Type 1} → statement M
 body-size-spec =

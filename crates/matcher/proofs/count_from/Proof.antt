@@ -25,17 +25,20 @@ returns : tie.Need-returns Inv-loop μ-loop
 returns c =
     let l = c .before .before in
     let a = l .before .before .before .args in
-    let n = ap length (left-ended (a .flag) (a .keyword .now) (a .chunk .now) (l .loop .place) (c .before .next-offset .result) (c .before .next-offset .ensures) (c .if1 .taken)) in
-    omega (arith, n, l .loop .inv)
+    let n = c .before .next-offset in
+    let none = left-ended (a .flag) (a .keyword .now) (a .chunk .now) (l .loop .place) (n .result) (n .ensures) (c .if1 .taken) in
+    omega (arith, ap length none, l .loop .inv)
 
 -- in a turn that goes on, the offset found is the first of those left
 found : (c : tie.Else1 Inv-loop μ-loop)
     → let l = c .before .before in let a = l .before .before .before .args in let at = c .before .next-offset .result in
-    (l .loop .place ≤ at) × (length (left (a .flag) (a .keyword .now) (a .chunk .now) (l .loop .place)) ≡ suc (length (left (a .flag) (a .keyword .now) (a .chunk .now) (at + 1))))
+    (l .loop .place ≤ at)
+    × (length (left (a .flag) (a .keyword .now) (a .chunk .now) (l .loop .place)) ≡ suc (length (left (a .flag) (a .keyword .now) (a .chunk .now) (at + 1))))
 found c =
     let l = c .before .before in
     let a = l .before .before .before .args in
-    let f = left-next (a .flag) (a .keyword .now) (a .chunk .now) (l .loop .place) (c .before .next-offset .result) (c .before .next-offset .ensures) (omega arith) in
+    let n = c .before .next-offset in
+    let f = left-next (a .flag) (a .keyword .now) (a .chunk .now) (l .loop .place) (n .result) (n .ensures) (omega arith) in
     (f .low, ap length (f .is))
 
 add-count : tie.Need-add-count Inv-loop μ-loop

@@ -1,8 +1,9 @@
 -- `matcher::next_offset` meets its contract. The invariant: the next offset from the start on is the next from here on. Assumes nothing.
 use mathlib.Core.Path.{_≡_, refl, sym, _∙_}
 use mathlib.Core.Logic.{⊎-elim}
-use mathlib.Core.Bool.{false}
-use Prim.Native.Nat.{suc, _-_}
+use mathlib.Core.Bool.{Bool, true, false}
+use mathlib.Core.List.{List}
+use Prim.Native.Nat.{ℕ, suc, _-_}
 use native.Mathlib.Omega.{arith}
 use borrow.Author.Needs.{needs}
 use Rattle.spec.specs.Bytes.{occursAt}
@@ -43,11 +44,18 @@ fold-requires-2 c κs = search needs
 occurs-at-requires : tie.Need-occurs-at-requires Inv-loop μ-loop
 occurs-at-requires c κs = search needs
 
+-- the test passed
+occurs : (flag : ℕ) (keyword chunk : List ℕ) (at : ℕ) (b : Bool) → b ≡ occursAt (folded flag keyword) (folded flag chunk) at → b ≡ true
+    → occursAt (folded flag keyword) (folded flag chunk) at ≡ true
+occurs flag keyword chunk at b e t = sym e ∙ t
+
 returns-2 : tie.Need-returns-2 Inv-loop μ-loop
 returns-2 c =
     let l = c .before .before .before .before .before .before in
     let a = l .before .before .before .before .before .before .args in
-    sym (l .loop .inv ∙ next-yes (a .flag) (a .keyword .now) (a .chunk .now) (l .loop .at) (omega arith) (sym (c .before .occurs-at .ensures) ∙ c .if3 .taken))
+    let o = c .before .occurs-at in
+    let yes = occurs (a .flag) (a .keyword .now) (a .chunk .now) (l .loop .at) (o .result) (o .ensures) (c .if3 .taken) in
+    sym (l .loop .inv ∙ next-yes (a .flag) (a .keyword .now) (a .chunk .now) (l .loop .at) (omega arith) yes)
 
 add-at : tie.Need-add-at Inv-loop μ-loop
 add-at c = search needs
@@ -64,7 +72,8 @@ missed c =
     let a = l .before .before .before .before .before .before .args in
     ⊎-elim
     (λ w. sym (w .1 .ensures) ∙ w .2 .left)
-    (λ w. first-differs (a .flag) (a .keyword .now) (a .chunk .now) (l .loop .at) (omega arith) (omega arith) (λ e. w .left (c .before .fold2 .ensures ∙ sym e ∙ sym (l .before .fold .ensures))))
+    (λ w. first-differs (a .flag) (a .keyword .now) (a .chunk .now) (l .loop .at) (omega arith) (omega arith)
+    (λ e. w .left (c .before .fold2 .ensures ∙ sym e ∙ sym (l .before .fold .ensures))))
     (c .if2 .came)
 
 loop-again : tie.Need-loop-again Inv-loop μ-loop

@@ -71,7 +71,8 @@ loop-again : tie.Need-loop-again Inv-loop μ-loop
 loop-again c =
     let l = c .before .before .before .before .before .before in
     let a = l .before .before .before .before .before .before .args in
-    (omega arith, omega arith, l .loop .inv .2 ∙ rest-same (a .flag) (a .keyword .now) (a .chunk .now) (a .at) (l .loop .k) (omega arith) (omega arith) (omega arith))
+    let same = rest-same (a .flag) (a .keyword .now) (a .chunk .now) (a .at) (l .loop .k) (omega arith) (omega arith) (omega arith) in
+    (omega arith, omega arith, l .loop .inv .2 ∙ same)
 
 returns-5 : tie.Need-returns-5 Inv-loop μ-loop
 returns-5 c =

@@ -1,11 +1,13 @@
 -- `matcher::prefix_of` meets its contract. The invariant: the prefix is the largest number up to i that passes. Assumes nothing.
 use mathlib.Core.Path.{_≡_, sym, ap, _∙_}
-use Prim.Native.Nat.{_-_, _≤_}
+use mathlib.Core.Bool.{Bool, true, false}
+use mathlib.Core.List.{List}
+use Prim.Native.Nat.{ℕ, _-_, _≤_}
 use native.Mathlib.Omega.{arith}
 use borrow.Author.Needs.{needs}
-use lib.ListN.{length}
+use lib.ListN.{length, take}
 use lib.Seq.{length-take-le}
-use Rattle.spec.specs.Bytes.{largest}
+use Rattle.spec.specs.Bytes.{largest, occursAt}
 use Rattle.spec.specs.Keywords.{folded}
 use Rattle.spec.specs.Records.{reach, endsWith, prefixOf}
 use Rattle.spec.proofs.Largest.{largest-yes, largest-no}
@@ -39,11 +41,18 @@ sub-occurs-at c = omega arith
 occurs-at-requires : tie.Need-occurs-at-requires Inv-loop μ-loop
 occurs-at-requires c κs = omega arith
 
+-- what the test says of the first i bytes
+ends : (flag : ℕ) (keyword chunk : List ℕ) (i : ℕ) (b t : Bool) → b ≡ occursAt (folded flag (take i keyword)) (folded flag chunk) (length chunk - i) → b ≡ t
+    → endsWith (folded flag keyword) (folded flag chunk) i ≡ t
+ends flag keyword chunk i b t e q = sym (ends-part flag keyword chunk i) ∙ sym e ∙ q
+
 returns : tie.Need-returns Inv-loop μ-loop
 returns c =
     let l = c .before .before .before .before in
     let a = l .before .before .before .before .args in
-    sym (l .loop .inv .2 ∙ largest-yes _ (l .loop .i) (sym (ends-part (a .flag) (a .keyword .now) (a .chunk .now) (l .loop .i)) ∙ sym (c .before .occurs-at .ensures) ∙ c .if1 .taken))
+    let o = c .before .occurs-at in
+    let yes = ends (a .flag) (a .keyword .now) (a .chunk .now) (l .loop .i) (o .result) true (o .ensures) (c .if1 .taken) in
+    sym (l .loop .inv .2 ∙ largest-yes _ (l .loop .i) yes)
 
 sub-i : tie.Need-sub-i Inv-loop μ-loop
 sub-i c = omega arith
@@ -55,7 +64,9 @@ loop-again : tie.Need-loop-again Inv-loop μ-loop
 loop-again c =
     let l = c .before .before .before .before in
     let a = l .before .before .before .before .args in
-    (omega arith, omega arith, l .loop .inv .2 ∙ largest-no _ (l .loop .i) (omega arith) (sym (ends-part (a .flag) (a .keyword .now) (a .chunk .now) (l .loop .i)) ∙ sym (c .before .occurs-at .ensures) ∙ c .if1 .left))
+    let o = c .before .occurs-at in
+    let not-there = ends (a .flag) (a .keyword .now) (a .chunk .now) (l .loop .i) (o .result) false (o .ensures) (c .if1 .left) in
+    (omega arith, omega arith, l .loop .inv .2 ∙ largest-no _ (l .loop .i) (omega arith) not-there)
 
 returns-2 : tie.Need-returns-2 Inv-loop μ-loop
 returns-2 c =

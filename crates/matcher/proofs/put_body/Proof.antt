@@ -63,7 +63,8 @@ next c =
     next-record (s .args .list .now) (s .args .words) (s .pre .reads) (p .loop .k) (c .loop-test .taken) form1 (s .args .chunk .now)
 
 next-length : (c : tie.In-loop Inv-loop μ-loop) → let p = c .before in let a = p .before .before .before .before .before .before .args in
-    length (bodyRest form1 (a .list .now) (a .chunk .now) (p .loop .k)) ≡ length (here c) + length (bodyRest form1 (a .list .now) (a .chunk .now) (p .loop .k + 1))
+    length (bodyRest form1 (a .list .now) (a .chunk .now) (p .loop .k))
+    ≡ length (here c) + length (bodyRest form1 (a .list .now) (a .chunk .now) (p .loop .k + 1))
 next-length c =
     let p = c .before in
     let a = p .before .before .before .before .before .before .args in
@@ -148,11 +149,14 @@ loop-again c =
     let p = i .before in
     let a = p .before .before .before .before .before .before .args in
     let k = p .loop .k in
+    let rest = bodyRest form1 (a .list .now) (a .chunk .now) k in
+    let behind = bodyRest form1 (a .list .now) (a .chunk .now) (k + 1) in
+    let whole = splice (a .out .now) 0 (scanBody form1 (a .list .now) (a .chunk .now)) in
     let called = w .put-record in (
       omega (arith, i .loop-test .taken),
       same-len-mid (p .loop .size) (length (p .loop .out) - p .loop .size) (p .loop .out) (called .last .0) (called .kept .0) ∙ p .loop .inv .1,
       omega (arith, next-length i, called .ensures .ends, p .loop .inv .2),
-      record-turn (p .loop .out) (called .last .0) (splice (a .out .now) 0 (scanBody form1 (a .list .now) (a .chunk .now))) (p .loop .size) (called .result) (here i) (bodyRest form1 (a .list .now) (a .chunk .now) (k + 1)) (bodyRest form1 (a .list .now) (a .chunk .now) k)
+      record-turn (p .loop .out) (called .last .0) whole (p .loop .size) (called .result) (here i) behind rest
           (next i) (room i) (called .ensures) (p .loop .inv .3),
     )
 
@@ -164,7 +168,8 @@ returns c =
     let p = c .before in
     let s = p .before .before .before .before .before .before in
     let a = s .args in
-    done (a .out .now) (p .loop .out) (scanBody form1 (a .list .now) (a .chunk .now)) (bodyRest form1 (a .list .now) (a .chunk .now) (p .loop .k)) (p .loop .size)
+    let rest = bodyRest form1 (a .list .now) (a .chunk .now) (p .loop .k) in
+    done (a .out .now) (p .loop .out) (scanBody form1 (a .list .now) (a .chunk .now)) rest (p .loop .size)
     (no-record (a .list .now) (a .words) (s .pre .reads) form1 (a .chunk .now) (p .loop .k) (c .loop-test .left)) (p .loop .inv .2) (p .loop .inv .3)
 
 pub put-body-spec : {M : Type 1} → statement M

@@ -22,11 +22,13 @@ put-head-requires c κs =
 -- the head stands at the start
 head : (c : tie.After-slice-known2)
     → let h = c .before .before in let a = h .before .before .before .before .before .args in
-    Wrote (a .out .now) 0 (headBytes form1 (a .k) (recordOf (folded (a .flag) (a .keyword .now)) (folded (a .flag) (a .chunk .now)))) (h .put-head .last .0) (h .put-head .result)
+    Wrote (a .out .now) 0 (headBytes form1 (a .k) (recordOf (folded (a .flag) (a .keyword .now)) (folded (a .flag) (a .chunk .now))))
+    (h .put-head .last .0) (h .put-head .result)
 head c =
     let h = c .before .before in
     let a = h .before .before .before .before .before .args in
-    h .put-head .ensures (recordOf (folded (a .flag) (a .keyword .now)) (folded (a .flag) (a .chunk .now))) (h .before .before .before .before .before .pre .summed)
+    let m = recordOf (folded (a .flag) (a .keyword .now)) (folded (a .flag) (a .chunk .now)) in
+    h .put-head .ensures m (h .before .before .before .before .before .pre .summed)
 
 same-length : tie.Need-same-length
 same-length c = search needs
@@ -36,7 +38,8 @@ returns c =
     let h = c .before .before .before in
     let s = h .before .before .before .before .before in
     let a = s .args in
-    put-one (a .flag) (a .keyword .now) (a .chunk .now) (a .k) (a .s) (s .pre .summed) (a .out .now) (h .put-head .last .0) (h .put-head .result) (c .if1 .taken) (head (c .before))
+    put-one (a .flag) (a .keyword .now) (a .chunk .now) (a .k) (a .s) (s .pre .summed)
+    (a .out .now) (h .put-head .last .0) (h .put-head .result) (c .if1 .taken) (head (c .before))
 
 -- the keyword has bytes
 positive : (flag : ℕ) (keyword : List ℕ) → 1 ≤ length (folded flag keyword) → 1 ≤ length keyword
@@ -50,7 +53,8 @@ put-offsets-requires c κs =
     let a = s .args in
     let r : length (h .put-head .last .0) ≡ length (a .out .now) = h .put-head .kept .0 in (
       positive (a .flag) (a .keyword .now) (s .pre .some),
-      room-two (a .flag) (a .keyword .now) (a .chunk .now) (a .k) (a .s) (s .pre .summed) (h .put-head .result) (length (h .put-head .last .0)) (head q) (omega arith) (c .before .if2 .taken) (omega (arith, s .pre .room)),
+      room-two (a .flag) (a .keyword .now) (a .chunk .now) (a .k) (a .s) (s .pre .summed) (h .put-head .result) (length (h .put-head .last .0))
+          (head q) (omega arith) (c .before .if2 .taken) (omega (arith, s .pre .room)),
     )
 
 same-length-2 : tie.Need-same-length-2
@@ -63,7 +67,8 @@ returns-2 c =
     let h = q .before .before in
     let s = h .before .before .before .before .before in
     let a = s .args in
-    put-two (a .flag) (a .keyword .now) (a .chunk .now) (a .k) (a .s) (s .pre .summed) (a .out .now) (h .put-head .last .0) (w .put-offsets .last .0) (h .put-head .result) (w .put-offsets .result)
+    put-two (a .flag) (a .keyword .now) (a .chunk .now) (a .k) (a .s) (s .pre .summed)
+    (a .out .now) (h .put-head .last .0) (w .put-offsets .last .0) (h .put-head .result) (w .put-offsets .result)
     (omega arith) (w .before .before .if2 .taken) (head q) (w .put-offsets .ensures)
 
 -- of a record with 255 offsets or more, the exact count and the offsets have room
@@ -74,7 +79,9 @@ room c =
     let h = q .before .before in
     let s = h .before .before .before .before .before in
     let a = s .args in
-    omega (arith, room-three (a .flag) (a .keyword .now) (a .chunk .now) (a .k) (a .s) (s .pre .summed) (h .put-head .result) (length (a .out .now)) (head q) (omega arith) (s .pre .room))
+    let fits = room-three (a .flag) (a .keyword .now) (a .chunk .now) (a .k) (a .s) (s .pre .summed) (h .put-head .result) (length (a .out .now))
+    (head q) (omega arith) (s .pre .room) in
+    omega (arith, fits)
 
 write-requires : tie.Need-write-requires
 write-requires c κs = omega (arith, room (c .before), c .before .before .before .before .before .put-head .kept .0)
@@ -92,7 +99,8 @@ put-offsets-requires-2 c κs =
     let r : length (h .put-head .last .0) ≡ length (a .out .now) = h .put-head .kept .0 in
     let t : length (w .write .last .0) ≡ length (h .put-head .last .0) = w .write .kept .0 in (
       positive (a .flag) (a .keyword .now) (s .pre .some),
-      room-three (a .flag) (a .keyword .now) (a .chunk .now) (a .k) (a .s) (s .pre .summed) (h .put-head .result) (length (w .write .last .0)) (head q) (omega arith) (omega (arith, s .pre .room)),
+      room-three (a .flag) (a .keyword .now) (a .chunk .now) (a .k) (a .s) (s .pre .summed) (h .put-head .result) (length (w .write .last .0))
+          (head q) (omega arith) (omega (arith, s .pre .room)),
     )
 
 same-length-3 : tie.Need-same-length-3
@@ -106,7 +114,8 @@ returns-3 c =
     let h = q .before .before in
     let s = h .before .before .before .before .before in
     let a = s .args in
-    put-three (a .flag) (a .keyword .now) (a .chunk .now) (a .k) (a .s) (s .pre .summed) (a .out .now) (h .put-head .last .0) (w .write .last .0) (o .put-offsets2 .last .0) (h .put-head .result) (o .put-offsets2 .result)
+    put-three (a .flag) (a .keyword .now) (a .chunk .now) (a .k) (a .s) (s .pre .summed)
+    (a .out .now) (h .put-head .last .0) (w .write .last .0) (o .put-offsets2 .last .0) (h .put-head .result) (o .put-offsets2 .result)
     (omega arith) (head q) (w .write .ensures) (o .put-offsets2 .ensures)
 
 pub put-full-spec : {M : Type 1} → statement M

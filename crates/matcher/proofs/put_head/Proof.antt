@@ -46,8 +46,11 @@ same-length c = c .before .before .write .kept .0 ∙ simp length-set
 returns : tie.Need-returns
 returns c =
     let a = c .before .before .before .before .before .before .before .before .before .args in
-    λ m e. head-put (a .out .now) (a .k) (a .s) m e (c .before .before .before .before .before .before .before .kind-of .result) (c .before .before .before .before .before .before .count-byte .result) (c .before .before .write .last .0)
-    (c .before .before .before .before .before .before .before .kind-of .ensures) (c .before .before .before .before .before .before .count-byte .ensures) (omega arith) (c .before .before .write .ensures)
+    let w = c .before .before .write in
+    let n = c .before .before .before .before .before .before in
+    let kind = n .before .kind-of in
+    let count = n .count-byte in
+    λ m e. head-put (a .out .now) (a .k) (a .s) m e (kind .result) (count .result) (w .last .0) (kind .ensures) (count .ensures) (omega arith) (w .ensures)
 
 pub put-head-spec : {M : Type 1} → statement M
 put-head-spec =

@@ -46,7 +46,9 @@ returns c =
     let l = c .before .before in
     let a = l .before .before .before .before .args in
     let n = c .before .next-offset in
-    done (a .out .now) (l .loop .out) (left (a .flag) (a .keyword .now) (a .chunk .now) (a .from)) (left (a .flag) (a .keyword .now) (a .chunk .now) (l .loop .place)) (a .at) (l .loop .end)
+    let whole = left (a .flag) (a .keyword .now) (a .chunk .now) (a .from) in
+    let rest = left (a .flag) (a .keyword .now) (a .chunk .now) (l .loop .place) in
+    done (a .out .now) (l .loop .out) whole rest (a .at) (l .loop .end)
     (left-ended (a .flag) (a .keyword .now) (a .chunk .now) (l .loop .place) (n .result) (n .ensures) (c .if1 .taken)) (l .loop .inv .1) (l .loop .inv .2)
 
 -- in a turn that goes on, the offset found is the first of those left
@@ -56,7 +58,8 @@ found : (c : tie.Else1 Inv-loop μ-loop)
 found c =
     let l = c .before .before in
     let a = l .before .before .before .before .args in
-    let f = left-next (a .flag) (a .keyword .now) (a .chunk .now) (l .loop .place) (c .before .next-offset .result) (c .before .next-offset .ensures) (omega arith) in
+    let n = c .before .next-offset in
+    let f = left-next (a .flag) (a .keyword .now) (a .chunk .now) (l .loop .place) (n .result) (n .ensures) (omega arith) in
     (f .low, f .is)
 
 -- and it has room
@@ -84,10 +87,12 @@ loop-again c =
     let a = l .before .before .before .before .args in
     let r = e .before .next-offset .result in
     let w = c .before .before .write in
+    let rest = left (a .flag) (a .keyword .now) (a .chunk .now) (l .loop .place) in
+    let behind = left (a .flag) (a .keyword .now) (a .chunk .now) (r + 1) in
     let f = found e .1 in (
       w .kept .0 ∙ l .loop .inv .0,
       omega (arith, ap length f, l .loop .inv .1),
-      field-turn 2 (l .loop .out) (w .last .0) (l .loop .end) r (left (a .flag) (a .keyword .now) (a .chunk .now) (l .loop .place)) (left (a .flag) (a .keyword .now) (a .chunk .now) (r + 1)) f (omega (arith, room e)) (w .ensures)
+      field-turn 2 (l .loop .out) (w .last .0) (l .loop .end) r rest behind f (omega (arith, room e)) (w .ensures)
           ∙ l .loop .inv .2,
     )
 

@@ -61,7 +61,8 @@ returns-2 c =
     let t = p .before .before in
     let s = t .before .before .before .before in
     let a = s .before .before .before .before .args in
-    put-as-tiny (size s) (a .k) (here s) (a .out .now) (p .put-tiny .last .0) (p .put-tiny .result) (tiny t) (p .put-tiny .ensures (here s) (s .summary-of .ensures))
+    let w = p .put-tiny in
+    put-as-tiny (size s) (a .k) (here s) (a .out .now) (w .last .0) (w .result) (tiny t) (w .ensures (here s) (s .summary-of .ensures))
 
 -- neither empty nor tiny
 not-empty : (c : tie.Else2) → isEmpty (here (c .before .before .before .before)) ≡ false

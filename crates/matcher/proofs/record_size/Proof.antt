@@ -36,7 +36,8 @@ is-tiny-requires c κs = search needs
 returns-2 : tie.Need-returns-2
 returns-2 c = λ k.
     let s = c .before .before .before .before in
-    sym (ap length (written-tiny form1 (keyword-length s) k (here s) (sym (c .before .is-tiny .ensures (keyword-length s) (here s) (s .summary-of .ensures)) ∙ c .if2 .taken)))
+    let tiny = sym (c .before .is-tiny .ensures (keyword-length s) (here s) (s .summary-of .ensures)) ∙ c .if2 .taken in
+    sym (ap length (written-tiny form1 (keyword-length s) k (here s) tiny))
 
 full-size-requires : tie.Need-full-size-requires
 full-size-requires c κs =

@@ -48,7 +48,8 @@ returns : tie.Need-returns Inv-loop μ-loop
 returns c =
     let l = c .before .before .before .before in
     let a = l .before .before .before .before .args in
-    sym (l .loop .inv .2 ∙ largest-yes _ (l .loop .j) (sym (starts-part (a .flag) (a .keyword .now) (a .chunk .now) (l .loop .j)) ∙ sym (c .before .occurs-at .ensures) ∙ c .if1 .taken))
+    sym (l .loop .inv .2 ∙ largest-yes _ (l .loop .j)
+    (sym (starts-part (a .flag) (a .keyword .now) (a .chunk .now) (l .loop .j)) ∙ sym (c .before .occurs-at .ensures) ∙ c .if1 .taken))
 
 sub-j : tie.Need-sub-j Inv-loop μ-loop
 sub-j c = omega arith
@@ -59,8 +60,12 @@ loop-less c = omega arith
 loop-again : tie.Need-loop-again Inv-loop μ-loop
 loop-again c =
     let l = c .before .before .before .before in
-    let a = l .before .before .before .before .args in
-    (omega arith, omega arith, l .loop .inv .2 ∙ largest-no _ (l .loop .j) (omega arith) (sym (starts-part (a .flag) (a .keyword .now) (a .chunk .now) (l .loop .j)) ∙ sym (c .before .occurs-at .ensures) ∙ c .if1 .left))
+    let a = l .before .before .before .before .args in (
+      omega arith,
+      omega arith,
+      l .loop .inv .2 ∙ largest-no _ (l .loop .j) (omega arith)
+          (sym (starts-part (a .flag) (a .keyword .now) (a .chunk .now) (l .loop .j)) ∙ sym (c .before .occurs-at .ensures) ∙ c .if1 .left),
+    )
 
 returns-2 : tie.Need-returns-2 Inv-loop μ-loop
 returns-2 c =

@@ -17,7 +17,9 @@ next-offset-requires c κs = search needs
 returns : tie.Need-returns
 returns c =
     let a = c .before .before .before .before .before .before .args in
-    summary-none (a .flag) (a .keyword .now) (a .chunk .now) (c .before .before .before .prefix-of .ensures) (c .before .before .suffix-of .ensures) (c .before .next-offset .ensures) (c .if1 .taken)
+    let n = c .before in
+    summary-none (a .flag) (a .keyword .now) (a .chunk .now)
+    (n .before .before .prefix-of .ensures) (n .before .suffix-of .ensures) (n .next-offset .ensures) (c .if1 .taken)
 
 count-from-requires : tie.Need-count-from-requires
 count-from-requires c κs = search needs
@@ -25,7 +27,9 @@ count-from-requires c κs = search needs
 returns-2 : tie.Need-returns-2
 returns-2 c =
     let a = c .before .before .before .before .before .before .before .args in
-    summary-some (a .flag) (a .keyword .now) (a .chunk .now) (c .before .before .before .before .prefix-of .ensures) (c .before .before .before .suffix-of .ensures) (c .before .before .next-offset .ensures) (omega arith) (c .count-from .ensures)
+    let n = c .before .before in
+    summary-some (a .flag) (a .keyword .now) (a .chunk .now)
+    (n .before .before .prefix-of .ensures) (n .before .suffix-of .ensures) (n .next-offset .ensures) (omega arith) (c .count-from .ensures)
 
 pub summary-of-spec : {M : Type 1} → statement M
 summary-of-spec =
