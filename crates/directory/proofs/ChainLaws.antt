@@ -180,7 +180,8 @@ module _ (key : List ℕ) (keys : List (List ℕ)) (heads next : List ℕ) (k n 
 pub contained : (key : List ℕ) (keys : List (List ℕ)) (k c : ℕ) → length keys ≡ c → k ≤ c → ltb (placeFrom key keys k) c ≡ contains key (drop k keys)
 contained key keys k c q l = go (le-or-lt (length (drop k keys)) (positionOf key (drop k keys)))
   where
-    go : (length (drop k keys) ≤ positionOf key (drop k keys)) ⊎ (positionOf key (drop k keys) < length (drop k keys)) → ltb (placeFrom key keys k) c ≡ contains key (drop k keys)
+    go : (length (drop k keys) ≤ positionOf key (drop k keys)) ⊎ (positionOf key (drop k keys) < length (drop k keys))
+        → ltb (placeFrom key keys k) c ≡ contains key (drop k keys)
     go (inl h) =
         le-ltb (placeFrom key keys k) c (omega (arith, length-drop k keys))
         ∙ sym (contains-position key (drop k keys) ∙ le-ltb (positionOf key (drop k keys)) (length (drop k keys)) h)

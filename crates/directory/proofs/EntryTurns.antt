@@ -11,7 +11,8 @@ use Rattle.spec.specs.Directory.{Layout, sizeAt, offsetAt, lengthAt, entriesCod
 use Rattle.spec.proofs.EntryLaws.{entries-more, entries-none, entries-long, entries-gap, entries-end, entries-short, entries-past}
 
 -- an entry and its fields lie in the bytes
-pub entry-room : (start stride count k base field len : ℕ) → k < count → base ≡ start + stride * k → start + stride * count ≤ len → field ≤ stride → base + field ≤ len
+pub entry-room : (start stride count k base field len : ℕ) → k < count → base ≡ start + stride * k → start + stride * count ≤ len → field ≤ stride
+    → base + field ≤ len
 entry-room start stride count k base field len h e l f =
     let m : stride * suc k ≤ stride * count = mul-le-mul-left stride h in
     omega (arith, mul-suc stride k)
@@ -46,7 +47,8 @@ module _ (layout : Layout) (bytes : List ℕ) (most code count k at r : ℕ) (q 
   turn-past h z l o p =
       sym (entries-past layout bytes most code (count - (k + 1)) (suc k) (at + lengthAt layout bytes k) p) ∙ turn h z l o
 
-  pub turn-more : k < count → (sizeAt layout bytes k ≡ 0 → ⊥) → sizeAt layout bytes k ≤ most → offsetAt layout bytes k ≡ at → (x : ℕ) → x ≡ lengthAt layout bytes k
+  pub turn-more : k < count → (sizeAt layout bytes k ≡ 0 → ⊥) → sizeAt layout bytes k ≤ most → offsetAt layout bytes k ≡ at → (x : ℕ)
+      → x ≡ lengthAt layout bytes k
       → entriesCode layout bytes most code (count - (k + 1)) (k + 1) (at + x) ≡ r
   turn-more h z l o x e = rw (e, add-one) (rw add-one at (turn h z l o))
 

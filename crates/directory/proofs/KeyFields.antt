@@ -15,7 +15,9 @@ module _ (a b : List ℕ) (p : AllBytes a) (q : AllBytes b) (at w : ℕ) (h : at
   pub equal-more : take at a ≡ take at b → fieldAt a at w ≡ fieldAt b at w → take (at + w) a ≡ take (at + w) b
   equal-more e f =
       let one : take w (drop at a) ≡ take w (drop at b) =
-      sym (leBytes-take w (drop at a) (bytes-drop at a p) (omega (arith, length-drop at a))) ∙ ap (leBytes w) f ∙ leBytes-take w (drop at b) (bytes-drop at b q) (omega (arith, length-drop at b))
+      sym (leBytes-take w (drop at a) (bytes-drop at a p) (omega (arith, length-drop at a)))
+      ∙ ap (leBytes w) f
+      ∙ leBytes-take w (drop at b) (bytes-drop at b q) (omega (arith, length-drop at b))
       in take-add at w a ∙ ap₂ {C = List ℕ} (λ x y. x ++ y) e one ∙ sym (take-add at w b)
 
 -- a field that differs

@@ -27,7 +27,9 @@ hasBit x s = eqb (x / 2 ^ s % 2) 1
 bit-low : (x s n : ℕ) → s < n → x / 2 ^ s % 2 ≡ (x % 2 ^ n) / 2 ^ s % 2
 bit-low x s n h =
     let e : n - (1 + s) + (1 + s) ≡ n = omega arith in
-    sym (field x 1 s) ∙ ap (λ (y : ℕ). y / 2 ^ s) (sym (mod-mod-pow x (n - (1 + s)) (1 + s)) ∙ ap (λ (m : ℕ). x % 2 ^ m % 2 ^ (1 + s)) e) ∙ field (x % 2 ^ n) 1 s
+    sym (field x 1 s)
+    ∙ ap (λ (y : ℕ). y / 2 ^ s) (sym (mod-mod-pow x (n - (1 + s)) (1 + s)) ∙ ap (λ (m : ℕ). x % 2 ^ m % 2 ^ (1 + s)) e)
+    ∙ field (x % 2 ^ n) 1 s
 
 has-set : (t : ℕ → Bool) (n s : ℕ) → s < n → hasBit (setOf t n) s ≡ t s
 unfolding hasBit
@@ -63,13 +65,15 @@ bits-more zero from x h = let e : x ≡ 0 = omega arith in rw e
 bits-more (suc d) from x h = ap {B = List ℕ} (λ l. keep (eqb (x % 2) 1) from ++ l) (bits-more d (suc from) (x / 2) (half-lt d x h))
 
 -- the lowest member, and the set without it
-pub bits-first : (d from x : ℕ) → 0 < x → x < 2 ^ d → bits d from x ≡ (from + trailingZeros d x) ∷ bits d (from + trailingZeros d x + 1) (x / 2 ^ trailingZeros d x / 2)
+pub bits-first : (d from x : ℕ) → 0 < x → x < 2 ^ d
+    → bits d from x ≡ (from + trailingZeros d x) ∷ bits d (from + trailingZeros d x + 1) (x / 2 ^ trailingZeros d x / 2)
 unfolding bits trailingZeros
 bits-first zero from x p h = let z : ⊥ = omega arith in absurd z
 bits-first (suc d) from x p h = go (x % 2) refl (λ q. bits-first d (suc from) (x / 2) q (half-lt d x h))
   where
-    go : (r : ℕ) → x % 2 ≡ r → (0 < x / 2 → bits d (suc from) (x / 2) ≡ (suc from + trailingZeros d (x / 2)) ∷ bits d (suc from + trailingZeros d (x / 2) + 1) (x / 2 / 2 ^ trailingZeros d (x / 2) / 2))
-        → keep (eqb r 1) from ++ bits d (suc from) (x / 2) ≡ (from + under r (trailingZeros d (x / 2))) ∷ bits (suc d) (from + under r (trailingZeros d (x / 2)) + 1) (x / 2 ^ under r (trailingZeros d (x / 2)) / 2)
+    go : (r : ℕ) → x % 2 ≡ r → let t : ℕ = trailingZeros d (x / 2) in
+        (0 < x / 2 → bits d (suc from) (x / 2) ≡ (suc from + t) ∷ bits d (suc from + t + 1) (x / 2 / 2 ^ t / 2))
+        → keep (eqb r 1) from ++ bits d (suc from) (x / 2) ≡ (from + under r t) ∷ bits (suc d) (from + under r t + 1) (x / 2 ^ under r t / 2)
     go zero e ih =
         let t : ℕ = trailingZeros d (x / 2) in
         let n : from + suc t ≡ suc from + t = omega arith in

@@ -72,7 +72,8 @@ module _ (file count base size : ℕ) where
         e = omega arith
 
         at-k : (t : ℕ → List ℕ) → each (λ j. keep (member y (t j)) (found y j)) 0 (k + suc m)
-            ≡ each (λ j. keep (member y (t j)) (found y j)) 0 k ++ (keep (member y (t k)) (found y k) ++ each (λ j. keep (member y (t j)) (found y j)) (suc k) m)
+            ≡ each (λ j. keep (member y (t j)) (found y j)) 0 k
+            ++ (keep (member y (t k)) (found y k) ++ each (λ j. keep (member y (t j)) (found y j)) (suc k) m)
         at-k t = each-append _ 0 k (suc m) ∙ rw zero-add
 
         none : (t : ℕ → List ℕ) → ((j : ℕ) → j < k → member y (t j) ≡ false) → each (λ j. keep (member y (t j)) (found y j)) 0 k ≡ []
@@ -88,15 +89,22 @@ module _ (file count base size : ℕ) where
         at-y s (λ p h. hits-none file count (base + p) _ (before p h))
         ∙ rw here (ap {B = List Occurrence} (λ l. found y k ∷ l)
         (ap {B = List Occurrence} (λ l. hits file count (λ j. member y (s′ j)) (base + y) ++ l) later
-        ∙ sym (at-y s′ (λ p h. hits-same file count (base + p) _ _ (λ j hj. sym (other p j hj (λ q. omega arith))) ∙ hits-none file count (base + p) _ (before p h)))))
+        ∙ sym (at-y s′ (λ p h.
+        hits-same file count (base + p) _ _ (λ j hj. sym (other p j hj (λ q. omega arith))) ∙ hits-none file count (base + p) _ (before p h)))))
       where
-        later : each (λ p. hits file count (λ j. member p (s j)) (base + p)) (suc y) (size - suc y) ≡ each (λ p. hits file count (λ j. member p (s′ j)) (base + p)) (suc y) (size - suc y)
-        later = each-match _ _ (suc y) (suc y) (size - suc y) (λ p l. hits-same file count (base + (suc y + p)) _ _ (λ j hj. other (suc y + p) j hj (λ q. omega arith)))
+        later : each (λ p. hits file count (λ j. member p (s j)) (base + p)) (suc y) (size - suc y)
+            ≡ each (λ p. hits file count (λ j. member p (s′ j)) (base + p)) (suc y) (size - suc y)
+        later =
+            each-match _ _ (suc y) (suc y) (size - suc y) (λ p l.
+            hits-same file count (base + (suc y + p)) _ _ (λ j hj. other (suc y + p) j hj (λ q. omega arith)))
 
         at-y : (t : ℕ → List ℕ) → ((p : ℕ) → p < y → hits file count (λ j. member p (t j)) (base + p) ≡ [])
             → each (λ p. hits file count (λ j. member p (t j)) (base + p)) 0 size
             ≡ hits file count (λ j. member y (t j)) (base + y) ++ each (λ p. hits file count (λ j. member p (t j)) (base + p)) (suc y) (size - suc y)
-        at-y t h = ap (each (λ p. hits file count (λ j. member p (t j)) (base + p)) 0) (sym (sub-zero size)) ∙ each-skip _ 0 y size (omega arith) (omega arith) (λ p u v. h p v) ∙ each-step _ y size hy
+        at-y t h =
+            ap (each (λ p. hits file count (λ j. member p (t j)) (base + p)) 0) (sym (sub-zero size))
+            ∙ each-skip _ 0 y size (omega arith) (omega arith) (λ p u v. h p v)
+            ∙ each-step _ y size hy
 
   -- AND THE END
   pub merge-done : (s : ℕ → List ℕ) → ((j : ℕ) → j < count → s j ≡ []) → occurrences file count base size s ≡ []

@@ -70,7 +70,10 @@ module _ (index : List ℕ) (width size : ℕ) (s : List ℕ) where
 
     -- the room of one field more, and of those behind it
     room : 0 < left → (at + width ≤ length index) × (at + width + width * (left - 1) ≤ length index)
-    room p = let e : left ≡ suc (left - 1) = omega arith in let m = ap (λ (x : ℕ). width * x) e ∙ mul-suc width (left - 1) in (omega (arith, r .inside, m), omega (arith, r .inside, m))
+    room p =
+        let e : left ≡ suc (left - 1) = omega arith in
+        let m = ap (λ (x : ℕ). width * x) e ∙ mul-suc width (left - 1) in
+        (omega (arith, r .inside, m), omega (arith, r .inside, m))
 
     pub field-room : 0 < left → at + width ≤ length index
     field-room p = room p .0
@@ -79,13 +82,16 @@ module _ (index : List ℕ) (width size : ℕ) (s : List ℕ) where
     unfolding unread fieldsOf
     number h x = go left h
       where
-        go : (n : ℕ) → 0 < n → fieldsOf width n (drop at index) ++ bits 32 from set ≡ fieldAt index at width ∷ (fieldsOf width (n - 1) (drop (at + width) index) ++ bits 32 from set)
+        go : (n : ℕ) → 0 < n
+            → fieldsOf width n (drop at index) ++ bits 32 from set
+            ≡ fieldAt index at width ∷ (fieldsOf width (n - 1) (drop (at + width) index) ++ bits 32 from set)
         go zero l = let z : ⊥ = omega arith in absurd z
         go (suc n) l = let e : suc n - 1 ≡ n = omega arith in rw (e, ← drop-drop width at index)
 
     pull-field : 0 < left → (x : ℕ) → x ≡ fieldAt index at width → Pulled index width size s (x ∷ (at + width) ∷ (left - 1) ∷ from ∷ set ∷ [])
     pull-field h x e =
-        pulled-on (x ∷ (at + width) ∷ (left - 1) ∷ from ∷ set ∷ []) r (number h x ∙ ap {B = List ℕ} (λ y. y ∷ unread index width (x ∷ (at + width) ∷ (left - 1) ∷ from ∷ set ∷ [])) (sym e)) (room h .1) (r .set)
+        let after : List ℕ = x ∷ (at + width) ∷ (left - 1) ∷ from ∷ set ∷ [] in
+        pulled-on after r (number h x ∙ ap {B = List ℕ} (λ y. y ∷ unread index width after) (sym e)) (room h .1) (r .set)
 
     pub field-is : 0 < left → (x : ℕ) → x ≡ fieldAt index at width → x ∷ (at + width) ∷ (left - 1) ∷ from ∷ set ∷ [] ≡ pulled index width size s
     unfolding pulled
@@ -105,15 +111,20 @@ module _ (index : List ℕ) (width size : ℕ) (s : List ℕ) where
     pub digit : 0 < set → low < 32
     digit p = trailing-lt 32 set p (r .set)
 
-    start : left ≤ 0 → 0 < set → unread index width s ≡ (from + low) ∷ unread index width ((from + low) ∷ at ∷ left ∷ (from + low + 1) ∷ (set / 2 ^ low / 2) ∷ [])
+    start : left ≤ 0 → 0 < set
+        → unread index width s ≡ (from + low) ∷ unread index width ((from + low) ∷ at ∷ left ∷ (from + low + 1) ∷ (set / 2 ^ low / 2) ∷ [])
     unfolding unread fieldsOf
     start h p = let n : left ≡ 0 = omega arith in rw n (bits-first 32 from set p (r .set))
 
     pub start-in : left ≤ 0 → 0 < set → from + low < size
-    start-in h p = below-head size (from + low) (unread index width ((from + low) ∷ at ∷ left ∷ (from + low + 1) ∷ (set / 2 ^ low / 2) ∷ [])) (rw (start h p) at (r .under))
+    start-in h p =
+        let after : List ℕ = (from + low) ∷ at ∷ left ∷ (from + low + 1) ∷ (set / 2 ^ low / 2) ∷ [] in
+        below-head size (from + low) (unread index width after) (rw (start h p) at (r .under))
 
     pull-start : left ≤ 0 → 0 < set → Pulled index width size s ((from + low) ∷ at ∷ left ∷ (from + low + 1) ∷ (set / 2 ^ low / 2) ∷ [])
-    pull-start h p = pulled-on ((from + low) ∷ at ∷ left ∷ (from + low + 1) ∷ (set / 2 ^ low / 2) ∷ []) r (start h p) (r .inside) (omega (arith, shr-le set low, r .set))
+    pull-start h p =
+        let after : List ℕ = (from + low) ∷ at ∷ left ∷ (from + low + 1) ∷ (set / 2 ^ low / 2) ∷ [] in
+        pulled-on after r (start h p) (r .inside) (omega (arith, shr-le set low, r .set))
 
     pub start-is : left ≤ 0 → 0 < set → (from + low) ∷ at ∷ left ∷ (from + low + 1) ∷ (set / 2 ^ low / 2) ∷ [] ≡ pulled index width size s
     unfolding pulled

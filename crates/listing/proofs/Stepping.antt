@@ -89,10 +89,12 @@ some-least streams (suc (suc n)) h = go (some-least streams (suc n) (omega arith
       where
         pick : (y k ≤ y (suc n)) ⊎ (y (suc n) < y k) → (k : ℕ) × Least streams (suc (suc n)) k
         pick (inl u) =
-            (k, record { within = omega (arith, l .within); low = λ j v. below-more (λ (i : ℕ). y k ≤ y i) (suc n) (l .low) u j (omega arith); first = l .first })
+            let low : (j : ℕ) → j < suc n + 1 → y k ≤ y j = below-more (λ (i : ℕ). y k ≤ y i) (suc n) (l .low) u in
+            (k, record { within = omega (arith, l .within); low = λ j v. low j (omega arith); first = l .first })
         pick (inr u) =
             let all : (j : ℕ) → j < suc n → y (suc n) < y j = λ j v. omega (arith, l .low j v) in
-            let low : (j : ℕ) → j < suc n + 1 → y (suc n) ≤ y j = below-more (λ (i : ℕ). y (suc n) ≤ y i) (suc n) (λ i w. omega (arith, all i w)) (omega arith) in
+            let low : (j : ℕ) → j < suc n + 1 → y (suc n) ≤ y j =
+            below-more (λ (i : ℕ). y (suc n) ≤ y i) (suc n) (λ i w. omega (arith, all i w)) (omega arith) in
             (suc n, record { within = omega arith; low = λ j v. low j (omega arith); first = all })
 
 module _ (index : List ℕ) (width size count : ℕ) (streams : List (List ℕ)) where
@@ -126,12 +128,14 @@ module _ (index : List ℕ) (width size count : ℕ) (streams : List (List ℕ))
         record {
           held = record {
             long = rw length-set (held .long);
-            each = λ j hj. set-all streams k (after k) (λ i s. Open index width size s) (omega (arith, held .long, least .within)) (p .opened) j (λ ne. held .each j hj);
+            each = λ j hj.
+                set-all streams k (after k) (λ i s. Open index width size s) (omega (arith, held .long, least .within)) (p .opened) j (λ ne. held .each j hj);
           };
           bound = omega arith;
           named = λ _. least .within;
           found = λ _ file base.
-              merge-step file count base size (streamAt index width size streams) (streamAt index width size (set streams k (after k))) k (head k) (least .within) hy
+              merge-step file count base size (streamAt index width size streams) (streamAt index width size (set streams k (after k)))
+              k (head k) (least .within) hy
               (λ j hj. held .each j hj .up)
               (open-head index width size (streamOf streams k) (held .each k (least .within)) hy ∙ ap {B = List ℕ} (λ r. head k ∷ r) (sym on))
               (λ j hj ne. ap (stream index width size) (set-there streams k (after k) j ne))
@@ -149,7 +153,9 @@ module _ (index : List ℕ) (width size count : ℕ) (streams : List (List ℕ))
     -- what `next` promises
     abbrev Next : List (List ℕ) → ℕ → ℕ → Type 0
     Next streams′ keyword offset =
-        (keyword ≡ nextKeyword index width size count streams) × (offset ≡ nextOffset index width size count streams) × (streams′ ≡ streamsAfter index width size count streams)
+        (keyword ≡ nextKeyword index width size count streams)
+        × (offset ≡ nextOffset index width size count streams)
+        × (streams′ ≡ streamsAfter index width size count streams)
 
     -- it holds where the least head is known
     pub next-ended : (k : ℕ) → Least streams count k → size ≤ head k → Next streams count size

@@ -69,7 +69,8 @@ module _ (size : ℕ) where
 
   stream-length : (xs : List ℕ) → rising xs ≡ true → below size xs ≡ true → sumUp (at-offset xs) 0 size ≡ length xs
   stream-length xs up under =
-      sym (length-each (λ p. keep (member p xs) p) 0 size) ∙ ap length (passing-member size 0 xs up (rw zero-add (below-same size xs ∙ under)) (λ _. omega arith))
+      sym (length-each (λ p. keep (member p xs) p) 0 size)
+      ∙ ap length (passing-member size 0 xs up (rw zero-add (below-same size xs ∙ under)) (λ _. omega arith))
 
   -- by swapping the sum over offsets and the one over keywords
   sum-is : (file count base : ℕ) (s : ℕ → List ℕ) → ((k : ℕ) → k < count → rising (s k) ≡ true) → ((k : ℕ) → k < count → below size (s k) ≡ true)
@@ -77,14 +78,18 @@ module _ (size : ℕ) where
   unfolding occurrences hits
   sum-is file count base s up under =
       length-each _ 0 size
-      ∙ sum-same _ (λ p. sumUp (λ k. at-offset (s k) p) 0 count) 0 size (λ p u v. length-each _ 0 count ∙ sum-same _ _ 0 count (λ k x y. length-keep (member p (s k)) _ p))
+      ∙ sum-same _ (λ p. sumUp (λ k. at-offset (s k) p) 0 count) 0 size (λ p u v.
+      length-each _ 0 count ∙ sum-same _ _ 0 count (λ k x y. length-keep (member p (s k)) _ p))
       ∙ sum-swap (λ p k. at-offset (s k) p) 0 size 0 count
       ∙ sum-same _ _ 0 count (λ k u v. stream-length (s k) (up k (omega arith)) (under k (omega arith)))
 
 unread-length : (index : List ℕ) (width : ℕ) (s : List ℕ) → getD s 4 0 < 2 ^ 32 → length (unread index width s) ≡ numbers s
 unfolding unread
 unread-length index width s h =
-    length-append (fieldsOf width (getD s 2 0) (drop (getD s 1 0) index)) _ ∙ ap₂ (λ (x y : ℕ). x + y) (length-fieldsOf width (getD s 2 0) (drop (getD s 1 0) index)) (bits-length 32 (getD s 3 0) (getD s 4 0) h)
+    let left : ℕ = getD s 2 0 in
+    let bytes : List ℕ = drop (getD s 1 0) index in
+    length-append (fieldsOf width left bytes) _
+    ∙ ap₂ (λ (x y : ℕ). x + y) (length-fieldsOf width left bytes) (bits-length 32 (getD s 3 0) (getD s 4 0) h)
 
 module _ (index : List ℕ) (width size count : ℕ) (streams : List (List ℕ)) (ready : Ready index width size count streams) where
   pub total-is : (file base : ℕ) → total streams count ≡ length (occurrences file count base size (unreadAt index width streams))
@@ -112,7 +117,8 @@ sum-zero f a (suc n) e p u v = go (λ h. sum-zero f (suc a) n (omega arith) p h 
     go rest (inr h) = rest h
 
 -- such a stream is taken to itself
-pulled-none : (index : List ℕ) (width size : ℕ) (s : List ℕ) → length s ≡ 5 → getD s 0 0 ≡ size → getD s 4 0 < 2 ^ 32 → numbers s ≡ 0 → pulled index width size s ≡ s
+pulled-none : (index : List ℕ) (width size : ℕ) (s : List ℕ) → length s ≡ 5 → getD s 0 0 ≡ size → getD s 4 0 < 2 ^ 32 → numbers s ≡ 0
+    → pulled index width size s ≡ s
 unfolding pulled
 pulled-none index width size s five head small none =
     let b : bits 32 (getD s 3 0) (getD s 4 0) ≡ [] = no-offsets _ (bits-length 32 (getD s 3 0) (getD s 4 0) small ∙ omega arith) in

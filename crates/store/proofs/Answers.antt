@@ -52,12 +52,20 @@ module _ (store : List ℕ) (a : 8 ≤ length store) (m : same (take 4 store) st
   rest h l =
       rw (e, le-ltb (length store) 8 a, m, le-ltb 65000 (chunkCount store) (rw (← e) h), le-ltb (length store) (8 + 28 * chunkCount store) (rw (← e) l))
 
-  pub wrong : c ≤ 65000 → 8 + 28 * c ≤ length store → (code : ℕ) → code ≡ entriesCode storeLayout store 65535 7 c 0 (8 + 28 * c) → code ≢ 0 → code ≡ storeCode store
+  pub wrong : c ≤ 65000 → 8 + 28 * c ≤ length store → (code : ℕ) → code ≡ entriesCode storeLayout store 65535 7 c 0 (8 + 28 * c) → code ≢ 0
+      → code ≡ storeCode store
   wrong h l code q d = q ∙ refused-whole (entriesCode storeLayout store 65535 7 c 0 (8 + 28 * c)) _ (λ z. d (q ∙ z)) ∙ sym (rest h l)
+
+  -- the entries' code, by the number that was returned
+  pub entered : (n : ℕ) → n ≡ entriesCode storeLayout store 65535 7 c 0 (8 + 28 * c) → n ≡ 0 → entriesCode storeLayout store 65535 7 c 0 (8 + 28 * c) ≡ 0
+  entered n q z = sym q ∙ z
 
   module _ (h : c ≤ 65000) (l : 8 + 28 * c ≤ length store) (z : entriesCode storeLayout store 65535 7 c 0 (8 + 28 * c) ≡ 0) where
     pub twin : twice (keysFrom store 8 28 c) ≡ true → 8 ≡ storeCode store
     twin t = sym (rest h l ∙ rw (z, t))
+
+    pub twin-told : (t : Bool) → t ≡ twice (keysFrom store 8 28 c) → t ≡ true → 8 ≡ storeCode store
+    twin-told t e q = twin (sym e ∙ q)
 
     pub sound : twice (keysFrom store 8 28 c) ≡ false → 0 ≡ storeCode store
     sound f = sym (rest h l ∙ rw (z, f))
@@ -77,6 +85,9 @@ module _ (store : List ℕ) (a : 8 ≤ length store) (m : same (take 4 store) st
 pub keys-from : (store : List ℕ) (c : ℕ) → c ≡ chunkCount store → keysFrom store 8 28 c ≡ storeKeys store
 unfolding storeKeys
 keys-from store c e = ap (keysFrom store 8 28) e
+
+pub found-at : (store fp : List ℕ) (c : ℕ) → c ≡ chunkCount store → (k : ℕ) → k ≡ positionOf fp (keysFrom store 8 28 c) → k ≡ positionOf fp (storeKeys store)
+found-at store fp c e k q = q ∙ ap (positionOf fp) (keys-from store c e)
 
 pub lies : (store : List ℕ) (c : ℕ) → storeCode store ≡ 0 → c ≡ chunkCount store → Lies store 8 28 c
 lies store c z e = let g = store-good store z in record { inside = omega (arith, g .room); keyed = omega arith; few = omega (arith, g .few) }

@@ -39,7 +39,8 @@ insert-requires c κs =
     let start = at .before .before .before .before in
     let a = start .args in
     let s : at .loop .e ≡ suc (at .loop .e - 1) = omega arith in
-    (start .pre .0, (subst (λ (e : ℕ). Chained (keysFrom (now (a .bytes)) (a .start) (a .stride) (a .count)) e (at .loop .heads) (at .loop .next)) s (at .loop .inv .4), omega arith))
+    let keys = keysFrom (now (a .bytes)) (a .start) (a .stride) (a .count) in
+    (start .pre .0, (subst (λ (e : ℕ). Chained keys e (at .loop .heads) (at .loop .next)) s (at .loop .inv .4), omega arith))
 
 loop-less : tie.Need-loop-less Inv-loop μ-loop
 loop-less c = omega arith

@@ -27,7 +27,8 @@ room c field h =
     let at = c .before in
     let start = at .before .before in
     let a = start .args in
-    entry-room (a .start) (a .stride) (a .count) (at .loop .k) (at .loop .base) field (length (now (a .bytes))) (c .loop-test .taken) (at .loop .inv .1) (start .pre .0) h
+    entry-room (a .start) (a .stride) (a .count) (at .loop .k) (at .loop .base) field (length (now (a .bytes)))
+    (c .loop-test .taken) (at .loop .inv .1) (start .pre .0) h
 
 -- the fields that were read are the entry's
 size-is : (c : tie.After-read Inv-loop μ-loop)
@@ -65,11 +66,12 @@ add-at c = omega arith
 
 loop-holds : tie.Need-loop-holds Inv-loop μ-loop
 loop-holds c =
-    let a = c .before .args in (
+    let a = c .before .args in
+    let layout = layoutOf (a .start) (a .stride) (a .sizes) (a .offsets) (a .lengths) in (
       omega arith,
       rw (mul-zero, add-zero) refl,
       c .before .pre .0,
-      ap (λ (n : ℕ). entriesCode (layoutOf (a .start) (a .stride) (a .sizes) (a .offsets) (a .lengths)) (now (a .bytes)) (a .most) (a .code) n 0 (a .start + a .stride * a .count)) (sub-zero (a .count)),
+      ap (λ (n : ℕ). entriesCode layout (now (a .bytes)) (a .most) (a .code) n 0 (a .start + a .stride * a .count)) (sub-zero (a .count)),
     )
 
 add-read : tie.Need-add-read Inv-loop μ-loop
@@ -82,14 +84,16 @@ returns : tie.Need-returns Inv-loop μ-loop
 returns c =
     let at = c .before .before .before in
     let a = at .before .before .args in
-    turn-none (layoutOf (a .start) (a .stride) (a .sizes) (a .offsets) (a .lengths)) (now (a .bytes)) (a .most) (a .code) (a .count) (at .loop .k) (at .loop .at) _ (at .loop .inv .3)
+    let layout = layoutOf (a .start) (a .stride) (a .sizes) (a .offsets) (a .lengths) in
+    turn-none layout (now (a .bytes)) (a .most) (a .code) (a .count) (at .loop .k) (at .loop .at) _ (at .loop .inv .3)
     (c .before .before .loop-test .taken) (sym (size-is (c .before)) ∙ c .if1 .taken)
 
 returns-2 : tie.Need-returns-2 Inv-loop μ-loop
 returns-2 c =
     let at = c .before .before .before .before in
     let a = at .before .before .args in
-    turn-long (layoutOf (a .start) (a .stride) (a .sizes) (a .offsets) (a .lengths)) (now (a .bytes)) (a .most) (a .code) (a .count) (at .loop .k) (at .loop .at) _ (at .loop .inv .3)
+    let layout = layoutOf (a .start) (a .stride) (a .sizes) (a .offsets) (a .lengths) in
+    turn-long layout (now (a .bytes)) (a .most) (a .code) (a .count) (at .loop .k) (at .loop .at) _ (at .loop .inv .3)
     (c .before .before .before .loop-test .taken) (omega (arith, size-is (c .before .before), c .if2 .taken))
 
 add-read-2 : tie.Need-add-read-2 Inv-loop μ-loop
@@ -108,8 +112,10 @@ returns-3 c =
     let within = sized .before .before .before in
     let at = within .before in
     let a = at .before .before .args in
-    turn-gap (layoutOf (a .start) (a .stride) (a .sizes) (a .offsets) (a .lengths)) (now (a .bytes)) (a .most) (a .code) (a .count) (at .loop .k) (at .loop .at) _ (at .loop .inv .3)
-    (within .loop-test .taken) (λ z. sized .before .if1 .left (size-is (sized .before .before) ∙ z)) (omega (arith, size-is (sized .before .before), sized .if2 .left))
+    let layout = layoutOf (a .start) (a .stride) (a .sizes) (a .offsets) (a .lengths) in
+    let size = size-is (sized .before .before) in
+    turn-gap layout (now (a .bytes)) (a .most) (a .code) (a .count) (at .loop .k) (at .loop .at) _ (at .loop .inv .3)
+    (within .loop-test .taken) (λ z. sized .before .if1 .left (size ∙ z)) (omega (arith, size, sized .if2 .left))
     (λ o. c .if3 .taken (offset-is (c .before) ∙ o))
 
 add-read-3 : tie.Need-add-read-3 Inv-loop μ-loop
@@ -131,8 +137,10 @@ returns-4 c =
     let within = sized .before .before .before in
     let at = within .before in
     let a = at .before .before .args in
-    turn-past (layoutOf (a .start) (a .stride) (a .sizes) (a .offsets) (a .lengths)) (now (a .bytes)) (a .most) (a .code) (a .count) (at .loop .k) (at .loop .at) _ (at .loop .inv .3)
-    (within .loop-test .taken) (λ z. sized .before .if1 .left (size-is (sized .before .before) ∙ z)) (omega (arith, size-is (sized .before .before), sized .if2 .left))
+    let layout = layoutOf (a .start) (a .stride) (a .sizes) (a .offsets) (a .lengths) in
+    let size = size-is (sized .before .before) in
+    turn-past layout (now (a .bytes)) (a .most) (a .code) (a .count) (at .loop .k) (at .loop .at) _ (at .loop .inv .3)
+    (within .loop-test .taken) (λ z. sized .before .if1 .left (size ∙ z)) (omega (arith, size, sized .if2 .left))
     (sym (offset-is (c .before .before .before)) ∙ c .before .before .if3 .left) (omega (arith, length-is (c .before), c .if4 .taken))
 
 add-at-2 : tie.Need-add-at-2 Inv-loop μ-loop
@@ -154,12 +162,14 @@ loop-again c =
     let sized = c .before .before .before .before in
     let within = sized .before .before .before in
     let at = within .before in
-    let a = at .before .before .args in (
+    let a = at .before .before .args in
+    let layout = layoutOf (a .start) (a .stride) (a .sizes) (a .offsets) (a .lengths) in
+    let size = size-is (sized .before .before) in (
       omega arith,
       next-base (a .start) (a .stride) (at .loop .k) (at .loop .base) (at .loop .inv .1),
       omega arith,
-      turn-more (layoutOf (a .start) (a .stride) (a .sizes) (a .offsets) (a .lengths)) (now (a .bytes)) (a .most) (a .code) (a .count) (at .loop .k) (at .loop .at) _ (at .loop .inv .3)
-          (within .loop-test .taken) (λ z. sized .before .if1 .left (size-is (sized .before .before) ∙ z)) (omega (arith, size-is (sized .before .before), sized .if2 .left))
+      turn-more layout (now (a .bytes)) (a .most) (a .code) (a .count) (at .loop .k) (at .loop .at) _ (at .loop .inv .3)
+          (within .loop-test .taken) (λ z. sized .before .if1 .left (size ∙ z)) (omega (arith, size, sized .if2 .left))
           (sym (offset-is (c .before .before .before)) ∙ c .before .before .if3 .left) (c .before .read3 .result) (length-is (c .before)),
     )
 
@@ -167,14 +177,16 @@ returns-5 : tie.Need-returns-5 Inv-loop μ-loop
 returns-5 c =
     let at = c .before .before in
     let a = at .before .before .args in
-    turn-short (layoutOf (a .start) (a .stride) (a .sizes) (a .offsets) (a .lengths)) (now (a .bytes)) (a .most) (a .code) (a .count) (at .loop .k) (at .loop .at) _ (at .loop .inv .3)
+    let layout = layoutOf (a .start) (a .stride) (a .sizes) (a .offsets) (a .lengths) in
+    turn-short layout (now (a .bytes)) (a .most) (a .code) (a .count) (at .loop .k) (at .loop .at) _ (at .loop .inv .3)
     (c .before .loop-test .left) (c .if5 .taken)
 
 returns-6 : tie.Need-returns-6 Inv-loop μ-loop
 returns-6 c =
     let at = c .before .before in
     let a = at .before .before .args in
-    turn-end (layoutOf (a .start) (a .stride) (a .sizes) (a .offsets) (a .lengths)) (now (a .bytes)) (a .most) (a .code) (a .count) (at .loop .k) (at .loop .at) _ (at .loop .inv .3)
+    let layout = layoutOf (a .start) (a .stride) (a .sizes) (a .offsets) (a .lengths) in
+    turn-end layout (now (a .bytes)) (a .most) (a .code) (a .count) (at .loop .k) (at .loop .at) _ (at .loop .inv .3)
     (c .before .loop-test .left) (c .if5 .left)
 
 pub entries-spec : {M : Type 1} → statement M

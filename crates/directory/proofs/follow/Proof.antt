@@ -28,27 +28,31 @@ compared c =
     let at = c .before .before .before in
     let start = at .before .before .before .before in
     let a = start .args in
-    ap (same (now (a .probe))) (sym (c .before .key .ensures ∙ key-in (now (a .bytes)) (a .start) (a .stride) (a .count) (start .pre .0) (a .count - at .loop .n) (omega arith)))
+    let at-key = key-in (now (a .bytes)) (a .start) (a .stride) (a .count) (start .pre .0) (a .count - at .loop .n) (omega arith) in
+    ap (same (now (a .probe))) (sym (c .before .key .ensures ∙ at-key))
     ∙ sym (c .same-key .ensures)
 
 -- the chain's next place
 stepped : (c : tie.Else1 Inv-loop μ-loop)
     → let at = c .before .before .before .before in
     let a = at .before .before .before .before .args in
-    Stepped (now (a .probe)) (keysFrom (now (a .bytes)) (a .start) (a .stride) (a .count)) (a .count) (at .loop .n) (getD (now (a .next)) (a .count - at .loop .n) 0)
+    Stepped (now (a .probe)) (keysFrom (now (a .bytes)) (a .start) (a .stride) (a .count)) (a .count) (at .loop .n)
+    (getD (now (a .next)) (a .count - at .loop .n) 0)
 stepped c =
     let at = c .before .before .before .before in
     let start = at .before .before .before .before in
     let a = start .args in
     step (now (a .probe)) (keysFrom (now (a .bytes)) (a .start) (a .stride) (a .count)) (a .from) (at .loop .n) (now (a .next)) (a .count)
-    (length-from (now (a .bytes)) (a .start) (a .stride) (a .count) (start .pre .0)) (at .loop .inv .1) (at .loop .inv .0) (omega arith) (start .pre .1 .0) (at .loop .inv .2)
+    (length-from (now (a .bytes)) (a .start) (a .stride) (a .count) (start .pre .0)) (at .loop .inv .1) (at .loop .inv .0) (omega arith)
+    (start .pre .1 .0) (at .loop .inv .2)
     (compared (c .before) ∙ c .if1 .left)
 
 loop-holds : tie.Need-loop-holds Inv-loop μ-loop
 loop-holds c =
     let start = c .before .before .before in
     let a = start .args in
-    (omega arith, omega (arith, start .pre .1 .1 .0 .within, length-from (now (a .bytes)) (a .start) (a .stride) (a .count) (start .pre .0)), start .pre .1 .1 .0, refl)
+    let long = length-from (now (a .bytes)) (a .start) (a .stride) (a .count) (start .pre .0) in
+    (omega arith, omega (arith, start .pre .1 .1 .0 .within, long), start .pre .1 .1 .0, refl)
 
 sub-e : tie.Need-sub-e Inv-loop μ-loop
 sub-e c = omega arith
@@ -64,7 +68,8 @@ same-key-requires c κs =
     let start = c .before .before .before .before .before .before in
     let a = start .args in (
       start .pre .1 .1 .1,
-      ap length (c .key .ensures) ∙ key-length (now (a .bytes)) (a .start) (a .stride) (a .count) (start .pre .0) (a .count - c .before .before .loop .n) (omega arith),
+      ap length (c .key .ensures)
+          ∙ key-length (now (a .bytes)) (a .start) (a .stride) (a .count) (start .pre .0) (a .count - c .before .before .loop .n) (omega arith),
     )
 
 returns : tie.Need-returns Inv-loop μ-loop
@@ -73,7 +78,8 @@ returns c =
     let start = at .before .before .before .before in
     let a = start .args in
     let keys = keysFrom (now (a .bytes)) (a .start) (a .stride) (a .count) in
-    sym (place-hit (now (a .probe)) keys (a .count - at .loop .n) (omega (arith, length-from (now (a .bytes)) (a .start) (a .stride) (a .count) (start .pre .0)))
+    let long = length-from (now (a .bytes)) (a .start) (a .stride) (a .count) (start .pre .0) in
+    sym (place-hit (now (a .probe)) keys (a .count - at .loop .n) (omega (arith, long))
     (compared (c .before) ∙ c .if1 .taken))
     ∙ at .loop .inv .3
 

@@ -74,7 +74,9 @@ mul-sum-5 : tie.Need-mul-sum-5
 mul-sum-5 c = record { fits = omega (arith, small-5 c) }
 
 add-sum-4 : tie.Need-add-sum-4
-add-sum-4 c = record { fits = omega (arith, small-1 (c .before .before .before .before), small-2 (c .before .before .before), small-3 (c .before .before), small-4 (c .before), small-5 c) }
+add-sum-4 c =
+    let t = c .before .before in
+    record { fits = omega (arith, small-1 (t .before .before), small-2 (t .before), small-3 t, small-4 (c .before), small-5 c) }
 
 returns : tie.Need-returns
 returns c =

@@ -26,11 +26,13 @@ read-key c =
 -- where its chain begins
 at-head : (c : tie.After-hash)
     → let a = c .before .before .before .before .before .args in
-    Headed (now (c .before .key .result)) (keysFrom (now (a .bytes)) (a .start) (a .stride) (a .count)) (now (a .next)) (a .count) (suc (a .e)) (getD (now (a .heads)) (c .hash .result) 0)
+    Headed (now (c .before .key .result)) (keysFrom (now (a .bytes)) (a .start) (a .stride) (a .count)) (now (a .next)) (a .count) (suc (a .e))
+    (getD (now (a .heads)) (c .hash .result) 0)
 at-head c =
     let start = c .before .before .before .before .before in
     let a = start .args in
-    headed (now (c .before .key .result)) (keysFrom (now (a .bytes)) (a .start) (a .stride) (a .count)) (now (a .heads)) (now (a .next)) (suc (a .e)) (getD (now (a .heads)) (c .hash .result) 0)
+    headed (now (c .before .key .result)) (keysFrom (now (a .bytes)) (a .start) (a .stride) (a .count)) (now (a .heads)) (now (a .next)) (suc (a .e))
+    (getD (now (a .heads)) (c .hash .result) 0)
     (a .count) (length-from (now (a .bytes)) (a .start) (a .stride) (a .count) (start .pre .0)) (start .pre .1 .1) (start .pre .1 .0)
     (ap (λ (h : ℕ). getD (now (a .heads)) h 0) (c .hash .ensures))
 

@@ -5,6 +5,7 @@ use native.Mathlib.Omega.{arith}
 use lib.ListN.{take}
 use denote.Ref.{now}
 use Rattle.directory.proofs.KeyFields.{equal-more, other-field, all-fields}
+use Rattle.spec.proofs.FieldLists.{AllBytes}
 use borrow.Author.Needs.{needs}
 use Rattle.directory.proofs.same_key.Statement.{statement}
 use Rattle.directory.proofs.same_key.Tie as tie
@@ -49,10 +50,12 @@ loop-again c =
     let at = read .before .before .before in
     let start = at .before .before .before in
     let a = start .args in
+    let bytes-a : AllBytes (now (a .a)) = λ i. at .before .before .shared-slice-known .given i .fits in
+    let bytes-b : AllBytes (now (a .b)) = λ i. at .before .shared-slice-known2 .given i .fits in
     let e : 4 * (at .loop .k + 1) ≡ 4 * at .loop .k + 4 = omega arith in (
       omega arith,
       ap (λ (n : ℕ). take n (now (a .a))) e
-          ∙ equal-more (now (a .a)) (now (a .b)) (λ i. at .before .before .shared-slice-known .given i .fits) (λ i. at .before .shared-slice-known2 .given i .fits) (4 * at .loop .k) 4
+          ∙ equal-more (now (a .a)) (now (a .b)) bytes-a bytes-b (4 * at .loop .k) 4
           (omega (arith, start .pre .0)) (omega (arith, start .pre .1)) (at .loop .inv .1)
           (sym (read .before .read .ensures) ∙ c .if1 .left ∙ read .read2 .ensures)
           ∙ ap (λ (n : ℕ). take n (now (a .b))) (sym e),

@@ -28,7 +28,9 @@ abbrev headAt : List (List ℕ) → ℕ → ℕ
 headAt streams j = getD (streamOf streams j) 0 0
 
 abbrev Inv-loop : tie.InvT-loop
-Inv-loop streams count k₀ y₀ i₀ k y i = (1 ≤ i) × (i ≤ count) × (count ≤ 16) × (k < i) × (y ≡ headAt streams k) × ((j : ℕ) → j < i → y ≤ headAt streams j) × ((j : ℕ) → j < k → y < headAt streams j)
+Inv-loop streams count k₀ y₀ i₀ k y i =
+    (1 ≤ i) × (i ≤ count) × (count ≤ 16) × (k < i)
+    × (y ≡ headAt streams k) × ((j : ℕ) → j < i → y ≤ headAt streams j) × ((j : ℕ) → j < k → y < headAt streams j)
 
 abbrev μ-loop : tie.MeasureT-loop
 μ-loop streams count k₀ y₀ i₀ k y i = count - i
@@ -40,8 +42,15 @@ index-2-y : tie.Need-index-2-y Inv-loop μ-loop
 index-2-y c = search needs
 
 loop-holds : tie.Need-loop-holds Inv-loop μ-loop
-loop-holds c =
-    (omega arith, omega arith, omega arith, omega arith, refl, (λ j h. let e : j ≡ 0 = omega arith in rw e (omega arith)), (λ j h. let z : ⊥ = omega arith in absurd z))
+loop-holds c = (
+  omega arith,
+  omega arith,
+  omega arith,
+  omega arith,
+  refl,
+  (λ j h. let e : j ≡ 0 = omega arith in rw e (omega arith)),
+  (λ j h. let z : ⊥ = omega arith in absurd z),
+)
 
 mul-x : tie.Need-mul-x Inv-loop μ-loop
 mul-x c = omega arith

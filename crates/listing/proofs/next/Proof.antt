@@ -35,7 +35,8 @@ pull-requires : tie.Need-pull-requires
 pull-requires c κs = let s = c .before .before .before .before .before in
     let a = s .args in
     let f = c .before .before .least in
-    (s .pre .2, behind (a .index .now) (a .width) (a .size) (streamOf (a .streams .now) (f .result)) (s .pre .3 .each (f .result) (f .ensures .within)) (omega arith))
+    let held = s .pre .3 .each (f .result) (f .ensures .within) in
+    (s .pre .2, behind (a .index .now) (a .width) (a .size) (streamOf (a .streams .now) (f .result)) held (omega arith))
 
 mul-t10 : tie.Need-mul-t10
 mul-t10 c = search needs

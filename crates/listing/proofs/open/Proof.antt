@@ -38,7 +38,8 @@ pull-requires c κs = let p = c .before .before in
     let a = s .args in
     let t = c .before .loop-test .taken in
     let e : streamOf (p .loop .streams) (p .loop .k) ≡ streamOf (a .streams .now) (p .loop .k) =
-    mapped-next (pulled (a .index .now) (a .width) (a .size)) [] (p .loop .k) (a .streams .now) (p .loop .streams) (omega (arith, t, s .pre .2 .long)) (p .loop .inv .1) in
+    mapped-next (pulled (a .index .now) (a .width) (a .size)) [] (p .loop .k) (a .streams .now) (p .loop .streams)
+    (omega (arith, t, s .pre .2 .long)) (p .loop .inv .1) in
     (s .pre .1, subst (Readable (a .index .now) (a .width) (a .size)) (sym e) (s .pre .2 .each (p .loop .k) t))
 
 mul-t11 : tie.Need-mul-t11 Inv-loop μ-loop
@@ -59,7 +60,8 @@ loop-again c = let p = c .before .before .before in
     let a = s .args in
     let t = c .before .before .loop-test .taken in (
       omega arith,
-      mapped-on (pulled (a .index .now) (a .width) (a .size)) [] (p .loop .k) (a .streams .now) (p .loop .streams) (omega (arith, t, s .pre .2 .long)) (p .loop .inv .1)
+      mapped-on (pulled (a .index .now) (a .width) (a .size)) [] (p .loop .k) (a .streams .now) (p .loop .streams)
+          (omega (arith, t, s .pre .2 .long)) (p .loop .inv .1)
           (c .pull .result) (c .pull .ensures),
     )
 

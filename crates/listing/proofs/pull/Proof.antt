@@ -17,7 +17,8 @@ low-digit c =
     let s = c .before .before .before in
     digit (s .args .index .now) (s .args .width) (s .args .size) (s .args .t4) (s .pre .1) (omega arith)
 
-low-in : (c : tie.Else2) → getD (c .before .before .before .args .t4) 3 0 + trailingZeros 32 (getD (c .before .before .before .args .t4) 4 0) < c .before .before .before .args .size
+low-in : (c : tie.Else2)
+    → getD (c .before .before .before .args .t4) 3 0 + trailingZeros 32 (getD (c .before .before .before .args .t4) 4 0) < c .before .before .before .args .size
 low-in c =
     let s = c .before .before .before in
     start-in (s .args .index .now) (s .args .width) (s .args .size) (s .args .t4) (s .pre .1) (omega arith) (omega arith)

@@ -31,7 +31,8 @@ returns c = let w₃ = c .before .before .write3 in
     let w₂ = c .before .before .before .before .before .before .write2 in
     let w₁ = c .before .before .before .before .before .before .before .before .before .before .write in
     let a = c .before .before .before .before .before .before .before .before .before .before .before .before .before .args in
-    three-fields (a .out .now) (w₁ .last .0) (w₂ .last .0) (w₃ .last .0) (a .place) (a .file) (a .offset) (a .keyword) (omega arith) (w₁ .ensures) (w₂ .ensures) (w₃ .ensures)
+    three-fields (a .out .now) (w₁ .last .0) (w₂ .last .0) (w₃ .last .0) (a .place) (a .file) (a .offset) (a .keyword) (omega arith)
+    (w₁ .ensures) (w₂ .ensures) (w₃ .ensures)
 
 pub put-spec : {M : Type 1} → statement M
 put-spec =

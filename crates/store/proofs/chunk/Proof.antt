@@ -19,7 +19,9 @@ told : (c : tie.After-known-told)
 told c =
     let called = c .before .before .before in
     let a = called .before .before .before .args in
-    done-code (c .before .k .given .0 .0) (findChunk (now (a .store)) (now (a .fp))) (positionOf (now (a .fp)) (storeKeys (now (a .store)))) (sym (c .before .k .given .1) ∙ called .locate .ensures)
+    let k = c .before .k .given in
+    done-code (k .0 .0) (findChunk (now (a .store)) (now (a .fp))) (positionOf (now (a .fp)) (storeKeys (now (a .store))))
+    (sym (k .1) ∙ called .locate .ensures)
 
 locate-requires : tie.Need-locate-requires
 locate-requires c κs = search needs
@@ -54,7 +56,9 @@ returns-2 : tie.Need-returns-2
 returns-2 c =
     let called = c .before .before .before in
     let a = called .before .before .before .args in
-    let d = refused-number (c .before .enum-told .given .0 .0) (findChunk (now (a .store)) (now (a .fp))) (positionOf (now (a .fp)) (storeKeys (now (a .store)))) (sym (c .before .enum-told .given .1) ∙ called .locate .ensures) .1 in (
+    let r = c .before .enum-told .given in
+    let d = refused-number (r .0 .0) (findChunk (now (a .store)) (now (a .fp))) (positionOf (now (a .fp)) (storeKeys (now (a .store))))
+    (sym (r .1) ∙ called .locate .ensures) .1 in (
       slice-refused (now (a .store)) (now (a .fp)) d,
       refl,
       sym (zero-add (a .store .ptr .1)) ∙ ap (λ (n : ℕ). n + a .store .ptr .1) (chunk-start-refused (now (a .store)) (now (a .fp)) d),

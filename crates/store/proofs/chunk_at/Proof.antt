@@ -36,8 +36,11 @@ part-result-end c = let r = room c in search needs
 returns : tie.Need-returns
 returns c =
     let sized = c .before in
-    let a = sized .before .before .before .args in (
-      chunk-slice (now (a .store)) (a .k) (sized .before .before .before .pre) (sized .before .entry-field .result) (sized .entry-field2 .result) (sized .before .entry-field .ensures) (sized .entry-field2 .ensures),
+    let start = sized .before .before .before in
+    let a = start .args in
+    let at = sized .before .entry-field in
+    let size = sized .entry-field2 in (
+      chunk-slice (now (a .store)) (a .k) (start .pre) (at .result) (size .result) (at .ensures) (size .ensures),
       refl,
       ap (λ (n : ℕ). n + a .store .ptr .1) (sized .before .entry-field .ensures),
     )

@@ -8,7 +8,7 @@ use denote.Ref.{now}
 use Rattle.spec.specs.Bytes.{same}
 use Rattle.spec.specs.Store.{storeMark}
 use borrow.Author.Tests.{not-true, not-false}
-use Rattle.store.proofs.Answers.{refused-with, short, unmarked, many, cut, wrong, twin, examined}
+use Rattle.store.proofs.Answers.{refused-with, short, unmarked, many, cut, wrong, entered, twin-told, examined}
 use borrow.Author.Needs.{needs}
 use Rattle.store.proofs.examine.Statement.{statement}
 use Rattle.store.proofs.examine.Tie as tie
@@ -30,7 +30,8 @@ marked-requires c κs = search needs
 returns-2 : tie.Need-returns-2
 returns-2 c =
     let store = now (c .before .before .before .before .before .before .args .store) in
-    refused-with store 5 (unmarked store (c .before .before .if1 .left) (sym (c .before .marked .ensures) ∙ not-true (c .before .marked .result) (c .if2 .taken))) (omega arith)
+    let none = sym (c .before .marked .ensures) ∙ not-true (c .before .marked .result) (c .if2 .taken) in
+    refused-with store 5 (unmarked store (c .before .before .if1 .left) none) (omega arith)
 
 count-requires : tie.Need-count-requires
 count-requires c κs = search needs
@@ -88,9 +89,12 @@ returns-6 c =
     let opened = counted .before in
     let store = now (opened .before .before .before .before .before .before .args .store) in
     let h = header opened in
+    let n = counted .count in
+    let e = good .before .entries in
+    let z = entered store (h .0) (h .1) (n .result) (n .ensures) (e .result) (e .ensures) (good .if5 .left) in
+    let b = built .build in
     refused-with store 8
-    (twin store (h .0) (h .1) (counted .count .result) (counted .count .ensures) (sized .before .if3 .left) (sized .if4 .left)
-    (sym (good .before .entries .ensures) ∙ good .if5 .left) (sym (built .build .ensures .0) ∙ c .if6 .taken))
+    (twin-told store (h .0) (h .1) (n .result) (n .ensures) (sized .before .if3 .left) (sized .if4 .left) z (b .result) (b .ensures .0) (c .if6 .taken))
     (omega arith)
 
 same-length-3 : tie.Need-same-length-3
@@ -109,9 +113,12 @@ returns-7 c =
     let start = opened .before .before .before .before .before .before in
     let store = now (start .args .store) in
     let h = header opened in
-    examined store (h .0) (h .1) (counted .count .result) (counted .count .ensures) (sized .before .if3 .left) (sized .if4 .left)
-    (sym (good .before .entries .ensures) ∙ good .if5 .left) (now (start .args .next)) (built .build .last .1 .1 .1 .1 .0) (built .build .last .1 .1 .1 .1 .1 .0)
-    (built .build .result) (built .build .ensures) (start .pre .long) (c .if6 .left)
+    let n = counted .count in
+    let e = good .before .entries in
+    let z = entered store (h .0) (h .1) (n .result) (n .ensures) (e .result) (e .ensures) (good .if5 .left) in
+    let b = built .build in
+    examined store (h .0) (h .1) (n .result) (n .ensures) (sized .before .if3 .left) (sized .if4 .left) z
+    (now (start .args .next)) (b .last .1 .1 .1 .1 .0) (b .last .1 .1 .1 .1 .1 .0) (b .result) (b .ensures) (start .pre .long) (c .if6 .left)
 
 pub examine-spec : {M : Type 1} → statement M
 examine-spec =

@@ -22,13 +22,15 @@ returns : tie.Need-returns
 returns c =
     let called = c .before .before in
     let a = called .before .before .before .args in
-    sym (done-code (c .enum-told .given .0 .0) (findChunk (now (a .store)) (now (a .fp))) (positionOf (now (a .fp)) (storeKeys (now (a .store)))) (sym (c .enum-told .given .1) ∙ called .locate .ensures) .0)
+    sym (done-code (c .enum-told .given .0 .0) (findChunk (now (a .store)) (now (a .fp))) (positionOf (now (a .fp)) (storeKeys (now (a .store))))
+    (sym (c .enum-told .given .1) ∙ called .locate .ensures) .0)
 
 returns-2 : tie.Need-returns-2
 returns-2 c =
     let called = c .before .before .before in
     let a = called .before .before .before .args in
-    refused-number (c .before .code .given .0 .0) (findChunk (now (a .store)) (now (a .fp))) (positionOf (now (a .fp)) (storeKeys (now (a .store)))) (sym (c .before .code .given .1) ∙ called .locate .ensures) .0
+    refused-number (c .before .code .given .0 .0) (findChunk (now (a .store)) (now (a .fp))) (positionOf (now (a .fp)) (storeKeys (now (a .store))))
+    (sym (c .before .code .given .1) ∙ called .locate .ensures) .0
 
 pub find-chunk-spec : {M : Type 1} → statement M
 find-chunk-spec = tie.close (tie.spec locate-requires enum-told enum-known-code returns returns-2)

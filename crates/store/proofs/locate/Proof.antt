@@ -10,7 +10,7 @@ use Rattle.spec.specs.Lookup.{findChunk}
 use Rattle.directory.specs.Chains.{Chained}
 use Rattle.directory.proofs.ChainLaws.{zeros}
 use Rattle.spec.proofs.LookupLaws.{refuses, finds, lookup-refused, lookup-length, lookup-none, lookup-found}
-use Rattle.store.proofs.Answers.{keys-from, lies}
+use Rattle.store.proofs.Answers.{keys-from, found-at, lies}
 use Rattle.spec.proofs.StoreLaws.{store-good, length-storeKeys}
 use borrow.Author.Needs.{needs}
 use Rattle.store.proofs.locate.Statement.{statement}
@@ -36,7 +36,7 @@ placed : (c : tie.After-find)
 placed c =
     let counted = c .before .before .before in
     let a = counted .before .before .before .before .before .before .before .before .before .before .args in
-    c .find .ensures ∙ ap (positionOf (now (a .fp))) (keys-from (now (a .store)) (counted .count .result) (counted .count .ensures))
+    found-at (now (a .store)) (now (a .fp)) (counted .count .result) (counted .count .ensures) (c .find .result) (c .find .ensures)
 
 returns : tie.Need-returns
 unfolding findChunk
@@ -44,7 +44,8 @@ returns c =
     let called = c .before .before .before in
     let a = called .before .before .before .before .before .args in
     refuses (called .examine .result) (findChunk (now (a .store)) (now (a .fp))) (positionOf (now (a .fp)) (storeKeys (now (a .store))))
-    (lookup-refused (storeCode (now (a .store))) (storeKeys (now (a .store))) (now (a .fp)) (called .examine .result) (called .examine .ensures .number) (c .if1 .taken)) (c .if1 .taken)
+    (lookup-refused (storeCode (now (a .store))) (storeKeys (now (a .store))) (now (a .fp))
+    (called .examine .result) (called .examine .ensures .number) (c .if1 .taken)) (c .if1 .taken)
 
 returns-2 : tie.Need-returns-2
 unfolding findChunk
@@ -82,7 +83,8 @@ returns-3 c =
     let counted = c .before .before .before .before in
     let a = counted .before .before .before .before .before .before .before .before .before .before .args in
     refuses 15 (findChunk (now (a .store)) (now (a .fp))) (positionOf (now (a .fp)) (storeKeys (now (a .store))))
-    (lookup-none (storeCode (now (a .store))) (storeKeys (now (a .store))) (now (a .fp)) (passed (counted .before .before)) (counted .before .if2 .left) (counted .count .result) (counted .count .ensures ∙ sym (length-storeKeys (now (a .store))))
+    (lookup-none (storeCode (now (a .store))) (storeKeys (now (a .store))) (now (a .fp)) (passed (counted .before .before)) (counted .before .if2 .left)
+    (counted .count .result) (counted .count .ensures ∙ sym (length-storeKeys (now (a .store))))
     (c .before .find .result) (placed (c .before)) (c .if3 .taken))
     (λ z. omega arith)
 
@@ -92,7 +94,8 @@ returns-4 c =
     let counted = c .before .before .before .before in
     let a = counted .before .before .before .before .before .before .before .before .before .before .args in
     finds (c .before .find .result) (findChunk (now (a .store)) (now (a .fp))) (positionOf (now (a .fp)) (storeKeys (now (a .store))))
-    (lookup-found (storeCode (now (a .store))) (storeKeys (now (a .store))) (now (a .fp)) (passed (counted .before .before)) (counted .before .if2 .left) (counted .count .result) (counted .count .ensures ∙ sym (length-storeKeys (now (a .store))))
+    (lookup-found (storeCode (now (a .store))) (storeKeys (now (a .store))) (now (a .fp)) (passed (counted .before .before)) (counted .before .if2 .left)
+    (counted .count .result) (counted .count .ensures ∙ sym (length-storeKeys (now (a .store))))
     (c .before .find .result) (placed (c .before)) (c .if3 .left))
     (placed (c .before))
 
