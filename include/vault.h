@@ -2,8 +2,10 @@
  *
  * Build the library by `make lib` (it is proved first): target/staticlib/libvault_c.a, for x86-64 Linux.
  * Every function takes every input, ends, and answers 0 or the number of the refusal; README.md has the table of numbers. A refusal
- * changes no byte of a buffer. A number behind a pointer is a part of the answer: the length or the count where the work is done, and 0
- * on a refusal. A buffer must not overlap another argument. A null pointer may stand only where the length beside it is 0.
+ * changes no byte of a buffer and no number behind a pointer: these are told the length or the count where the work is done, and stay as they
+ * were on a refusal. vault_search is two operations: where its join refuses, the index that its scan wrote stays in the index buffer, and its
+ * length is told. A buffer or number must not overlap another argument. A null pointer may stand only where the length beside it is 0.
+ * A call keeps nothing behind and touches only what it is lent, so calls may run at once from several threads, each with buffers of its own.
  * A check of a store or an index, a scan and a lookup need about 600 KB of stack, a count, a join and a search about 1.1 MB.
  */
 #ifndef KEHORAIMO_VAULT_H
@@ -61,7 +63,8 @@ uint64_t vault_body_length(const uint8_t *index, size_t index_length, const uint
 
 /* ---- the search whole: a scan into the index buffer, then a join of that index into the list buffer */
 
-/* 0 with the index's length and the count; or the scan's number, both 0; or the join's number with the index's length. */
+/* 0 with the index's length and the count; or the scan's number, and both stay; or the join's number with the index's length, and the count
+ * stays. */
 uint8_t vault_search(const uint8_t *list, size_t list_length, const uint8_t *store, size_t store_length,
                      const uint8_t *recipes, size_t recipes_length, uint8_t *index, size_t index_buffer_length,
                      uint8_t *out, size_t out_length, uint64_t *index_length, uint64_t *count);

@@ -7,13 +7,13 @@ use Prim.Native.Nat.{ℕ, zero, suc, _+_, _*_, _/_, _%_, _≤_, _<_, min}
 use native.Mathlib.Omega.{arith}
 use lib.Dec.{eqb, leb}
 use lib.ListN.{length, take, drop, getD}
-use Rattle.spec.specs.Bytes.{leValue, fieldAt, fieldsOf, rising}
+use Rattle.spec.specs.Bytes.{leValue, fieldAt, fieldsOf, rising, AllBytes}
 use Rattle.spec.specs.Records.{MatchRecord, form1, isEmpty, isTiny, reach, kindOf, readOffsets, readRecord, recordSize}
-use Rattle.spec.specs.Steps.{recordGood}
+use Rattle.bodies.specs.Steps.{recordGood}
 use Rattle.spec.proofs.Tests.{and-left, and-right, leb-true, leb-false, eqb-same, eqb-ne, false-of}
-use Rattle.spec.proofs.FieldLists.{AllBytes, length-fieldsOf}
+use Rattle.spec.proofs.FieldLists.{length-fieldsOf}
 use Rattle.spec.proofs.RecordLaws.{form1-good, eq-of, le-of, kinds}
-use Rattle.bodies.specs.Check.{goodSize, inOrder, offsetsGood, Lengths, Head}
+use Rattle.bodies.specs.Check.{goodSize, offsetsInRange, offsetsGood, Lengths, Head}
 use Rattle.bodies.proofs.RecordChecks.{Tiny, Full, tiny-of, tiny-is, full-of, full-is}
 use Rattle.bodies.proofs.RecordChecks.{read-some, size-zero, read-1, read-2, read-3, size-1, size-2, size-3}
 
@@ -35,10 +35,10 @@ module _ (n size : ℕ) (bytes : List ℕ) (start : 1 ≤ length bytes) where
   accept-tiny z t = accept 3 (tiny-is form1 n size bytes z t) (sym (size-zero form1 bytes z))
 
   pub refuse-full : Lengths n size → 1 ≤ getD bytes 1 0 → (Full form1 n size bytes → ⊥) → 0 ≡ goodSize n size bytes
-  refuse-full l some never = refuse (false-of _ (λ e. never (full-of form1 form1-good n size bytes (l .positive) (l .fit) some start e)))
+  refuse-full l nonempty never = refuse (false-of _ (λ e. never (full-of form1 form1-good n size bytes (l .positive) (l .fit) nonempty start e)))
 
   pub accept-full : (s : ℕ) → AllBytes bytes → 1 ≤ getD bytes 1 0 → Full form1 n size bytes → s ≡ recordSize form1 bytes → s ≡ goodSize n size bytes
-  accept-full s b some t q = accept s (full-is form1 n size bytes b some t) q
+  accept-full s b nonempty t q = accept s (full-is form1 n size bytes b nonempty t) q
 
 -- ---- kinds
 
@@ -79,15 +79,15 @@ module _ (m : ℕ) where
 
 -- ---- a record with offsets is neither tiny nor empty
 
-module _ (n : ℕ) (bytes : List ℕ) (some : 1 ≤ getD bytes 1 0) (has : 0 < length (readOffsets form1 bytes)) where
+module _ (n : ℕ) (bytes : List ℕ) (nonempty : 1 ≤ getD bytes 1 0) (has : 0 < length (readOffsets form1 bytes)) where
   no-zero : eqb (length (readOffsets form1 bytes)) 0 ≡ false
   no-zero = eqb-ne (length (readOffsets form1 bytes)) 0 (omega arith)
 
   many-large : isTiny form1 n (readRecord form1 bytes) ≡ false
-  many-large = rw (read-some form1 bytes some, no-zero)
+  many-large = rw (read-some form1 bytes nonempty, no-zero)
 
   many-some : isEmpty (readRecord form1 bytes) ≡ false
-  many-some = rw (read-some form1 bytes some, no-zero, and-false)
+  many-some = rw (read-some form1 bytes nonempty, no-zero, and-false)
 
 -- ---- kind 0
 
@@ -96,7 +96,7 @@ module _ (n size : ℕ) (bytes : List ℕ) (start : 1 ≤ length bytes) (kind : 
   tiny-short h = refuse-tiny n size bytes start kind (λ t. omega (arith, t .long))
 
   pub tiny-none : getD bytes 2 0 ≡ 0 → 0 ≡ goodSize n size bytes
-  tiny-none e = refuse-tiny n size bytes start kind (λ t. omega (arith, t .some))
+  tiny-none e = refuse-tiny n size bytes start kind (λ t. omega (arith, t .nonempty))
 
   pub tiny-large : 3 < getD bytes 2 0 → 0 ≡ goodSize n size bytes
   tiny-large h = refuse-tiny n size bytes start kind (λ t. omega (arith, t .high))
@@ -109,7 +109,7 @@ module _ (n size : ℕ) (bytes : List ℕ) (start : 1 ≤ length bytes) (kind : 
 
   pub tiny-good : 3 ≤ length bytes → 1 ≤ getD bytes 2 0 → getD bytes 2 0 ≤ 3 → getD bytes 2 0 % 2 ≤ reach n size → getD bytes 2 0 / 2 ≤ reach n size
       → 3 ≡ goodSize n size bytes
-  tiny-good l s m p q = accept-tiny n size bytes start kind (record { long = l; some = s; low = omega arith; high = omega arith; prefix = p; suffix = q })
+  tiny-good l s m p q = accept-tiny n size bytes start kind (record { long = l; nonempty = s; low = omega arith; high = omega arith; prefix = p; suffix = q })
 
 -- ---- heads that no kind has
 
@@ -127,13 +127,13 @@ module _ (n size : ℕ) (bytes : List ℕ) (start : 1 ≤ length bytes) (l : Len
       go false false x y = omega arith
 
   pub head-short : 1 ≤ getD bytes 1 0 → length bytes < 7 → 0 ≡ goodSize n size bytes
-  head-short some h = refuse-full n size bytes start l some (λ t. omega (arith, t .long, size-head some))
+  head-short nonempty h = refuse-full n size bytes start l nonempty (λ t. omega (arith, t .long, size-head nonempty))
 
   pub head-prefix : 1 ≤ getD bytes 1 0 → reach n size < getD bytes 2 0 → 0 ≡ goodSize n size bytes
-  head-prefix some h = refuse-full n size bytes start l some (λ t. omega (arith, t .prefix))
+  head-prefix nonempty h = refuse-full n size bytes start l nonempty (λ t. omega (arith, t .prefix))
 
   pub head-suffix : 1 ≤ getD bytes 1 0 → reach n size < getD bytes 3 0 → 0 ≡ goodSize n size bytes
-  head-suffix some h = refuse-full n size bytes start l some (λ t. omega (arith, t .suffix))
+  head-suffix nonempty h = refuse-full n size bytes start l nonempty (λ t. omega (arith, t .suffix))
 
 -- ---- kind 1 without an offset
 
@@ -155,7 +155,7 @@ module _ (n size : ℕ) (bytes : List ℕ) (h : Head 1 n size bytes) (zero-count
   pub none-small : getD bytes 2 0 ≤ 1 → getD bytes 3 0 ≤ 1 → 0 ≡ goodSize n size bytes
   none-small p s =
       refuse-full n size bytes (omega (arith, h .long)) (h .lengths) (omega (arith, h .is))
-      (λ t. false≢true (sym (t .large) ∙ rw none-is (tiny-test n _ refl p s (rw none-is at (t .some)))))
+      (λ t. false≢true (sym (t .large) ∙ rw none-is (tiny-test n _ refl p s (rw none-is at (t .nonempty)))))
 
   pub none-good : AllBytes bytes → fieldAt bytes 5 2 ≡ 0 → (1 < getD bytes 2 0) ⊎ (1 < getD bytes 3 0) → 7 ≡ goodSize n size bytes
   none-good b z d =
@@ -166,7 +166,7 @@ module _ (n size : ℕ) (bytes : List ℕ) (h : Head 1 n size bytes) (zero-count
         count = zero-count ∙ rw none-offsets;
         first = z ∙ rw none-offsets;
         large = rw none-is (large d);
-        some = rw none-is (some d);
+        nonempty = rw none-is (nonempty d);
         prefix = h .prefix;
         suffix = h .suffix;
         rise = rw none-offsets;
@@ -181,9 +181,9 @@ module _ (n size : ℕ) (bytes : List ℕ) (h : Head 1 n size bytes) (zero-count
       large (inl l) = rw (leb-false (getD bytes 2 0) 1 l)
       large (inr l) = rw (leb-false (getD bytes 3 0) 1 l, and-false)
 
-      some : (1 < getD bytes 2 0) ⊎ (1 < getD bytes 3 0) → isEmpty r ≡ false
-      some (inl l) = rw (eqb-ne (getD bytes 2 0) 0 (omega arith))
-      some (inr l) = rw (eqb-ne (getD bytes 3 0) 0 (omega arith), and-false)
+      nonempty : (1 < getD bytes 2 0) ⊎ (1 < getD bytes 3 0) → isEmpty r ≡ false
+      nonempty (inl l) = rw (eqb-ne (getD bytes 2 0) 0 (omega arith))
+      nonempty (inr l) = rw (eqb-ne (getD bytes 3 0) 0 (omega arith), and-false)
 
 -- ---- kind 1 with an offset
 
@@ -211,7 +211,7 @@ module _ (n size : ℕ) (bytes : List ℕ) (h : Head 1 n size bytes) (some-count
         count = one ∙ rw single-offsets;
         first = rw single-offsets;
         large = many-large n bytes (omega (arith, h .is)) has;
-        some = many-some n bytes (omega (arith, h .is)) has;
+        nonempty = many-some n bytes (omega (arith, h .is)) has;
         prefix = h .prefix;
         suffix = h .suffix;
         rise = rw single-offsets;
@@ -229,27 +229,27 @@ unfolding fieldsOf
 fields-head w zero l h = let z : ⊥ = omega arith in absurd z
 fields-head w (suc c) l h = refl
 
-module _ (n size : ℕ) (bytes : List ℕ) (at count : ℕ) (long : 7 ≤ length bytes) (l : Lengths n size) (some : 1 ≤ getD bytes 1 0) (has : 0 < count)
+module _ (n size : ℕ) (bytes : List ℕ) (at count : ℕ) (long : 7 ≤ length bytes) (l : Lengths n size) (nonempty : 1 ≤ getD bytes 1 0) (has : 0 < count)
     (offsets : readOffsets form1 bytes ≡ fieldsOf 2 count (drop at bytes)) (ends : recordSize form1 bytes ≡ at + 2 * count) where
   many-count : length (readOffsets form1 bytes) ≡ count
   many-count = rw offsets (length-fieldsOf 2 count (drop at bytes))
 
   many-of : Full form1 n size bytes → offsetsGood n size bytes at count ≡ true
-  unfolding offsetsGood inOrder
+  unfolding offsetsGood offsetsInRange
   many-of t =
       let a : at + 2 * count ≤ length bytes = rw (← ends) (t .long) in
       let b : fieldAt bytes 5 2 ≡ fieldAt bytes at 2 = t .first ∙ rw offsets (fields-head 2 count (drop at bytes) has) in
       rw (leb-true (at + 2 * count) (length bytes) a, b, eqb-same, ← offsets, t .rise, t .inside)
 
   pub many-refused : offsetsGood n size bytes at count ≡ false → 0 ≡ goodSize n size bytes
-  many-refused e = refuse-full n size bytes (omega arith) l some (λ t. false≢true (sym e ∙ many-of t))
+  many-refused e = refuse-full n size bytes (omega arith) l nonempty (λ t. false≢true (sym e ∙ many-of t))
 
   pub many-good : AllBytes bytes → getD bytes 2 0 ≤ reach n size → getD bytes 3 0 ≤ reach n size
       → getD bytes 1 0 ≡ kindOf count → getD bytes 4 0 ≡ min count 255 → offsetsGood n size bytes at count ≡ true
       → at + 2 * count ≡ goodSize n size bytes
-  unfolding offsetsGood inOrder
+  unfolding offsetsGood offsetsInRange
   many-good b p s kind c e =
-      accept-full n size bytes (omega arith) (at + 2 * count) b some
+      accept-full n size bytes (omega arith) (at + 2 * count) b nonempty
       (record {
         long = rw ends (le-of _ _ (and-left (leb (at + 2 * count) (length bytes)) _ (and-left _ _ e)));
         kind = kind ∙ rw many-count;
@@ -257,8 +257,8 @@ module _ (n size : ℕ) (bytes : List ℕ) (at count : ℕ) (long : 7 ≤ length
         first =
             eq-of _ _ (and-right (leb (at + 2 * count) (length bytes)) (eqb (fieldAt bytes 5 2) (fieldAt bytes at 2)) (and-left _ _ e))
             ∙ rw offsets (sym (fields-head 2 count (drop at bytes) has));
-        large = many-large n bytes some (rw many-count has);
-        some = many-some n bytes some (rw many-count has);
+        large = many-large n bytes nonempty (rw many-count has);
+        nonempty = many-some n bytes nonempty (rw many-count has);
         prefix = p;
         suffix = s;
         rise = rw offsets (and-left _ _ order);
@@ -266,7 +266,7 @@ module _ (n size : ℕ) (bytes : List ℕ) (at count : ℕ) (long : 7 ≤ length
       })
       (sym ends)
     where
-      order : inOrder n size (fieldsOf 2 count (drop at bytes)) ≡ true
+      order : offsetsInRange n size (fieldsOf 2 count (drop at bytes)) ≡ true
       order = and-right (leb (at + 2 * count) (length bytes) && eqb (fieldAt bytes 5 2) (fieldAt bytes at 2)) _ e
 
 module _ (n size : ℕ) (bytes : List ℕ) (h : Head 2 n size bytes) where
@@ -334,7 +334,7 @@ module _ (n size : ℕ) (bytes : List ℕ) (at count : ℕ) where
   unfolding offsetsGood
   run-first d = rw (eqb-ne (fieldAt bytes 5 2) (fieldAt bytes at 2) d, and-false)
 
-  pub run-order : (r : Bool) → at + 2 * count ≤ length bytes → fieldAt bytes 5 2 ≡ fieldAt bytes at 2 → r ≡ inOrder n size (fieldsOf 2 count (drop at bytes))
+  pub run-order : (r : Bool) → at + 2 * count ≤ length bytes → fieldAt bytes 5 2 ≡ fieldAt bytes at 2 → r ≡ offsetsInRange n size (fieldsOf 2 count (drop at bytes))
       → r ≡ offsetsGood n size bytes at count
   unfolding offsetsGood
   run-order r h e q = rw (leb-true (at + 2 * count) (length bytes) h, e, eqb-same) q

@@ -1,3 +1,4 @@
+pub mod StepLaws
 pub mod RecordChecks
 pub mod Orders
 pub mod KindChecks

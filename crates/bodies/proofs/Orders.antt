@@ -12,7 +12,7 @@ use lib.Seq.{drop-drop}
 use Rattle.spec.specs.Bytes.{fieldAt, fieldsOf, rising, every}
 use Rattle.spec.specs.Records.{reach}
 use Rattle.spec.proofs.Tests.{leb-true, leb-false}
-use Rattle.bodies.specs.Check.{inOrder}
+use Rattle.bodies.specs.Check.{offsetsInRange}
 
 pub reach-low : (n size : ℕ) → n - 1 < size → n - 1 ≡ reach n size
 unfolding reach
@@ -37,14 +37,14 @@ module _ (n size : ℕ) where
   order-next x [] = refl
   order-next x (y ∷ xs) = rw (order-next y xs) (regroup (ltb x y) (leb (y + n) size) (rising (y ∷ xs)) (every (λ at. leb (at + n) size) xs))
 
-  pub order-all : (xs : List ℕ) → orderFrom 0 xs ≡ inOrder n size xs
-  unfolding inOrder
+  pub order-all : (xs : List ℕ) → orderFrom 0 xs ≡ offsetsInRange n size xs
+  unfolding offsetsInRange
   order-all [] = refl
   order-all (x ∷ xs) = rw (leb·zero x, order-next x xs) (regroup true (leb (x + n) size) (rising (x ∷ xs)) (every (λ at. leb (at + n) size) xs))
 
   -- ---- one field of a run
 
-  module _ (w left place least : ℕ) (bytes : List ℕ) (some : 0 < left) where
+  module _ (w left place least : ℕ) (bytes : List ℕ) (nonempty : 0 < left) where
     pub order-turn : orderFrom least (fieldsOf w left (drop place bytes))
         ≡ (leb least (fieldAt bytes place w)
         && (leb (fieldAt bytes place w + n) size && orderFrom (fieldAt bytes place w + 1) (fieldsOf w (left - 1) (drop (place + w) bytes))))

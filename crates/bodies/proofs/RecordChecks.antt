@@ -10,14 +10,14 @@ use native.Mathlib.Omega.{arith}
 use lib.Dec.{eqb, leb}
 use lib.ListN.{length, take, drop, getD, length-append, length-drop, length-take, take-append-drop}
 use lib.Seq.{drop-drop, take-add, getD-take}
-use Rattle.spec.specs.Bytes.{leValue, leBytes, fieldAt, fieldsOf, fieldsBytes, same, rising, every}
-use Rattle.spec.specs.Records.{MatchRecord, Form, isEmpty, isTiny, reach, inRange, kindOf}
+use Rattle.spec.specs.Bytes.{leValue, leBytes, fieldAt, fieldsOf, fieldsBytes, same, rising, every, AllBytes}
+use Rattle.spec.specs.Records.{MatchRecord, Form, isEmpty, isTiny, reach, inRange, kindOf, headBytes}
 use Rattle.spec.specs.Records.{offsetsBytes, fullBytes, tinyBytes, recordBytes, readOffsets, readRecord, recordSize}
-use Rattle.spec.specs.Steps.{recordGood}
+use Rattle.bodies.specs.Steps.{recordGood}
 use Rattle.spec.proofs.Tests.{le-or-lt, and-left, and-right, leb-true, leb-false, eqb-ne, bool-cases, false-of}
 use Rattle.spec.proofs.Same.{same-eq, same-of}
 use Rattle.spec.proofs.Fields.{length-leBytes}
-use Rattle.spec.proofs.FieldLists.{AllBytes, bytes-drop, leBytes-take, length-fieldsOf, fieldsBytes-fieldsOf, length-fieldsBytes}
+use Rattle.spec.proofs.FieldLists.{bytes-drop, leBytes-take, length-fieldsOf, fieldsBytes-fieldsOf, length-fieldsBytes}
 use Rattle.spec.proofs.RecordLaws.{FormGood, eq-of, le-of, kinds, laid, first-laid, size-laid, full-laid, offsets-count}
 use Rattle.spec.proofs.RecordLaws.{prefix-in, suffix-in, offsets-rise, offsets-in, offsets-one, offsets-two, offsets-three}
 use Rattle.spec.proofs.RecordLaws.{written-empty, written-tiny, written-full, length-full}
@@ -27,7 +27,7 @@ use Rattle.spec.proofs.RecordLaws.{written-empty, written-tiny, written-full, l
 -- The facts of bytes that start with a good tiny record.
 pub record Tiny (f : Form) (n size : ℕ) (bytes : List ℕ) : Type 0 where
   pub long : 3 ≤ length bytes
-  pub some : 1 ≤ getD bytes 2 0
+  pub nonempty : 1 ≤ getD bytes 2 0
   pub low : getD bytes 2 0 % f .tinyStep ≤ f .tinyMost n
   pub high : getD bytes 2 0 / f .tinyStep ≤ f .tinyMost n
   pub prefix : getD bytes 2 0 % f .tinyStep ≤ reach n size
@@ -40,7 +40,7 @@ pub record Full (f : Form) (n size : ℕ) (bytes : List ℕ) : Type 0 where
   pub count : getD bytes 4 0 ≡ min (length (readOffsets f bytes)) 255
   pub first : fieldAt bytes 5 (f .width) ≡ getD (readOffsets f bytes) 0 0
   pub large : isTiny f n (readRecord f bytes) ≡ false
-  pub some : isEmpty (readRecord f bytes) ≡ false
+  pub nonempty : isEmpty (readRecord f bytes) ≡ false
   pub prefix : getD bytes 2 0 ≤ reach n size
   pub suffix : getD bytes 3 0 ≤ reach n size
   pub rise : rising (readOffsets f bytes) ≡ true
@@ -85,7 +85,7 @@ module _ (f : Form) (n size : ℕ) (bytes : List ℕ) (start : 1 ≤ length byte
         ∙ ap (λ (l : List ℕ). getD l 1 0) (sym are ∙ written-tiny f n (getD bytes 0 0) (readRecord f bytes) t)
 
     kind-of-full : isTiny f n (readRecord f bytes) ≡ false → getD bytes 1 0 ≡ kindOf (length (readRecord f bytes .offsets))
-    unfolding fullBytes
+    unfolding fullBytes headBytes
     kind-of-full t =
         sym (getD-take (recordSize f bytes) bytes 1 0 (omega (arith, size-least f bytes)))
         ∙ ap (λ (l : List ℕ). getD l 1 0) (sym are ∙ written-full f n (getD bytes 0 0) (readRecord f bytes) not-empty t)
@@ -128,7 +128,7 @@ module _ (f : Form) (n size : ℕ) (bytes : List ℕ) (start : 1 ≤ length byte
   pub tiny-of : recordGood f n (getD bytes 0 0) size bytes ≡ true → Tiny f n size bytes
   tiny-of e = record {
     long = long;
-    some = some;
+    nonempty = nonempty;
     low = le-of _ _ (and-right (eqb (length (r .offsets)) 0) _ (and-left _ _ (and-left _ _ tiny)));
     high = le-of _ _ (and-right (eqb (length (r .offsets)) 0 && leb (r .prefix) (f .tinyMost n)) _ (and-left _ _ tiny));
     prefix = prefix-in n size r (ap (inRange n size) (sym is) ∙ within f n size bytes start e);
@@ -158,8 +158,8 @@ module _ (f : Form) (n size : ℕ) (bytes : List ℕ) (start : 1 ≤ length byte
           ap length (sym (written-tiny f n (getD bytes 0 0) (readRecord f bytes) tested) ∙ are f n size bytes start e) in
           omega arith
 
-      some : 1 ≤ getD bytes 2 0
-      some = go (le-or-lt 1 (getD bytes 2 0))
+      nonempty : 1 ≤ getD bytes 2 0
+      nonempty = go (le-or-lt 1 (getD bytes 2 0))
         where
           go : (1 ≤ getD bytes 2 0) ⊎ (getD bytes 2 0 < 1) → 1 ≤ getD bytes 2 0
           go (inl h) = h
@@ -179,7 +179,7 @@ tiny-is f n size bytes zero-kind t =
     let v = getD bytes 2 0 in
     let low = leb-true (v % f .tinyStep) (f .tinyMost n) (t .low) in
     let high = leb-true (v / f .tinyStep) (f .tinyMost n) (t .high) in
-    let w : isTiny f n (tinyOf f v) ≡ true = rw (low, high, some-tiny f v (t .some)) in
+    let w : isTiny f n (tinyOf f v) ≡ true = rw (low, high, some-tiny f v (t .nonempty)) in
     rw (
       read-zero f bytes zero-kind,
       size-zero f bytes zero-kind,
@@ -213,7 +213,7 @@ module _ (f : Form) (good : FormGood f) (n size : ℕ) (bytes : List ℕ) (posit
         ap (λ (l : List ℕ). fieldAt l 5 (f .width)) whole
         ∙ first-laid f k (kindOf m) (r .prefix) (r .suffix) (min m 255) (r .offsets) rest (first-fits (r .offsets) inside);
     large = large;
-    some = not-empty f n size bytes start e;
+    nonempty = not-empty f n size bytes start e;
     prefix = prefix-in n size r ranges;
     suffix = suffix-in n size r ranges;
     rise = offsets-rise n size r ranges;
@@ -359,7 +359,7 @@ take-head bytes n h = take-add 5 n bytes ∙ go bytes h
 
 full-taken : (f : Form) (n size : ℕ) (bytes : List ℕ) → AllBytes bytes → Full f n size bytes
     → fullBytes f (getD bytes 0 0) (fullOf f bytes) ≡ take (recordSize f bytes) bytes
-unfolding fullBytes
+unfolding fullBytes headBytes
 full-taken f n size bytes b t =
     let a = again f bytes b (t .long) (t .kind) (t .count) in
     let w = f .width in
@@ -380,7 +380,7 @@ pub full-is : (f : Form) (n size : ℕ) (bytes : List ℕ) → AllBytes bytes �
 unfolding recordGood inRange
 full-is f n size bytes b some-kind t =
     rw (
-      written-full f n (getD bytes 0 0) (readRecord f bytes) (t .some) (t .large),
+      written-full f n (getD bytes 0 0) (readRecord f bytes) (t .nonempty) (t .large),
       read-some f bytes some-kind,
       same-of _ _ (full-taken f n size bytes b t),
       leb-true (getD bytes 2 0) (reach n size) (t .prefix),

@@ -11,10 +11,11 @@ use lib.ListN.{length, take, drop, getD, length-drop, length-take, drop-of-lengt
 use lib.Seq.{drop-cons, drop-drop, getD-take, take-all, length-take-le}
 use Rattle.spec.specs.Bytes.{begins}
 use Rattle.spec.specs.Records.{form1, recordSize, goodBody}
-use Rattle.spec.specs.Steps.{goodFrom, recordGood}
+use Rattle.bodies.specs.Steps.{goodFrom, recordGood}
 use Rattle.spec.proofs.Tests.{le-or-lt, and-left, eqb-same, eqb-ne}
-use Rattle.spec.proofs.RecordLaws.{form1-good, eq-of, good-end, good-absent, good-here, good-is-from}
-use Rattle.bodies.specs.Check.{goodSize, Lengths, Ready}
+use Rattle.spec.proofs.RecordLaws.{form1-good, eq-of}
+use Rattle.bodies.specs.Check.{goodSize, Lengths, KeywordLengths}
+use Rattle.bodies.proofs.StepLaws.{good-is-from, good-end, good-absent, good-here}
 use Rattle.bodies.proofs.RecordChecks.{tiny-of, full-of, size-zero, size-least}
 
 -- the part that starts at `at` is all behind it
@@ -68,7 +69,7 @@ size-within n size bytes l start = go (le-or-lt (goodSize n size bytes) 0) (le-o
 
 -- ---- a turn
 
-module _ (lengths body : List ℕ) (count size : ℕ) (ready : Ready count size lengths) where
+module _ (lengths body : List ℕ) (count size : ℕ) (ready : KeywordLengths count size lengths) where
   -- what is left of the check, from keyword k and the place `at` on
   abbrev pub left : ℕ → ℕ → Bool
   left k at = goodFrom form1 k (drop k (take count lengths)) size (drop at body)

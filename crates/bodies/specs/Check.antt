@@ -7,22 +7,22 @@ use lib.ListN.{length, drop, getD}
 use lib.Dec.{eqb, leb}
 use Rattle.spec.specs.Bytes.{fieldAt, fieldsOf, rising, every}
 use Rattle.spec.specs.Records.{form1, reach, recordSize}
-use Rattle.spec.specs.Steps.{recordGood}
+use Rattle.bodies.specs.Steps.{recordGood}
 
 -- The size of the good record that the bytes start with, for a keyword of length n and a chunk of length `size`; 0 if they start with none.
 unfoldable pub goodSize : ℕ → ℕ → List ℕ → ℕ
 goodSize n size bytes = cond (recordGood form1 n (getD bytes 0 0) size bytes) (recordSize form1 bytes) 0
 
 -- Offsets rise and leave room for the n bytes of the keyword.
-unfoldable pub inOrder : ℕ → ℕ → List ℕ → Bool
-inOrder n size offsets = rising offsets && every (λ at. leb (at + n) size) offsets
+unfoldable pub offsetsInRange : ℕ → ℕ → List ℕ → Bool
+offsetsInRange n size offsets = rising offsets && every (λ at. leb (at + n) size) offsets
 
 -- The `count` offsets at `at`: all there, the first one the head's, in order.
 unfoldable pub offsetsGood : ℕ → ℕ → List ℕ → ℕ → ℕ → Bool
 offsetsGood n size bytes at count =
     leb (at + 2 * count) (length bytes)
     && eqb (fieldAt bytes 5 2) (fieldAt bytes at 2)
-    && inOrder n size (fieldsOf 2 count (drop at bytes))
+    && offsetsInRange n size (fieldsOf 2 count (drop at bytes))
 
 -- A keyword's and a chunk's length in their ranges.
 pub record Lengths (n size : ℕ) : Type 0 where
@@ -39,7 +39,7 @@ pub record Head (kind n size : ℕ) (bytes : List ℕ) : Type 0 where
   pub suffix : getD bytes 3 0 ≤ reach n size
 
 -- The lengths of `count` keywords, and a chunk's.
-pub record Ready (count size : ℕ) (lengths : List ℕ) : Type 0 where
+pub record KeywordLengths (count size : ℕ) (lengths : List ℕ) : Type 0 where
   pub room : count ≤ length lengths
   pub fit : size ≤ 65535
   pub each : (k : ℕ) → k < count → (1 ≤ getD lengths k 0) × (getD lengths k 0 ≤ 32)

@@ -5,7 +5,7 @@ ghost use Prim.Native.Nat.{ℕ, _+_, _*_, _≤_};
 ghost use lib.ListN.{length, getD, take, drop};
 ghost use Rattle.spec.specs.Bytes.{fieldsOf, begins};
 ghost use Rattle.spec.specs.Records.{form1, reach, goodBody};
-ghost use Rattle.bodies.specs.Check.{goodSize, inOrder, offsetsGood, Lengths, Head, Ready};
+ghost use Rattle.bodies.specs.Check.{goodSize, offsetsInRange, offsetsGood, Lengths, Head, KeywordLengths};
 
 // The greatest length of a prefix or suffix.
 fn reach_of(n: usize, size: usize) -> usize
@@ -21,7 +21,7 @@ fn reach_of(n: usize, size: usize) -> usize
 // The `count` fields of `width` bytes at `at` are offsets in order.
 fn in_order(bytes: &[u8], at: usize, width: usize, count: usize, n: usize, size: usize) -> bool
     requires { ⌜ (width ≤ 8) × (at + width * count ≤ length (now bytes)) × (1 ≤ n) ⌝ }
-    ensures { λ r. ⌜ r ≡ inOrder n size (fieldsOf width count (drop at (now (bytes .entry)))) ⌝ }
+    ensures { λ r. ⌜ r ≡ offsetsInRange n size (fieldsOf width count (drop at (now (bytes .entry)))) ⌝ }
 {
     let mut place = at;
     let mut left = count;
@@ -206,7 +206,7 @@ fn is_next(body: &[u8], at: usize, k: usize) -> bool
 
 // The body is the written form of records in range, for keywords of these lengths and a chunk of length `size`.
 pub fn body_good(body: &[u8], lengths: &[usize], count: usize, size: usize) -> bool
-    requires { ⌜ Ready count size (now lengths) ⌝ }
+    requires { ⌜ KeywordLengths count size (now lengths) ⌝ }
     ensures { λ r. ⌜ r ≡ goodBody form1 (take count (now (lengths .entry))) size (now (body .entry)) ⌝ }
 {
     let mut at: usize = 0;

@@ -111,20 +111,20 @@ pub record Stepped (key : List ℕ) (keys : List (List ℕ)) (c n m : ℕ) : Typ
   pub starts : Starts key keys m
   pub place : placeFrom key keys (c - m) ≡ placeFrom key keys (c - n)
 
-module _ (key : List ℕ) (keys : List (List ℕ)) (from n : ℕ) (next : List ℕ) where
+module _ (key : List ℕ) (keys : List (List ℕ)) (from n : ℕ) (chain : List ℕ) where
   abbrev Steps : ℕ → Type 0
-  Steps c = from ≤ c → n ≤ from → 0 < n → Linked keys (c - from) next → Starts key keys n → same key (getD keys (c - n) []) ≡ false
-      → Stepped key keys c n (getD next (c - n) 0)
+  Steps c = from ≤ c → n ≤ from → 0 < n → Linked keys (c - from) chain → Starts key keys n → same key (getD keys (c - n) []) ≡ false
+      → Stepped key keys c n (getD chain (c - n) 0)
 
   steps : Steps (length keys)
   steps h l p links s f =
       let e = length keys - n in
-      let q : getD next e 0 ≡ tailWith (hashOf key) (drop (suc e) keys) =
+      let q : getD chain e 0 ≡ tailWith (hashOf key) (drop (suc e) keys) =
       links .link e (omega arith) (omega arith) ∙ ap (λ (g : ℕ). tailWith g (drop (suc e) keys)) (s .hash p) in
       record {
-        less = omega (arith, jump-le key keys (suc e) (omega arith) (getD next e 0) q);
-        starts = jump-starts key keys (suc e) (omega arith) (getD next e 0) q;
-        place = jump key keys (suc e) (omega arith) (getD next e 0) q ∙ place-miss key keys e (omega arith) f;
+        less = omega (arith, jump-le key keys (suc e) (omega arith) (getD chain e 0) q);
+        starts = jump-starts key keys (suc e) (omega arith) (getD chain e 0) q;
+        place = jump key keys (suc e) (omega arith) (getD chain e 0) q ∙ place-miss key keys e (omega arith) f;
       }
 
   pub step : (c : ℕ) → length keys ≡ c → Steps c
@@ -149,24 +149,24 @@ module _ (bytes : List ℕ) (start stride count : ℕ) (lies : Lies bytes start 
 
 -- ---- a lookup among the entries from k on
 
-pub linked-from : (keys : List (List ℕ)) (k j : ℕ) (next : List ℕ) → k ≤ j → Linked keys k next → Linked keys j next
-linked-from keys k j next h links = record { long = links .long; link = λ e l m. links .link e (omega arith) m }
+pub linked-from : (keys : List (List ℕ)) (k j : ℕ) (chain : List ℕ) → k ≤ j → Linked keys k chain → Linked keys j chain
+linked-from keys k j chain h links = record { long = links .long; link = λ e l m. links .link e (omega arith) m }
 
 -- n is what `heads` has for the key: where to follow a chain from, and what that finds
-pub record Headed (key : List ℕ) (keys : List (List ℕ)) (next : List ℕ) (c k n : ℕ) : Type 0 where
-  pub links : Linked keys (c - n) next
+pub record Headed (key : List ℕ) (keys : List (List ℕ)) (chain : List ℕ) (c k n : ℕ) : Type 0 where
+  pub links : Linked keys (c - n) chain
   pub starts : Starts key keys n
   pub place : placeFrom key keys (c - n) ≡ placeFrom key keys k
 
-module _ (key : List ℕ) (keys : List (List ℕ)) (heads next : List ℕ) (k n : ℕ) where
+module _ (key : List ℕ) (keys : List (List ℕ)) (heads chain : List ℕ) (k n : ℕ) where
   abbrev Heads : ℕ → Type 0
-  Heads c = k ≤ c → Chained keys k heads next → n ≡ getD heads (hashOf key) 0 → Headed key keys next c k n
+  Heads c = k ≤ c → Chained keys k heads chain → n ≡ getD heads (hashOf key) 0 → Headed key keys chain c k n
 
   heads-at : Heads (length keys)
   heads-at l x e =
       let q : n ≡ tailWith (hashOf key) (drop k keys) = e ∙ x .head (hashOf key) (omega (arith, hash-lt key)) in
       record {
-        links = linked-from keys k (length keys - n) next (omega (arith, jump-le key keys k l n q)) (x .links);
+        links = linked-from keys k (length keys - n) chain (omega (arith, jump-le key keys k l n q)) (x .links);
         starts = jump-starts key keys k l n q;
         place = jump key keys k l n q;
       }
@@ -189,9 +189,9 @@ contained key keys k c q l = go (le-or-lt (length (drop k keys)) (positionOf key
         lt-ltb (placeFrom key keys k) c (omega (arith, length-drop k keys))
         ∙ sym (contains-position key (drop k keys) ∙ lt-ltb (positionOf key (drop k keys)) (length (drop k keys)) h)
 
-pub inserted : (keys : List (List ℕ)) (heads next : List ℕ) (e h c : ℕ) → length keys ≡ c → e < c → h ≡ hashOf (getD keys e [])
-    → Chained keys (suc e) heads next → Chained keys e (set heads h (c - e)) (set next e (getD heads h 0))
-inserted keys heads next e h c q l p x = record {
+pub inserted : (keys : List (List ℕ)) (heads chain : List ℕ) (e h c : ℕ) → length keys ≡ c → e < c → h ≡ hashOf (getD keys e [])
+    → Chained keys (suc e) heads chain → Chained keys e (set heads h (c - e)) (set chain e (getD heads h 0))
+inserted keys heads chain e h c q l p x = record {
   wide = length-set heads h (c - e) ∙ x .wide;
   head = λ g m. rw (drop-cons keys e [] (omega arith)) (⊎-elim
       (λ t. let s : g ≡ h = sym (eqb-true (hashOf (getD keys e [])) g t) ∙ sym p in
@@ -204,16 +204,16 @@ inserted keys heads next e h c q l p x = record {
   };
 }
   where
-    go : (j : ℕ) → j < length keys → (e ≡ j) ⊎ (e < j) → getD (set next e (getD heads h 0)) j 0 ≡ tailWith (hashOf (getD keys j [])) (drop (suc j) keys)
+    go : (j : ℕ) → j < length keys → (e ≡ j) ⊎ (e < j) → getD (set chain e (getD heads h 0)) j 0 ≡ tailWith (hashOf (getD keys j [])) (drop (suc j) keys)
     go j m (inl s) =
-        rw (← s) (getD-set-same next e (getD heads h 0) 0 (omega (arith, x .links .long)) ∙ x .head h (omega (arith, hash-lt (getD keys e [])))
+        rw (← s) (getD-set-same chain e (getD heads h 0) 0 (omega (arith, x .links .long)) ∙ x .head h (omega (arith, hash-lt (getD keys e [])))
         ∙ ap (λ (g : ℕ). tailWith g (drop (suc e) keys)) p)
-    go j m (inr s) = getD-set-other next e j (getD heads h 0) 0 (λ r. omega arith) ∙ x .links .link j s m
+    go j m (inr s) = getD-set-other chain e j (getD heads h 0) 0 (λ r. omega arith) ∙ x .links .link j s m
 
 -- ---- all entries
 
-pub empty : (keys : List (List ℕ)) (heads next : List ℕ) (c : ℕ) → length keys ≡ c → c ≤ 65000 → Empty heads next → Chained keys c heads next
-empty keys heads next c q l x = record {
+pub empty : (keys : List (List ℕ)) (heads chain : List ℕ) (c : ℕ) → length keys ≡ c → c ≤ 65000 → Empty heads chain → Chained keys c heads chain
+empty keys heads chain c q l x = record {
   wide = x .wide;
   head = λ h m. rw (drop-of-length-le keys {i = c} (omega arith)) (x .none h m);
   links = record { long = omega (arith, x .long); link = λ e k m. absurd (omega arith) };
@@ -222,9 +222,9 @@ empty keys heads next c q l x = record {
 pub twice-none : (keys : List (List ℕ)) (c : ℕ) → length keys ≡ c → false ≡ twice (drop c keys)
 twice-none keys c q = rw (drop-of-length-le keys {i = c} (omega arith))
 
-pub twice-step : (keys : List (List ℕ)) (e : ℕ) (found twin : Bool) → e < length keys → found ≡ contains (getD keys e []) (drop (suc e) keys)
-    → twin ≡ twice (drop (suc e) keys) → (found || twin) ≡ twice (drop e keys)
-twice-step keys e found twin h p q = rw (p, q, drop-cons keys e [] h)
+pub twice-step : (keys : List (List ℕ)) (e : ℕ) (found duplicate : Bool) → e < length keys → found ≡ contains (getD keys e []) (drop (suc e) keys)
+    → duplicate ≡ twice (drop (suc e) keys) → (found || duplicate) ≡ twice (drop e keys)
+twice-step keys e found duplicate h p q = rw (p, q, drop-cons keys e [] h)
 
 -- the arrays of zeros
 pub zeros : Empty (replicate 65536 0) (replicate 65000 0)

@@ -46,38 +46,38 @@ is-written buffer bytes l n e p q = sym (take-append-drop n l) ∙ rw (p, q, zer
 
 -- ---- the arrays
 
--- what `build` answers and leaves in the arrays; `next` was next₀
+-- what `build` answers and leaves in the arrays; `chain` was next₀
 abbrev pub Built : List (List ℕ) → List ℕ → List ℕ → List ℕ → Bool → Type 0
-Built keys next₀ heads next twin = (twin ≡ twice keys) × (heads ≡ headsOf keys) × (next ≡ written next₀ (linksOf keys))
+Built keys chain₀ heads chain duplicate = (duplicate ≡ twice keys) × (heads ≡ headsOf keys) × (chain ≡ written chain₀ (linksOf keys))
 
-module _ (keys : List (List ℕ)) (heads next : List ℕ) where
-  module _ (chains : Chained keys 0 heads next) where
+module _ (keys : List (List ℕ)) (heads chain : List ℕ) where
+  module _ (chains : Chained keys 0 heads chain) where
     pub heads-are : heads ≡ headsOf keys
     heads-are =
         ext-getD 0 heads (headsOf keys) (chains .wide ∙ sym (length-heads keys))
         (λ h l. let m : h < 65536 = omega (arith, chains .wide) in chains .head h m ∙ sym (head-at keys h m))
 
-    first-links : take (length keys) next ≡ linksOf keys
+    first-links : take (length keys) chain ≡ linksOf keys
     first-links =
-        let n = length-take-le (length keys) next (chains .links .long) in
-        ext-getD 0 (take (length keys) next) (linksOf keys) (n ∙ sym (length-links keys))
+        let n = length-take-le (length keys) chain (chains .links .long) in
+        ext-getD 0 (take (length keys) chain) (linksOf keys) (n ∙ sym (length-links keys))
         (λ e l. let m : e < length keys = omega (arith, n) in
-        getD-take (length keys) next e 0 m ∙ chains .links .link e (omega arith) m ∙ sym (link-at keys e m))
+        getD-take (length keys) chain e 0 m ∙ chains .links .link e (omega arith) m ∙ sym (link-at keys e m))
 
-    -- behind the keys, `next` is as it was
-    pub links-are : (next₀ : List ℕ) → drop (length keys) next ≡ drop (length keys) next₀ → next ≡ written next₀ (linksOf keys)
-    links-are next₀ rest = is-written next₀ (linksOf keys) next (length keys) (length-links keys) first-links rest
+    -- behind the keys, `chain` is as it was
+    pub links-are : (chain₀ : List ℕ) → drop (length keys) chain ≡ drop (length keys) chain₀ → chain ≡ written chain₀ (linksOf keys)
+    links-are chain₀ rest = is-written chain₀ (linksOf keys) chain (length keys) (length-links keys) first-links rest
 
   -- the two lists are the chains of all keys
-  pub chained : (next₀ : List ℕ) → heads ≡ headsOf keys → next ≡ written next₀ (linksOf keys) → length keys ≤ length next₀ → Chained keys 0 heads next
-  chained next₀ p q l = record {
+  pub chained : (chain₀ : List ℕ) → heads ≡ headsOf keys → chain ≡ written chain₀ (linksOf keys) → length keys ≤ length chain₀ → Chained keys 0 heads chain
+  chained chain₀ p q l = record {
     wide = ap length p ∙ length-heads keys;
     head = λ h m. ap (λ (x : List ℕ). getD x h 0) p ∙ head-at keys h m;
     links = record {
-      long = omega (arith, ap length q, length-splice next₀ 0 (linksOf keys) (omega (arith, length-links keys)));
-      link = λ e k m. sym (getD-take (length keys) next e 0 m) ∙ ap (λ (x : List ℕ). getD x e 0) front ∙ link-at keys e m;
+      long = omega (arith, ap length q, length-splice chain₀ 0 (linksOf keys) (omega (arith, length-links keys)));
+      link = λ e k m. sym (getD-take (length keys) chain e 0 m) ∙ ap (λ (x : List ℕ). getD x e 0) front ∙ link-at keys e m;
     };
   }
     where
-      front : take (length keys) next ≡ linksOf keys
-      front = ap (take (length keys)) q ∙ ap (λ (n : ℕ). take n (written next₀ (linksOf keys))) (sym (length-links keys)) ∙ read-written next₀ (linksOf keys)
+      front : take (length keys) chain ≡ linksOf keys
+      front = ap (take (length keys)) q ∙ ap (λ (n : ℕ). take n (written chain₀ (linksOf keys))) (sym (length-links keys)) ∙ read-written chain₀ (linksOf keys)

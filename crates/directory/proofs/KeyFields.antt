@@ -6,8 +6,8 @@ use Prim.Native.Nat.{ℕ, _+_, _≤_, _<_}
 use native.Mathlib.Omega.{arith}
 use lib.ListN.{length, take, drop, length-drop}
 use lib.Seq.{take-add, take-all}
-use Rattle.spec.specs.Bytes.{fieldAt, leBytes, same}
-use Rattle.spec.proofs.FieldLists.{AllBytes, bytes-drop, leBytes-take, field-lt}
+use Rattle.spec.specs.Bytes.{fieldAt, leBytes, same, AllBytes}
+use Rattle.spec.proofs.FieldLists.{bytes-drop, leBytes-take, field-lt}
 use Rattle.spec.proofs.Same.{same-of, same-not}
 
 module _ (a b : List ℕ) (p : AllBytes a) (q : AllBytes b) (at w : ℕ) (h : at + w ≤ length a) (l : at + w ≤ length b) where

@@ -49,22 +49,22 @@ linksOf (key ∷ keys) = tailWith (hashOf key) keys ∷ linksOf keys
 abbrev pub placeFrom : List ℕ → List (List ℕ) → ℕ → ℕ
 placeFrom key keys e = e + positionOf key (drop e keys)
 
--- For each entry from k on, `next` has the first later one with the same hash.
-pub record Linked (keys : List (List ℕ)) (k : ℕ) (next : List ℕ) : Type 0 where
-  pub long : length keys ≤ length next
-  pub link : (e : ℕ) → k ≤ e → e < length keys → getD next e 0 ≡ tailWith (hashOf (getD keys e [])) (drop (suc e) keys)
+-- For each entry from k on, `chain` has the first later one with the same hash.
+pub record Linked (keys : List (List ℕ)) (k : ℕ) (chain : List ℕ) : Type 0 where
+  pub long : length keys ≤ length chain
+  pub link : (e : ℕ) → k ≤ e → e < length keys → getD chain e 0 ≡ tailWith (hashOf (getD keys e [])) (drop (suc e) keys)
 
 -- The entries from k on are in the index: `heads` has the first one of each hash.
-pub record Chained (keys : List (List ℕ)) (k : ℕ) (heads next : List ℕ) : Type 0 where
+pub record Chained (keys : List (List ℕ)) (k : ℕ) (heads chain : List ℕ) : Type 0 where
   pub wide : length heads ≡ 65536
   pub head : (h : ℕ) → h < 65536 → getD heads h 0 ≡ tailWith h (drop k keys)
-  pub links : Linked keys k next
+  pub links : Linked keys k chain
 
--- Entry k was put in front of those from k + 1 on; `twin` tells whether its key is one of theirs. Behind the keys, `next` is as it was (`next₀`).
-pub record Inserted (keys : List (List ℕ)) (k : ℕ) (next₀ heads next : List ℕ) (twin : Bool) : Type 0 where
-  pub found : twin ≡ contains (getD keys k []) (drop (suc k) keys)
-  pub chains : Chained keys k heads next
-  pub rest : drop (length keys) next ≡ drop (length keys) next₀
+-- Entry k was put in front of those from k + 1 on; `duplicate` tells whether its key is one of theirs. Behind the keys, `chain` is as it was (`next₀`).
+pub record Inserted (keys : List (List ℕ)) (k : ℕ) (chain₀ heads chain : List ℕ) (duplicate : Bool) : Type 0 where
+  pub found : duplicate ≡ contains (getD keys k []) (drop (suc k) keys)
+  pub chains : Chained keys k heads chain
+  pub rest : drop (length keys) chain ≡ drop (length keys) chain₀
 
 -- The last n of the keys begin with one of the key's hash, or are none: a place on the chain of the key's hash.
 pub record Starts (key : List ℕ) (keys : List (List ℕ)) (n : ℕ) : Type 0 where
@@ -80,10 +80,10 @@ pub record Lies (bytes : List ℕ) (start stride count : ℕ) : Type 0 where
   pub few : count ≤ 65000
 
 -- The arrays of an empty index.
-pub record Empty (heads next : List ℕ) : Type 0 where
+pub record Empty (heads chain : List ℕ) : Type 0 where
   pub wide : length heads ≡ 65536
   pub none : (h : ℕ) → h < 65536 → getD heads h 0 ≡ 0
-  pub long : 65000 ≤ length next
+  pub long : 65000 ≤ length chain
 
 -- The layout whose parts are given one by one.
 abbrev pub layoutOf : ℕ → ℕ → ℕ → ℕ → ℕ → Layout

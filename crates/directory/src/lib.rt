@@ -50,12 +50,12 @@ fn follow(
     start: usize,
     stride: usize,
     count: usize,
-    next: &[u32],
+    chain: &[u32],
     from: usize,
     probe: &[u8],
 ) -> usize
     requires { ⌜ Lies (now bytes) start stride count ⌝ }
-    requires { ⌜ Linked (keysFrom (now bytes) start stride count) (count - from) (now next) ⌝ }
+    requires { ⌜ Linked (keysFrom (now bytes) start stride count) (count - from) (now chain) ⌝ }
     requires { ⌜ Starts (now probe) (keysFrom (now bytes) start stride count) from ⌝ }
     requires { ⌜ length (now probe) ≡ 20 ⌝ }
     ensures { λ r. ⌜ r ≡ placeFrom (now (probe .entry)) (keysFrom (now (bytes .entry)) start stride count) (count - from) ⌝ }
@@ -66,7 +66,7 @@ fn follow(
         if same_key(probe, key(bytes, start, stride, e)) {
             return e;
         }
-        n = next[e] as usize;
+        n = chain[e] as usize;
     }
     count
 }
@@ -78,16 +78,16 @@ pub fn find(
     stride: usize,
     count: usize,
     heads: &[u32],
-    next: &[u32],
+    chain: &[u32],
     probe: &[u8],
 ) -> usize
     requires { ⌜ Lies (now bytes) start stride count ⌝ }
-    requires { ⌜ Chained (keysFrom (now bytes) start stride count) 0 (now heads) (now next) ⌝ }
+    requires { ⌜ Chained (keysFrom (now bytes) start stride count) 0 (now heads) (now chain) ⌝ }
     requires { ⌜ length (now probe) ≡ 20 ⌝ }
     ensures { λ r. ⌜ r ≡ positionOf (now (probe .entry)) (keysFrom (now (bytes .entry)) start stride count) ⌝ }
 {
     let h = hash(probe);
-    follow(bytes, start, stride, count, next, heads[h] as usize, probe)
+    follow(bytes, start, stride, count, chain, heads[h] as usize, probe)
 }
 
 // Puts entry e in front of those after it; whether its key is one of theirs.
@@ -98,19 +98,19 @@ fn insert(
     count: usize,
     e: usize,
     heads: &mut [u32],
-    next: &mut [u32],
+    chain: &mut [u32],
 ) -> bool
     requires { ⌜ Lies (now bytes) start stride count ⌝ }
-    requires { ⌜ Chained (keysFrom (now bytes) start stride count) (suc e) (now heads) (now next) ⌝ }
+    requires { ⌜ Chained (keysFrom (now bytes) start stride count) (suc e) (now heads) (now chain) ⌝ }
     requires { ⌜ e < count ⌝ }
-    ensures { λ r. ⌜ Inserted (keysFrom (now (bytes .entry)) start stride count) e (now (next .entry)) (now (heads .exit)) (now (next .exit)) r ⌝ }
+    ensures { λ r. ⌜ Inserted (keysFrom (now (bytes .entry)) start stride count) e (now (chain .entry)) (now (heads .exit)) (now (chain .exit)) r ⌝ }
 {
     let probe = key(bytes, start, stride, e);
     let h = hash(probe);
-    let twin = follow(bytes, start, stride, count, next, heads[h] as usize, probe);
-    next[e] = heads[h];
+    let duplicate = follow(bytes, start, stride, count, chain, heads[h] as usize, probe);
+    chain[e] = heads[h];
     heads[h] = (count - e) as u32;
-    twin < count
+    duplicate < count
 }
 
 // Puts all entries into an empty index; whether some two keys are the same.
@@ -120,22 +120,22 @@ pub fn build(
     stride: usize,
     count: usize,
     heads: &mut [u32],
-    next: &mut [u32],
+    chain: &mut [u32],
 ) -> bool
     requires { ⌜ Lies (now bytes) start stride count ⌝ }
-    requires { ⌜ Empty (now heads) (now next) ⌝ }
+    requires { ⌜ Empty (now heads) (now chain) ⌝ }
     ensures { λ r. ⌜ (r ≡ twice (keysFrom (now (bytes .entry)) start stride count))
         × (now (heads .exit) ≡ headsOf (keysFrom (now (bytes .entry)) start stride count))
-        × (now (next .exit) ≡ written (now (next .entry)) (linksOf (keysFrom (now (bytes .entry)) start stride count))) ⌝ }
+        × (now (chain .exit) ≡ written (now (chain .entry)) (linksOf (keysFrom (now (bytes .entry)) start stride count))) ⌝ }
 {
-    let mut twin = false;
+    let mut duplicate = false;
     let mut e = count;
     while 0 < e {
         e -= 1;
-        let found = insert(bytes, start, stride, count, e, heads, next);
-        twin = found | twin;
+        let found = insert(bytes, start, stride, count, e, heads, chain);
+        duplicate = found | duplicate;
     }
-    twin
+    duplicate
 }
 
 // The check of the entries, one after the other: lengths from 1 to `most`, offsets where the one before ended, and the last end.

@@ -16,13 +16,13 @@ module _ (index : List ℕ) (start count : ℕ) (s : start ≡ 8 + listSize (lis
   index-keys = rw (s, c)
 
   -- what `file_code` answers and leaves
-  module _ (due : ℕ) (file : List (List ℕ)) (slots₀ slots : List ℕ) (code : ℕ)
-      (t : Tested (keysAt index start count) (sizesAt index start) due file slots₀ slots code) where
-    pub index-code : code ≡ fileCode (indexKeys index) (sizeAt (indexLayout index) index) due file
+  module _ (innerLeast : ℕ) (file : List (List ℕ)) (slots₀ slots : List ℕ) (code : ℕ)
+      (t : Tested (keysAt index start count) (sizesAt index start) innerLeast file slots₀ slots code) where
+    pub index-code : code ≡ fileCode (indexKeys index) (sizeAt (indexLayout index) index) innerLeast file
     unfolding indexKeys indexLayout
     index-code = rw (s, c) at (t .0)
 
     pub index-slotted : code ≡ 0 → Slotted (indexKeys index) file slots
     index-slotted z =
         subst (λ (keys : List (List ℕ)). Slotted keys file slots) index-keys
-        (slotted (keysAt index start count) (sizesAt index start) due file slots₀ slots code t z)
+        (slotted (keysAt index start count) (sizesAt index start) innerLeast file slots₀ slots code t z)

@@ -24,13 +24,13 @@ no-slots keys file = record { each = λ j h l. let z : ⊥ = omega arith in absu
 
 -- ---- one place
 
-module _ (file index : List ℕ) (start count due : ℕ) (slots₀ : List ℕ) (j total : ℕ) (short : Bool) (slots : List ℕ) where
+module _ (file index : List ℕ) (start count innerLeast : ℕ) (slots₀ : List ℕ) (j total : ℕ) (short : Bool) (slots : List ℕ) where
   abbrev keys : List (List ℕ)
   keys = keysAt index start count
 
   -- before place j
   abbrev pub Before : Type 0
-  Before = Measuring keys (sizesAt index start) due (named file) slots₀ j total short slots
+  Before = Measuring keys (sizesAt index start) innerLeast (named file) slots₀ j total short slots
 
   places : length (named file) ≡ length file / 20
   places = length-keys 20 (length file / 20) file
@@ -42,17 +42,17 @@ module _ (file index : List ℕ) (start count due : ℕ) (slots₀ : List ℕ) (
   place-of k h e = rw (key-at 20 (length file / 20) j file h) e
 
   pub place-missing : Before → j < length file / 20 → (k : ℕ) → k ≡ positionOf (part file (20 * j) 20) keys → count ≤ k
-      → Measured keys (sizesAt index start) due (named file) slots₀ slots true total short
+      → Measured keys (sizesAt index start) innerLeast (named file) slots₀ slots true total short
   place-missing m h k e l =
-      measured-missing keys (sizesAt index start) due (named file) slots₀ j total short slots m (omega (arith, places)) (omega (arith, place-of k h e, entries))
+      measured-missing keys (sizesAt index start) innerLeast (named file) slots₀ j total short slots m (omega (arith, places)) (omega (arith, place-of k h e, entries))
 
   pub place-on : Before → j < length file / 20 → (k size : ℕ) → k ≡ positionOf (part file (20 * j) 20) keys → k < count → size ≡ sizesAt index start k
-      → (more : ℕ) → more ≡ min (total + size) 4294967296 → (tight : Bool) → tight ≡ innerShort j (length file / 20) size due
-      → (slots′ : List ℕ) → slots′ ≡ set slots j k → Measuring keys (sizesAt index start) due (named file) slots₀ (j + 1) more (tight || short) slots′
+      → (more : ℕ) → more ≡ min (total + size) 4294967296 → (tight : Bool) → tight ≡ innerShort j (length file / 20) size innerLeast
+      → (slots′ : List ℕ) → slots′ ≡ set slots j k → Measuring keys (sizesAt index start) innerLeast (named file) slots₀ (j + 1) more (tight || short) slots′
   place-on m h k size e l s more f tight g slots′ w =
       rw w
-      (measuring-on keys (sizesAt index start) due (named file) slots₀ j total short slots m (omega (arith, places))
+      (measuring-on keys (sizesAt index start) innerLeast (named file) slots₀ j total short slots m (omega (arith, places))
       k size (place-of k h e) (omega (arith, entries)) s more f tight (rw places g))
 
-  pub place-end : Before → length file / 20 ≤ j → Measured keys (sizesAt index start) due (named file) slots₀ slots false total short
-  place-end m h = measuring-end keys (sizesAt index start) due (named file) slots₀ j total short slots m (omega (arith, places))
+  pub place-end : Before → length file / 20 ≤ j → Measured keys (sizesAt index start) innerLeast (named file) slots₀ slots false total short
+  place-end m h = measuring-end keys (sizesAt index start) innerLeast (named file) slots₀ j total short slots m (omega (arith, places))

@@ -21,7 +21,7 @@ use Rattle.files.specs.Measures.{entriesIn, Slotted}
 
 -- what `file_code` answers and leaves in the slots, which were slots₀
 abbrev pub Tested : List (List ℕ) → (ℕ → ℕ) → ℕ → List (List ℕ) → List ℕ → List ℕ → ℕ → Type 0
-Tested keys sizeOf due file slots₀ slots code = (code ≡ fileCode keys sizeOf due file) × (slots ≡ written slots₀ (take (length slots₀) (entriesIn keys file)))
+Tested keys sizeOf innerLeast file slots₀ slots code = (code ≡ fileCode keys sizeOf innerLeast file) × (slots ≡ written slots₀ (take (length slots₀) (entriesIn keys file)))
 
 -- ---- the walk
 
@@ -83,15 +83,15 @@ module _ (keys : List (List ℕ)) where
       rw (and-left (contains p keys) (known file) e)
       (entry-at file (and-right (contains p keys) (known file) e) j (le-of-suc-le-suc h))
 
-  none-missing : (sizeOf : ℕ → ℕ) (due : ℕ) (file : List (List ℕ)) → fileCode keys sizeOf due file ≡ 0 → known file ≡ true
+  none-missing : (sizeOf : ℕ → ℕ) (innerLeast : ℕ) (file : List (List ℕ)) → fileCode keys sizeOf innerLeast file ≡ 0 → known file ≡ true
   unfolding fileCode
-  none-missing sizeOf due file z = not-false (known file) (passed (not (known file)) 15 _ (omega arith) z .0)
+  none-missing sizeOf innerLeast file z = not-false (known file) (passed (not (known file)) 15 _ (omega arith) z .0)
 
   -- where the code is 0, the slots have the entries of the file's first places
-  pub slotted : (sizeOf : ℕ → ℕ) (due : ℕ) (file : List (List ℕ)) (slots₀ slots : List ℕ) (code : ℕ) → Tested keys sizeOf due file slots₀ slots code
+  pub slotted : (sizeOf : ℕ → ℕ) (innerLeast : ℕ) (file : List (List ℕ)) (slots₀ slots : List ℕ) (code : ℕ) → Tested keys sizeOf innerLeast file slots₀ slots code
       → code ≡ 0 → Slotted keys file slots
-  slotted sizeOf due file slots₀ slots code t z =
-      let n = none-missing sizeOf due file (sym (t .0) ∙ z) in
+  slotted sizeOf innerLeast file slots₀ slots code t z =
+      let n = none-missing sizeOf innerLeast file (sym (t .0) ∙ z) in
       let v = take (length slots₀) (entriesIn keys file) in
       let s : length v ≡ min (length slots₀) (length file) =
       length-take (length slots₀) (entriesIn keys file) ∙ ap (min (length slots₀)) (length-entries file n) in

@@ -7,7 +7,7 @@ use lib.Dec.{ltb}
 use lib.ListN.{length, take, getD}
 use Rattle.spec.specs.Bytes.{contains, positionOf, every, sum, written}
 use Rattle.spec.specs.Directory.{keysOf, sizeAt}
-use Rattle.spec.specs.Recipes.{roomy, sizesIn}
+use Rattle.spec.specs.Recipes.{innerLong, sizesIn}
 use Rattle.directory.specs.Chains.{keysFrom, layoutOf}
 
 -- The fingerprints, and the chunks' lengths by entry, of an index whose directory has `count` entries from `start` on.
@@ -19,7 +19,7 @@ sizesAt index start k = sizeAt (layoutOf start 32 20 24 28) index k
 
 -- Place j of n is neither first nor last, and its chunk is shorter than is due.
 abbrev pub innerShort : ℕ → ℕ → ℕ → ℕ → Bool
-innerShort j n size due = ltb 0 j && ltb (suc j) n && ltb size due
+innerShort j n size innerLeast = ltb 0 j && ltb (suc j) n && ltb size innerLeast
 
 -- The fingerprints that a file's bytes are.
 abbrev pub named : List ℕ → List (List ℕ)
@@ -36,9 +36,9 @@ pub record Slotted (keys file : List (List ℕ)) (slots : List ℕ) : Type 0 whe
 
 -- The length is known up to 4294967296. Of a file with a fingerprint that is missing, only that is told, and the slots have the entries before it.
 -- slots₀: the slots before the walk.
-pub record Measured (keys : List (List ℕ)) (sizeOf : ℕ → ℕ) (due : ℕ) (file : List (List ℕ)) (slots₀ slots : List ℕ) (missing : Bool) (total : ℕ) (short : Bool)
+pub record Measured (keys : List (List ℕ)) (sizeOf : ℕ → ℕ) (innerLeast : ℕ) (file : List (List ℕ)) (slots₀ slots : List ℕ) (missing : Bool) (total : ℕ) (short : Bool)
     : Type 0 where
   pub lacks : missing ≡ not (every (λ key. contains key keys) file)
-  pub long : missing ≡ false → total ≡ min (sum (sizesIn keys sizeOf due file)) 4294967296
-  pub tight : missing ≡ false → short ≡ not (roomy due (sizesIn keys sizeOf due file))
+  pub long : missing ≡ false → total ≡ min (sum (sizesIn keys sizeOf file)) 4294967296
+  pub tight : missing ≡ false → short ≡ not (innerLong innerLeast (sizesIn keys sizeOf file))
   pub kept : slots ≡ written slots₀ (take (length slots₀) (entriesIn keys file))

@@ -20,10 +20,10 @@ pub fn entry_of(
     start: usize,
     count: usize,
     heads: &[u32],
-    next: &[u32],
+    chain: &[u32],
 ) -> usize
     requires { ⌜ Lies (now index) start 32 count ⌝ }
-    requires { ⌜ Chained (keysAt (now index) start count) 0 (now heads) (now next) ⌝ }
+    requires { ⌜ Chained (keysAt (now index) start count) 0 (now heads) (now chain) ⌝ }
     requires { ⌜ 20 * j + 20 ≤ length (now file) ⌝ }
     ensures { λ r. ⌜ r ≡ positionOf (part (now (file .entry)) (20 * j) 20) (keysAt (now (index .entry)) start count) ⌝ }
 {
@@ -33,7 +33,7 @@ pub fn entry_of(
         32,
         count,
         heads,
-        next,
+        chain,
         &file[20 * j..20 * j + 20],
     )
 }
@@ -69,9 +69,9 @@ fn capped(total: usize, size: usize) -> usize
 }
 
 // The chunk at place j of n is neither first nor last, and shorter than is due.
-fn inner_short(j: usize, n: usize, size: usize, due: usize) -> bool
+fn inner_short(j: usize, n: usize, size: usize, innerLeast: usize) -> bool
     requires { ⌜ j < n ⌝ }
-    ensures { λ r. ⌜ r ≡ innerShort j n size due ⌝ }
+    ensures { λ r. ⌜ r ≡ innerShort j n size innerLeast ⌝ }
 {
     if j == 0 {
         return false;
@@ -79,7 +79,7 @@ fn inner_short(j: usize, n: usize, size: usize, due: usize) -> bool
     if n <= j + 1 {
         return false;
     }
-    if due <= size {
+    if innerLeast <= size {
         return false;
     }
     true
@@ -99,20 +99,20 @@ fn measure_file(
     start: usize,
     count: usize,
     heads: &[u32],
-    next: &[u32],
-    due: usize,
+    chain: &[u32],
+    innerLeast: usize,
     slots: &mut [u32],
 ) -> Measure
     requires { ⌜ Lies (now index) start 32 count ⌝ }
-    requires { ⌜ Chained (keysAt (now index) start count) 0 (now heads) (now next) ⌝ }
-    ensures { λ r. ⌜ Measured (keysAt (now (index .entry)) start count) (sizesAt (now (index .entry)) start) due (named (now (file .entry))) (now (slots .entry)) (now (slots .exit)) (r .missing) (r .total) (r .short) ⌝ }
+    requires { ⌜ Chained (keysAt (now index) start count) 0 (now heads) (now chain) ⌝ }
+    ensures { λ r. ⌜ Measured (keysAt (now (index .entry)) start count) (sizesAt (now (index .entry)) start) innerLeast (named (now (file .entry))) (now (slots .entry)) (now (slots .exit)) (r .missing) (r .total) (r .short) ⌝ }
 {
     let n = file.len() / 20;
     let mut total: usize = 0;
     let mut short = false;
     let mut j: usize = 0;
     while j < n {
-        let k = entry_of(file, j, index, start, count, heads, next);
+        let k = entry_of(file, j, index, start, count, heads, chain);
         if count <= k {
             return Measure {
                 missing: true,
@@ -123,7 +123,7 @@ fn measure_file(
         keep(slots, j, k);
         let size = size_of(index, start, count, k);
         total = capped(total, size);
-        let tight = inner_short(j, n, size, due);
+        let tight = inner_short(j, n, size, innerLeast);
         short = tight | short;
         j += 1;
     }
@@ -157,16 +157,16 @@ pub fn file_code(
     start: usize,
     count: usize,
     heads: &[u32],
-    next: &[u32],
-    due: usize,
+    chain: &[u32],
+    innerLeast: usize,
     slots: &mut [u32],
 ) -> u8
     requires { ⌜ Lies (now index) start 32 count ⌝ }
-    requires { ⌜ Chained (keysAt (now index) start count) 0 (now heads) (now next) ⌝ }
-    ensures { λ r. ⌜ (r ≡ fileCode (keysAt (now (index .entry)) start count) (sizesAt (now (index .entry)) start) due (named (now (file .entry))))
+    requires { ⌜ Chained (keysAt (now index) start count) 0 (now heads) (now chain) ⌝ }
+    ensures { λ r. ⌜ (r ≡ fileCode (keysAt (now (index .entry)) start count) (sizesAt (now (index .entry)) start) innerLeast (named (now (file .entry))))
         × (now (slots .exit) ≡ written (now (slots .entry)) (take (length (now (slots .entry))) (entriesIn (keysAt (now (index .entry)) start count) (named (now (file .entry)))))) ⌝ }
 {
-    let m = measure_file(file, index, start, count, heads, next, due, slots);
+    let m = measure_file(file, index, start, count, heads, chain, innerLeast, slots);
     let long = 4294967295 < m.total;
     first_of(m.missing, 15, long, 16, m.short, 17)
 }

@@ -23,7 +23,7 @@ use Rattle.spec.proofs.IndexChecks.{index-good, length-indexKeys}
 use Rattle.directory.specs.Chains.{keysFrom, Lies}
 use Rattle.keywords.specs.declared.Keywords.{Keywords}
 use Rattle.keywords.specs.Parsed.{parsedOf}
-use Rattle.index.specs.Stages.{Opened, EntryOf}
+use Rattle.index.specs.Stages.{Opened, IndexEntry}
 use Rattle.index.proofs.StageLaws.{keys-are, field-is, end-is}
 use Rattle.index.proofs.CheckLaws.{list-is}
 
@@ -99,7 +99,7 @@ module _ (index fp : List ℕ) where
 
 -- ---- the entries of an index that passed its check
 
-module _ (index : List ℕ) (k : ℕ) (entry : EntryOf index k) (start : ℕ) (s : start ≡ 8 + listSize (listIn index)) where
+module _ (index : List ℕ) (k : ℕ) (entry : IndexEntry index k) (start : ℕ) (s : start ≡ 8 + listSize (listIn index)) where
   pub entry-room : start + 32 * k + 32 ≤ length index
   entry-room =
       let l = lies-in index (entry .checked) start (chunkCount index) s refl in
@@ -108,7 +108,7 @@ module _ (index : List ℕ) (k : ℕ) (entry : EntryOf index k) (start : ℕ) (s
   pub entry-is : (field : ℕ) → fieldAt index (start + 32 * k + field) 4 ≡ entryField (indexLayout index) index field k
   entry-is field = field-is index start (chunkCount index) (opened-again index (entry .checked) start (chunkCount index) s refl) field k
 
-module _ (index : List ℕ) (k : ℕ) (entry : EntryOf index k) (at n : ℕ)
+module _ (index : List ℕ) (k : ℕ) (entry : IndexEntry index k) (at n : ℕ)
     (p : at ≡ entryField (indexLayout index) index 24 k) (q : n ≡ entryField (indexLayout index) index 28 k) where
   offset-is : at ≡ offsetAt (indexLayout index) index k
   unfolding indexLayout
@@ -133,7 +133,7 @@ module _ (index : List ℕ) (k : ℕ) (entry : EntryOf index k) (at n : ℕ)
 
 module _ (index fp : List ℕ) (k : ℕ) (z : findBody form1 index fp ≡ 0) (q : k ≡ positionOf fp (indexKeys index)) where
   -- a fingerprint that is found has an entry
-  pub found-entry : EntryOf index k
+  pub found-entry : IndexEntry index k
   unfolding findBody
   found-entry =
       let t = lookup-passed (indexCode form1 index) (indexKeys index) fp z in

@@ -12,36 +12,36 @@ use Rattle.spec.specs.Bytes.{fieldAt, same, each}
 use Rattle.spec.specs.Directory.{Layout, directoryEnd, entryField, sizeAt, offsetAt, lengthAt, entriesCode}
 use Rattle.spec.specs.Store.{chunkCount}
 use Rattle.spec.specs.Records.{form1, goodBody}
-use Rattle.spec.specs.Index.{indexLayout, indexKeys, bodyAt, goodAt, allGood}
+use Rattle.spec.specs.Index.{indexLayout, indexKeys, bodyAt, goodAt, allGood, headerCode, directoryCode}
 use Rattle.spec.proofs.Tests.{false-of}
 use Rattle.spec.proofs.Codes.{passed, passed-whole, or-left, or-right, last-whole}
 use Rattle.spec.proofs.EntryLaws.{entries-good}
 use Rattle.spec.proofs.Tabulated.{every-range, every-range-at}
 use Rattle.directory.specs.Chains.{layoutOf, keysFrom}
 use Rattle.directory.proofs.ChainLists.{Built}
-use Rattle.bodies.specs.Check.{Ready}
-use Rattle.index.specs.Stages.{headerCode, directoryCode, Opened, Laid, Lens}
+use Rattle.bodies.specs.Check.{KeywordLengths}
+use Rattle.index.specs.Stages.{Opened, Laid, Lens}
 
 -- ---- the header
 
 module _ (index : List ℕ) where
-  pub header-short : length index < 8 → 10 ≡ headerCode index
+  pub header-short : length index < 8 → 10 ≡ headerCode form1 index
   unfolding headerCode
   header-short h = rw (lt-ltb (length index) 8 h)
 
-  pub header-mark : same (take 4 index) (form1 .mark) ≡ false → 10 ≡ headerCode index
+  pub header-mark : same (take 4 index) (form1 .mark) ≡ false → 10 ≡ headerCode form1 index
   unfolding headerCode
   header-mark e = rw (e, or-true)
 
-  pub header-many : 65000 < chunkCount index → 10 ≡ headerCode index
+  pub header-many : 65000 < chunkCount index → 10 ≡ headerCode form1 index
   unfolding headerCode
   header-many h = rw (lt-ltb 65000 (chunkCount index) h, or-true)
 
-  pub header-good : 8 ≤ length index → same (take 4 index) (form1 .mark) ≡ true → chunkCount index ≤ 65000 → 0 ≡ headerCode index
+  pub header-good : 8 ≤ length index → same (take 4 index) (form1 .mark) ≡ true → chunkCount index ≤ 65000 → 0 ≡ headerCode form1 index
   unfolding headerCode
   header-good h m c = rw (le-ltb (length index) 8 h, m, le-ltb 65000 (chunkCount index) c)
 
-  pub header-passed : headerCode index ≡ 0 → (8 ≤ length index) × (chunkCount index ≤ 65000)
+  pub header-passed : headerCode form1 index ≡ 0 → (8 ≤ length index) × (chunkCount index ≤ 65000)
   unfolding headerCode
   header-passed e =
       let a = passed (ltb (length index) 8 || not (same (take 4 index) (form1 .mark)) || ltb 65000 (chunkCount index)) 10 0 (omega arith) e .0 in (
@@ -59,12 +59,12 @@ module _ (index : List ℕ) (start count : ℕ) (o : Opened index start count) w
   pub end-is : start + 32 * count ≡ directoryEnd (indexLayout index) (chunkCount index)
   end-is = ap₂ {C = ℕ} (λ l c. directoryEnd l c) layout-is (o .counts)
 
-  pub directory-cut : length index < start + 32 * count → 11 ≡ directoryCode index
+  pub directory-cut : length index < start + 32 * count → 11 ≡ directoryCode form1 index
   unfolding directoryCode
   directory-cut h = rw (lt-ltb (length index) (directoryEnd (indexLayout index) (chunkCount index)) (rw (← end-is) h))
 
   pub directory-walk : (r : ℕ) → start + 32 * count ≤ length index
-      → r ≡ entriesCode (layoutOf start 32 20 24 28) index 65535 11 count 0 (start + 32 * count) → r ≡ directoryCode index
+      → r ≡ entriesCode (layoutOf start 32 20 24 28) index 65535 11 count 0 (start + 32 * count) → r ≡ directoryCode form1 index
   unfolding directoryCode
   directory-walk r h e =
       rw (le-ltb (length index) (directoryEnd (indexLayout index) (chunkCount index)) (rw (← end-is) h))
@@ -82,7 +82,7 @@ module _ (index : List ℕ) (start count : ℕ) (o : Opened index start count) w
   pub field-is : (field e : ℕ) → fieldAt index (start + 32 * e + field) 4 ≡ entryField (indexLayout index) index field e
   field-is field e = ap (λ (l : Layout). entryField l index field e) layout-is
 
-  pub laid : directoryCode index ≡ 0 → Laid index start count
+  pub laid : directoryCode form1 index ≡ 0 → Laid index start count
   unfolding directoryCode
   laid e =
       let end = directoryEnd (indexLayout index) (chunkCount index) in
@@ -118,7 +118,7 @@ module _ (index : List ℕ) (start count : ℕ) (l : Laid index start count) (wo
   pub body-within : at + n ≤ length index
   body-within = rw (at-in, n-in) (l .ends e h)
 
-  pub body-ready : Ready words size lens
+  pub body-ready : KeywordLengths words size lens
   body-ready = record { room = k .room; fit = rw size-in (l .sizes e h); each = k .each }
 
   pub good-is : (r : Bool) → r ≡ goodBody form1 (take words lens) size (take (at + n - at) (drop at index)) → r ≡ goodAt form1 index e

@@ -8,14 +8,14 @@ ghost use Rattle.spec.specs.Store.{chunkCount};
 ghost use Rattle.spec.specs.Records.{form1};
 ghost use Rattle.spec.specs.Keywords.{listSize};
 ghost use Rattle.spec.specs.Directory.{entryField, offsetAt};
-ghost use Rattle.spec.specs.Index.{listIn, indexLayout, indexKeys, bodyAt, goodAt, allGood, indexCode};
+ghost use Rattle.spec.specs.Index.{listIn, indexLayout, indexKeys, bodyAt, goodAt, allGood, indexCode, headerCode, directoryCode};
 ghost use Rattle.spec.specs.Lookup.{findBody, bodyStart, bodyLength, bodyOf};
 ghost use Rattle.directory.specs.Chains.{Empty};
-ghost use Rattle.index.specs.Stages.{headerCode, directoryCode, examinedHeads, examinedLinks, Opened, Laid, Lens, EntryOf};
+ghost use Rattle.index.specs.Stages.{examinedHeads, examinedLinks, Opened, Laid, Lens, IndexEntry};
 
 // Fewer than 8 bytes, another mark, or a chunk count above 65,000.
 fn header(index: &[u8]) -> u8
-    ensures { λ r. ⌜ r ≡ headerCode (now (index .entry)) ⌝ }
+    ensures { λ r. ⌜ r ≡ headerCode form1 (now (index .entry)) ⌝ }
 {
     if index.len() < 8 {
         return 10;
@@ -31,7 +31,7 @@ fn header(index: &[u8]) -> u8
 }
 
 // The chunk count.
-fn count(index: &[u8]) -> usize
+fn chunk_count(index: &[u8]) -> usize
     requires { ⌜ 8 ≤ length (now index) ⌝ }
     ensures { λ r. ⌜ r ≡ chunkCount (now (index .entry)) ⌝ }
 {
@@ -41,7 +41,7 @@ fn count(index: &[u8]) -> usize
 // The directory cut short, an entry wrong, or the last end not the index's.
 fn entries(index: &[u8], start: usize, count: usize) -> u8
     requires { ⌜ Opened (now index) start count ⌝ }
-    ensures { λ r. ⌜ r ≡ directoryCode (now (index .entry)) ⌝ }
+    ensures { λ r. ⌜ r ≡ directoryCode form1 (now (index .entry)) ⌝ }
 {
     if index.len() < start + 32 * count {
         return 11;
@@ -100,7 +100,7 @@ pub fn examine(index: &[u8], heads: &mut [u32], chain: &mut [u32]) -> u8
     }
     let list = keywords::parse(&index[8..]);
     let start = 8 + list.size;
-    let c = count(index);
+    let c = chunk_count(index);
     let wrong = entries(index, start, c);
     if wrong != 0 {
         return wrong;
@@ -147,7 +147,7 @@ fn locate(index: &[u8], fp: &[u8]) -> spec::Outcome
         return spec::Outcome::Refused(19);
     }
     let start = start_of(index);
-    let c = count(index);
+    let c = chunk_count(index);
     let k = directory::find(index, start, 32, c, &heads, &chain, fp);
     if k == c {
         return spec::Outcome::Refused(15);
@@ -167,7 +167,7 @@ pub fn find_body(index: &[u8], fp: &[u8]) -> u8
 
 // The field of entry k that starts at byte `at` of it.
 fn entry_field(index: &[u8], k: usize, at: usize) -> usize
-    requires { ⌜ EntryOf (now index) k × (at + 4 ≤ 32) ⌝ }
+    requires { ⌜ IndexEntry (now index) k × (at + 4 ≤ 32) ⌝ }
     ensures { λ r. ⌜ r ≡ entryField (indexLayout (now (index .entry))) (now (index .entry)) at k ⌝ }
 {
     let start = start_of(index);
@@ -176,7 +176,7 @@ fn entry_field(index: &[u8], k: usize, at: usize) -> usize
 
 // The body of entry k: the index's own slice.
 fn body_at(index: &[u8], k: usize) -> &[u8]
-    requires { ⌜ EntryOf (now index) k ⌝ }
+    requires { ⌜ IndexEntry (now index) k ⌝ }
     ensures { λ r. ⌜ (now r ≡ bodyAt (now (index .entry)) k)
         × (r .ptr .0 ≡ index .entry .ptr .0)
         × (r .ptr .1 ≡ offsetAt (indexLayout (now (index .entry))) (now (index .entry)) k + index .entry .ptr .1) ⌝ }

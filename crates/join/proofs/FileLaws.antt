@@ -16,7 +16,7 @@ use Rattle.spec.specs.Directory.{keysOf, sizeAt}
 use Rattle.spec.specs.Records.{form1}
 use Rattle.spec.specs.Index.{listIn, indexLayout, indexKeys, indexRecords}
 use Rattle.spec.specs.Recipes.{fileCount, filesOf, sizesIn, fileCode, filesCode}
-use Rattle.spec.specs.Join.{Occurrence, joinFile, joinFiles, fileRecords, joinList, due}
+use Rattle.spec.specs.Join.{Occurrence, joinFile, joinFiles, fileRecords, joinList, innerLeast}
 use Rattle.spec.proofs.EntryLaws.{length-keys, key-at}
 use Rattle.spec.proofs.IndexChecks.{length-indexKeys}
 use Rattle.spec.proofs.FileLaws.{file-accepted, files-cons, files-drop}
@@ -42,14 +42,14 @@ slice-is recipes at n e = ap (λ (m : ℕ). take m (drop (at + 4) recipes)) (add
 
 -- the sizes of a file's chunks
 sizes-are : (index : List ℕ) (file : List (List ℕ))
-    → sizeOf (fileRecords form1 index file) ≡ sum (sizesIn (indexKeys index) (sizeAt (indexLayout index) index) (due form1 (listIn index)) file)
+    → sizeOf (fileRecords form1 index file) ≡ sum (sizesIn (indexKeys index) (sizeAt (indexLayout index) index) file)
 unfolding fileRecords indexRecords
 sizes-are index [] = refl
 sizes-are index (key ∷ file) = ap (λ (m : ℕ). sizeAt (indexLayout index) index (positionOf key (indexKeys index)) + m) (sizes-are index file)
 
 -- a file's code
 abbrev pub codeOf : List ℕ → List (List ℕ) → ℕ
-codeOf index file = fileCode (indexKeys index) (sizeAt (indexLayout index) index) (due form1 (listIn index)) file
+codeOf index file = fileCode (indexKeys index) (sizeAt (indexLayout index) index) (innerLeast form1 (listIn index)) file
 
 -- ---- the files from k on
 
@@ -70,7 +70,7 @@ module _ (index recipes : List ℕ) where
 
   -- the code of the files from k on
   abbrev pub codes : ℕ → ℕ
-  codes k = filesCode (indexKeys index) (sizeAt (indexLayout index) index) (due form1 (listIn index)) (drop k (filesOf recipes))
+  codes k = filesCode (indexKeys index) (sizeAt (indexLayout index) index) (innerLeast form1 (listIn index)) (drop k (filesOf recipes))
 
   pub codes-end : (k at : ℕ) → Walk recipes k at → fileCount recipes ≤ k → codes k ≡ 0
   unfolding filesCode
@@ -109,14 +109,14 @@ module _ (index recipes : List ℕ) where
     pub list-is : listOf index recipes k ≡ joinFile k keywords (chunksIn index file)
     list-is = ap (λ (l : List (List ℕ)). joinFile k keywords (fileRecords form1 index l)) names-are ∙ ap (joinFile k keywords) (sym chunks-are)
 
-    file-size : sizeOf (chunksIn index file) ≡ sum (sizesIn (indexKeys index) (sizeAt (indexLayout index) index) (due form1 (listIn index)) (named file))
+    file-size : sizeOf (chunksIn index file) ≡ sum (sizesIn (indexKeys index) (sizeAt (indexLayout index) index) (named file))
     unfolding chunksIn
     file-size = sizes-are index (named file)
 
     -- a file that is accepted can be walked
     pub file-walks : (slots : List ℕ) → codeOf index (named file) ≡ 0 → Slotted (indexKeys index) (named file) slots → File index file slots
     file-walks slots e s =
-        let accepted = file-accepted (indexKeys index) (sizeAt (indexLayout index) index) (due form1 (listIn index)) (named file) e in
+        let accepted = file-accepted (indexKeys index) (sizeAt (indexLayout index) index) (innerLeast form1 (listIn index)) (named file) e in
         record {
           whole = omega (arith, file-length);
           found = λ j h.
@@ -130,15 +130,15 @@ module _ (index recipes : List ℕ) where
     pub file-passes : allFilesCode index recipes ≡ 0 → codeOf index (named file) ≡ 0
     file-passes e =
         ap (codeOf index) file-names
-        ∙ files-cons (indexKeys index) (sizeAt (indexLayout index) index) (due form1 (listIn index)) names (drop (k + 1) (filesOf recipes))
-        (ap (filesCode (indexKeys index) (sizeAt (indexLayout index) index) (due form1 (listIn index))) (sym (walk-files recipes k at n w turn refl))
-        ∙ files-drop (indexKeys index) (sizeAt (indexLayout index) index) (due form1 (listIn index)) (filesOf recipes) k e) .0
+        ∙ files-cons (indexKeys index) (sizeAt (indexLayout index) index) (innerLeast form1 (listIn index)) names (drop (k + 1) (filesOf recipes))
+        (ap (filesCode (indexKeys index) (sizeAt (indexLayout index) index) (innerLeast form1 (listIn index))) (sym (walk-files recipes k at n w turn refl))
+        ∙ files-drop (indexKeys index) (sizeAt (indexLayout index) index) (innerLeast form1 (listIn index)) (filesOf recipes) k e) .0
 
     -- the code of the files from k on
     pub codes-step : codes k ≡ firstCode (codeOf index (named file) ∷ map (codeOf index) (drop (k + 1) (filesOf recipes)))
     unfolding filesCode
     codes-step =
-        ap (filesCode (indexKeys index) (sizeAt (indexLayout index) index) (due form1 (listIn index))) (walk-files recipes k at n w turn refl)
+        ap (filesCode (indexKeys index) (sizeAt (indexLayout index) index) (innerLeast form1 (listIn index))) (walk-files recipes k at n w turn refl)
         ∙ ap (λ (x : ℕ). firstCode (x ∷ map (codeOf index) (drop (k + 1) (filesOf recipes)))) (sym (ap (codeOf index) file-names))
 
     -- the next file is behind it

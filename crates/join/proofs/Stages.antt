@@ -10,7 +10,7 @@ use Rattle.spec.specs.Store.{chunkCount}
 use Rattle.spec.specs.Records.{form1}
 use Rattle.spec.specs.Index.{listIn, indexKeys, indexCode}
 use Rattle.spec.specs.Recipes.{recipesCode}
-use Rattle.spec.specs.Join.{due, joinableCode}
+use Rattle.spec.specs.Join.{innerLeast, joinableCode}
 use Rattle.spec.proofs.Codes.{refused-whole, next-whole, last-whole}
 use Rattle.spec.proofs.KeywordLaws.{accepted, folded-count}
 use Rattle.spec.proofs.IndexChecks.{IndexGood, index-good}
@@ -82,12 +82,12 @@ module _ (index : List ℕ) (i : indexCode form1 index ≡ 0) where
     some-long =
         let a = accepted (listIn index) (good .list) in
         let l : length (getD (keywordsOf (listIn index)) 0 []) ≤ words .most =
-        rw (read .longer) (longest-at (keywordsOf (listIn index)) 0 (omega (arith, a .count, a .some))) in
-        omega (arith, a .proper 0 (omega (arith, a .some)) .0)
+        rw (read .longer) (longest-at (keywordsOf (listIn index)) 0 (omega (arith, a .count, a .nonempty))) in
+        omega (arith, a .proper 0 (omega (arith, a .nonempty)) .0)
 
-    pub due-is : words .most - 1 ≡ due form1 (listIn index)
-    unfolding due
-    due-is = ap (λ (m : ℕ). m - 1) (read .longer)
+    pub innerLeast-is : words .most - 1 ≡ innerLeast form1 (listIn index)
+    unfolding innerLeast
+    innerLeast-is = ap (λ (m : ℕ). m - 1) (read .longer)
 
     -- all files can be walked
     pub joinable : (recipes heads chain : List ℕ) (entries : ℕ) (tables : List (List (List ℕ)))
@@ -105,7 +105,7 @@ module _ (index : List ℕ) (i : indexCode form1 index ≡ 0) where
           };
           keyed = record {
             counts = read .counts ∙ sym (accepted (listIn index) (good .list) .count) ∙ sym (folded-count (listIn index));
-            some = read .some;
+            nonempty = read .nonempty;
             few = read .few;
             tabled = t ∙ ap (λ (l : List ℕ). tablesOf (foldedKeywords l)) (list-is index);
           };
@@ -114,14 +114,14 @@ module _ (index : List ℕ) (i : indexCode form1 index ≡ 0) where
 -- ---- the plan
 
 module _ (index recipes heads chain : List ℕ) (code : ℕ) (q : Prepared index recipes heads chain code) where
-  pub plan-refused : (tables : List (List (List ℕ))) (some : List ℕ) (total directory entries count : ℕ) → code ≢ 0
-      → Planned index recipes heads chain tables some code total directory entries count
-  plan-refused tables some total directory entries count h =
+  pub plan-refused : (tables : List (List (List ℕ))) (marks : List ℕ) (total directory entries count : ℕ) → code ≢ 0
+      → Planned index recipes heads chain tables marks code total directory entries count
+  plan-refused tables marks total directory entries count h =
       record { number = q .refused h; counted = λ z. absurd (h z); marked = λ z. absurd (h z); joinable = λ z. absurd (h z) }
 
-  pub planned : (tables : List (List (List ℕ))) (some : List ℕ) (number total directory entries count : ℕ) → code ≡ 0 → Surveyed index recipes some number total
-      → Joinable index recipes directory entries heads chain count tables → Planned index recipes heads chain tables some number total directory entries count
-  planned tables some number total directory entries count z s j =
+  pub planned : (tables : List (List (List ℕ))) (marks : List ℕ) (number total directory entries count : ℕ) → code ≡ 0 → Surveyed index recipes marks number total
+      → Joinable index recipes directory entries heads chain count tables → Planned index recipes heads chain tables marks number total directory entries count
+  planned tables marks number total directory entries count z s j =
       record {
         number = s .number ∙ files-number index recipes (q .indexed z) (q .named z);
         counted = s .counted;
@@ -130,8 +130,8 @@ module _ (index recipes heads chain : List ℕ) (code : ℕ) (q : Prepared index
       }
 
 -- a plan without refusal: all files pass
-pub all-pass : (index recipes heads chain : List ℕ) (tables : List (List (List ℕ))) (some : List ℕ) (code total directory entries count : ℕ)
-    → Planned index recipes heads chain tables some code total directory entries count → code ≡ 0 → allFilesCode index recipes ≡ 0
-all-pass index recipes heads chain tables some code total directory entries count p z =
+pub all-pass : (index recipes heads chain : List ℕ) (tables : List (List (List ℕ))) (marks : List ℕ) (code total directory entries count : ℕ)
+    → Planned index recipes heads chain tables marks code total directory entries count → code ≡ 0 → allFilesCode index recipes ≡ 0
+all-pass index recipes heads chain tables marks code total directory entries count p z =
     let j = p .joinable z in
     files-number index recipes (j .looked .good) (j .named) ∙ sym (p .number) ∙ z

@@ -14,7 +14,7 @@ use Rattle.spec.specs.Directory.{sizeAt}
 use Rattle.spec.specs.Records.{form1}
 use Rattle.spec.specs.Index.{listIn, indexLayout, indexKeys}
 use Rattle.spec.specs.Recipes.{fileCount, filesOf, recipesCode, fileCode, filesCode}
-use Rattle.spec.specs.Join.{Occurrence, joinFile, joinList, listBytes, due}
+use Rattle.spec.specs.Join.{Occurrence, joinFile, joinList, listBytes, innerLeast}
 use Rattle.spec.proofs.Codes.{refused-code, next-code}
 use Rattle.spec.proofs.Splices.{splice-nil}
 use Rattle.spec.proofs.Writing.{Going, going-start, going-room, going-on, going-end}
@@ -31,7 +31,7 @@ use Rattle.join.proofs.FileLaws.{keywords, codeOf, left, left-start, le
 -- the test of a file, in the terms of the definitions
 module _ (index : List ℕ) (directory entries : ℕ) (heads chain : List ℕ) (d : Directory index directory entries heads chain) (least : ℕ) (file : List (List ℕ))
     (slots₀ slots : List ℕ) (code : ℕ) (t : Tested (keysAt index directory entries) (sizesAt index directory) least file slots₀ slots code) where
-  pub tested-code : least ≡ due form1 (listIn index) → code ≡ fileCode (indexKeys index) (sizeAt (indexLayout index) index) (due form1 (listIn index)) file
+  pub tested-code : least ≡ innerLeast form1 (listIn index) → code ≡ fileCode (indexKeys index) (sizeAt (indexLayout index) index) (innerLeast form1 (listIn index)) file
   tested-code e = rw e at (index-code index directory entries (d .start) (d .counts) least file slots₀ slots code t)
 
   pub tested-slots : code ≡ 0 → Slotted (indexKeys index) file slots
@@ -44,16 +44,16 @@ empty (o ∷ l) e = let z : ⊥ = omega arith in absurd z
 module _ (index recipes : List ℕ) where
   -- a file that is not marked has no occurrence
   abbrev MarkedAt : List ℕ → ℕ → Type 0
-  MarkedAt some k = getD some k 0 ≡ 0 → listOf index recipes k ≡ []
+  MarkedAt marks k = getD marks k 0 ≡ 0 → listOf index recipes k ≡ []
 
   -- before file k, which is at `at`: the files before it passed, what was counted and what is left are the whole count
-  pub record Surveying (some : List ℕ) (k at total : ℕ) : Type 0 where
+  pub record Surveying (marks : List ℕ) (k at total : ℕ) : Type 0 where
     pub walk : Walk recipes k at
     pub few : fileCount recipes ≤ 65535
     pub coded : codes index recipes k ≡ allFilesCode index recipes
     pub sums : total + length (left index recipes k) ≡ length (joinList form1 index recipes)
     pub small : total ≤ 68719476736 * k
-    pub marks : (j : ℕ) → j < k → MarkedAt some j
+    pub unmarked : (j : ℕ) → j < k → MarkedAt marks j
 
   -- the same for a list: it lies in the buffer up to `place`
   pub record Listing (out₀ out : List ℕ) (k at place : ℕ) : Type 0 where
@@ -61,8 +61,8 @@ module _ (index recipes : List ℕ) where
     pub going : Going out₀ out 0 place (listBytes (joinList form1 index recipes)) (listBytes (left index recipes k))
 
   module _ (good : recipesCode recipes ≡ 0) where
-    pub survey-start : (some : List ℕ) → Surveying some 0 4 0
-    survey-start some =
+    pub survey-start : (marks : List ℕ) → Surveying marks 0 4 0
+    survey-start marks =
         let a = accepted recipes good in
         record {
           walk = a .start;
@@ -70,7 +70,7 @@ module _ (index recipes : List ℕ) where
           coded = refl;
           sums = zero-add (length (left index recipes 0)) ∙ ap length (left-start index recipes);
           small = omega arith;
-          marks = below-none (MarkedAt some);
+          unmarked = below-none (MarkedAt marks);
         }
 
     pub listing-start : (out : List ℕ) → Listing out out 0 4 0
@@ -82,14 +82,14 @@ module _ (index recipes : List ℕ) where
 
   -- a turn, with file k's slice
   module _ (k at : ℕ) (turn : k < fileCount recipes) (file : List ℕ) (f : file ≡ part recipes (at + 4) (20 * fieldAt recipes at 4)) where
-    module _ (some : List ℕ) (total : ℕ) (g : Surveying some k at total) (code : ℕ) (c : code ≡ codeOf index (named file)) where
+    module _ (marks : List ℕ) (total : ℕ) (g : Surveying marks k at total) (code : ℕ) (c : code ≡ codeOf index (named file)) where
       abbrev rest : List ℕ
       rest = map (codeOf index) (drop (k + 1) (filesOf recipes))
 
       step : codes index recipes k ≡ firstCode (codeOf index (named file) ∷ rest)
       step = codes-step index recipes k at (g .walk) turn file f
 
-      pub survey-refused : code ≢ 0 → Surveyed index recipes some code 0
+      pub survey-refused : code ≢ 0 → Surveyed index recipes marks code 0
       survey-refused h =
           record {
             number = c ∙ refused-code (codeOf index (named file)) rest (λ z. h (c ∙ z)) ∙ sym step ∙ g .coded;
@@ -97,8 +97,8 @@ module _ (index recipes : List ℕ) where
             marked = λ z. absurd (h z);
           }
 
-      pub survey-on : code ≡ 0 → (n mark : ℕ) → n ≡ length (fileList 0 index file) → n < 2 ^ 36 → mark ≡ min n 1 → k < length some
-          → Surveying (set some k mark) (k + 1) (at + 4 + length file) (total + n)
+      pub survey-on : code ≡ 0 → (n mark : ℕ) → n ≡ length (fileList 0 index file) → n < 2 ^ 36 → mark ≡ min n 1 → k < length marks
+          → Surveying (set marks k mark) (k + 1) (at + 4 + length file) (total + n)
       unfolding filesCode
       survey-on z n mark c₀ few e l =
           let here : List Occurrence = joinFile k (keywords index recipes) (chunksIn index file) in
@@ -112,9 +112,9 @@ module _ (index recipes : List ℕ) where
             coded = sym (step ∙ next-code (codeOf index (named file)) rest (sym c ∙ z)) ∙ g .coded;
             sums = omega (arith, s, g .sums);
             small = omega (arith, g .small, few);
-            marks = below-more (MarkedAt (set some k mark)) k
-                (λ j h u. g .marks j h (sym (getD-set-other some k j mark 0 (λ q. omega arith)) ∙ u))
-                (λ u. list-is index recipes k at (g .walk) turn file f ∙ empty here (omega (arith, m, e, getD-set-same some k mark 0 l)));
+            unmarked = below-more (MarkedAt (set marks k mark)) k
+                (λ j h u. g .unmarked j h (sym (getD-set-other marks k j mark 0 (λ q. omega arith)) ∙ u))
+                (λ u. list-is index recipes k at (g .walk) turn file f ∙ empty here (omega (arith, m, e, getD-set-same marks k mark 0 l)));
           }
 
     module _ (out₀ out : List ℕ) (place : ℕ) (g : Listing out₀ out k at place) (room : 9 * length (joinList form1 index recipes) ≤ length out₀) where
@@ -151,13 +151,13 @@ module _ (index recipes : List ℕ) where
                 whole-room bytes-step (l .0 ∙ ap (λ (x : ℕ). place + x) (sym (length-list here))) (l .1);
           }
 
-  pub survey-end : (some : List ℕ) (k at total : ℕ) → Surveying some k at total → fileCount recipes ≤ k → 65535 ≤ length some
-      → Surveyed index recipes some 0 total
-  survey-end some k at total g h l =
+  pub survey-end : (marks : List ℕ) (k at total : ℕ) → Surveying marks k at total → fileCount recipes ≤ k → 65535 ≤ length marks
+      → Surveyed index recipes marks 0 total
+  survey-end marks k at total g h l =
       record {
         number = sym (codes-end index recipes k at (g .walk) h) ∙ g .coded;
         counted = λ _. omega (arith, g .sums, ap length (left-end index recipes k at (g .walk) h));
-        marked = λ _. record { long = omega (arith, g .few); none = λ j u. g .marks j (omega arith) };
+        marked = λ _. record { long = omega (arith, g .few); none = λ j u. g .unmarked j (omega arith) };
       }
 
   pub listing-end : (out₀ out : List ℕ) (k at place : ℕ) → Listing out₀ out k at place → fileCount recipes ≤ k

@@ -9,7 +9,7 @@ use Rattle.spec.specs.Directory.{sizeAt}
 use Rattle.spec.specs.Records.{form1}
 use Rattle.spec.specs.Index.{listIn, indexLayout, indexKeys, indexCode}
 use Rattle.spec.specs.Recipes.{fileCount, filesOf, recipesCode, filesCode}
-use Rattle.spec.specs.Join.{Occurrence, joinFile, fileRecords, joinList, due, joinableCode}
+use Rattle.spec.specs.Join.{Occurrence, joinFile, fileRecords, joinList, innerLeast, joinableCode}
 use Rattle.directory.specs.Chains.{Chained}
 use Rattle.walk.specs.Walking.{Directory, Keyed}
 
@@ -28,26 +28,26 @@ pub record Joinable (index recipes : List ℕ) (directory entries : ℕ) (heads 
 
 -- 15, 16 and 17, file by file.
 abbrev pub allFilesCode : List ℕ → List ℕ → ℕ
-allFilesCode index recipes = filesCode (indexKeys index) (sizeAt (indexLayout index) index) (due form1 (listIn index)) (filesOf recipes)
+allFilesCode index recipes = filesCode (indexKeys index) (sizeAt (indexLayout index) index) (innerLeast form1 (listIn index)) (filesOf recipes)
 
 -- The occurrences of file k.
 abbrev pub listOf : List ℕ → List ℕ → ℕ → List Occurrence
 listOf index recipes k = joinFile k (foldedKeywords (listIn index)) (fileRecords form1 index (getD (filesOf recipes) k []))
 
 -- A file whose mark is 0 has no occurrence.
-pub record Marked (index recipes some : List ℕ) : Type 0 where
-  pub long : fileCount recipes ≤ length some
-  pub none : (k : ℕ) → k < fileCount recipes → getD some k 0 ≡ 0 → listOf index recipes k ≡ []
+pub record Marked (index recipes marks : List ℕ) : Type 0 where
+  pub long : fileCount recipes ≤ length marks
+  pub none : (k : ℕ) → k < fileCount recipes → getD marks k 0 ≡ 0 → listOf index recipes k ≡ []
 
 -- The files' code; where it is 0 the count and the marks.
-pub record Surveyed (index recipes some : List ℕ) (code total : ℕ) : Type 0 where
+pub record Surveyed (index recipes marks : List ℕ) (code total : ℕ) : Type 0 where
   pub number : code ≡ allFilesCode index recipes
   pub counted : code ≡ 0 → total ≡ length (joinList form1 index recipes)
-  pub marked : code ≡ 0 → Marked index recipes some
+  pub marked : code ≡ 0 → Marked index recipes marks
 
 -- All refusals before 18; where there is none the count, the marks, and what the list is made from.
-pub record Planned (index recipes heads chain : List ℕ) (tables : List (List (List ℕ))) (some : List ℕ) (code total directory entries count : ℕ) : Type 0 where
+pub record Planned (index recipes heads chain : List ℕ) (tables : List (List (List ℕ))) (marks : List ℕ) (code total directory entries count : ℕ) : Type 0 where
   pub number : code ≡ joinableCode form1 index recipes
   pub counted : code ≡ 0 → total ≡ length (joinList form1 index recipes)
-  pub marked : code ≡ 0 → Marked index recipes some
+  pub marked : code ≡ 0 → Marked index recipes marks
   pub joinable : code ≡ 0 → Joinable index recipes directory entries heads chain count tables

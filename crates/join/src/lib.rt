@@ -7,7 +7,7 @@ ghost use lib.ListN.{length};
 ghost use Rattle.spec.specs.Bytes.{part, fieldAt, splice};
 ghost use Rattle.spec.specs.Records.{form1};
 ghost use Rattle.spec.specs.Index.{listIn};
-ghost use Rattle.spec.specs.Join.{due, joinList, listBytes, countOutcome, joinOutcome, joinBuffer};
+ghost use Rattle.spec.specs.Join.{innerLeast, joinList, listBytes, countOutcome, joinOutcome, joinBuffer};
 ghost use Rattle.directory.specs.Chains.{Empty};
 ghost use Rattle.walk.specs.Walking.{fileList, Directory, File, Keyed};
 ghost use Rattle.join.specs.Joining.{Prepared, Joinable, allFilesCode, Marked, Surveyed, Planned};
@@ -63,11 +63,11 @@ fn survey_files(
     tables: &[[[u32; 32]; 32]; 16],
     least: usize,
     slots: &mut [u32],
-    some: &mut [u8],
+    marks: &mut [u8],
 ) -> Survey
     requires { ⌜ Joinable (now index) (now recipes) directory entries (now heads) (now chain) count (now tables) ⌝ }
-    requires { ⌜ (least ≡ due form1 (listIn (now index))) × (65535 ≤ length (now some)) ⌝ }
-    ensures { λ r. ⌜ Surveyed (now (index .entry)) (now (recipes .entry)) (now (some .exit)) (r .code) (r .total) ⌝ }
+    requires { ⌜ (least ≡ innerLeast form1 (listIn (now index))) × (65535 ≤ length (now marks)) ⌝ }
+    ensures { λ r. ⌜ Surveyed (now (index .entry)) (now (recipes .entry)) (now (marks .exit)) (r .code) (r .total) ⌝ }
 {
     let files = recipes::count_at(recipes, 0);
     let mut total: usize = 0;
@@ -93,7 +93,7 @@ fn survey_files(
             count,
             tables,
         );
-        some[k] = mark_of(n);
+        marks[k] = mark_of(n);
         total += n;
         at = at + 4 + file.len();
         k += 1;
@@ -157,11 +157,11 @@ fn list_files(
     chain: &[u32],
     count: usize,
     tables: &[[[u32; 32]; 32]; 16],
-    some: &[u8],
+    marks: &[u8],
     out: &mut [u8],
 )
     requires { ⌜ Joinable (now index) (now recipes) directory entries (now heads) (now chain) count (now tables) ⌝ }
-    requires { ⌜ (allFilesCode (now index) (now recipes) ≡ 0) × Marked (now index) (now recipes) (now some) ⌝ }
+    requires { ⌜ (allFilesCode (now index) (now recipes) ≡ 0) × Marked (now index) (now recipes) (now marks) ⌝ }
     requires { ⌜ 9 * length (joinList form1 (now index) (now recipes)) ≤ length (now out) ⌝ }
     ensures { λ _. ⌜ now (out .exit) ≡ splice (now (out .entry)) 0 (listBytes (joinList form1 (now (index .entry)) (now (recipes .entry)))) ⌝ }
 {
@@ -172,7 +172,7 @@ fn list_files(
     while number < files {
         let file = file_at(recipes, at);
         place = list_marked(
-            some[number],
+            marks[number],
             index,
             directory,
             entries,
@@ -205,10 +205,10 @@ fn make_plan(
     heads: &mut [u32],
     chain: &mut [u32],
     tables: &mut [[[u32; 32]; 32]; 16],
-    some: &mut [u8],
+    marks: &mut [u8],
 ) -> Plan
-    requires { ⌜ Empty (now heads) (now chain) × (65535 ≤ length (now some)) ⌝ }
-    ensures { λ r. ⌜ Planned (now (index .entry)) (now (recipes .entry)) (now (heads .exit)) (now (chain .exit)) (now (tables .exit)) (now (some .exit))
+    requires { ⌜ Empty (now heads) (now chain) × (65535 ≤ length (now marks)) ⌝ }
+    ensures { λ r. ⌜ Planned (now (index .entry)) (now (recipes .entry)) (now (heads .exit)) (now (chain .exit)) (now (tables .exit)) (now (marks .exit))
         (r .code) (r .total) (r .directory) (r .entries) (r .count) ⌝ }
 {
     let code = prepare(index, recipes, heads, chain);
@@ -238,7 +238,7 @@ fn make_plan(
         tables,
         words.most - 1,
         &mut slots,
-        some,
+        marks,
     );
     Plan {
         code: s.code,
@@ -256,14 +256,14 @@ pub fn count(index: &[u8], recipes: &[u8]) -> spec::Outcome
     let mut heads = [0u32; 65536];
     let mut chain = [0u32; 65000];
     let mut tables = [[[0u32; 32]; 32]; 16];
-    let mut some = [0u8; 65535];
+    let mut marks = [0u8; 65535];
     let p = make_plan(
         index,
         recipes,
         &mut heads,
         &mut chain,
         &mut tables,
-        &mut some,
+        &mut marks,
     );
     if p.code != 0 {
         return spec::Outcome::Refused(p.code);
@@ -279,14 +279,14 @@ pub fn join(index: &[u8], recipes: &[u8], out: &mut [u8]) -> spec::Outcome
     let mut heads = [0u32; 65536];
     let mut chain = [0u32; 65000];
     let mut tables = [[[0u32; 32]; 32]; 16];
-    let mut some = [0u8; 65535];
+    let mut marks = [0u8; 65535];
     let p = make_plan(
         index,
         recipes,
         &mut heads,
         &mut chain,
         &mut tables,
-        &mut some,
+        &mut marks,
     );
     if p.code != 0 {
         return spec::Outcome::Refused(p.code);
@@ -303,7 +303,7 @@ pub fn join(index: &[u8], recipes: &[u8], out: &mut [u8]) -> spec::Outcome
         &chain,
         p.count,
         &tables,
-        &some,
+        &marks,
         out,
     );
     spec::Outcome::Done(p.total)

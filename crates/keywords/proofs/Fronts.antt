@@ -15,7 +15,7 @@ use Rattle.spec.specs.Keywords.{countOf, flagOf, listSize, keywordsOf, foldedKe
 use Rattle.spec.proofs.Codes.{last-whole, refused-whole, passed, passed-whole, or-left, or-right}
 use Rattle.spec.proofs.KeywordLaws.{read-count}
 use Rattle.keywords.specs.declared.Keywords.{Keywords}
-use Rattle.keywords.specs.Parsed.{parsedOf, Readable, Places}
+use Rattle.keywords.specs.Parsed.{parsedOf, ReadableList, Places}
 use Rattle.keywords.proofs.Reading.{parsed-readable}
 
 module _ (list : List ℕ) (count k at : ℕ) (turn : k < count) where
@@ -74,7 +74,7 @@ module _ (list : List ℕ) where
 
 module _ (list : List ℕ) where
   -- the list reads where the front's tests give 0
-  pub front-readable : firstOf (frontTests list) ≡ 0 → Readable list
+  pub front-readable : firstOf (frontTests list) ≡ 0 → ReadableList list
   front-readable e =
       let a = passed _ 1 _ (omega arith) e in
       let b = passed _ 2 _ (omega arith) (a .1) in
@@ -82,7 +82,7 @@ module _ (list : List ℕ) where
       let counts = or-left (eqb (countOf list) 0 || ltb 16 (countOf list)) (ltb 1 (flagOf list)) (b .0) in
       record {
         header = ltb-false (length list) 2 (a .0);
-        some = omega (arith, eqb-false (countOf list) 0 (or-left (eqb (countOf list) 0) (ltb 16 (countOf list)) counts));
+        nonempty = omega (arith, eqb-false (countOf list) 0 (or-left (eqb (countOf list) 0) (ltb 16 (countOf list)) counts));
         most = ltb-false 16 (countOf list) (or-right (eqb (countOf list) 0) (ltb 16 (countOf list)) counts);
         flag = ltb-false 1 (flagOf list) (or-right (eqb (countOf list) 0 || ltb 16 (countOf list)) (ltb 1 (flagOf list)) (b .0));
         read = c .0;
@@ -126,7 +126,7 @@ module _ (list : List ℕ) (code : ℕ) (e : code ≡ firstOf (frontTests list))
   whole-rest z words p t d = sym (whole-code ∙ rw (z, p, ← d))
 
 -- a list that was split has its places
-pub places : (list : List ℕ) (words : Keywords) → Readable list → words ≡ parsedOf list → Places list (words .flag) (words .count) (words .start) (words .len)
+pub places : (list : List ℕ) (words : Keywords) → ReadableList list → words ≡ parsedOf list → Places list (words .flag) (words .count) (words .start) (words .len)
 unfolding keywordsOf
 places list words r e =
     let p = parsed-readable list r words e in

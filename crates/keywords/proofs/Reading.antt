@@ -15,12 +15,12 @@ use Rattle.spec.proofs.Tests.{le-or-lt}
 use Rattle.spec.proofs.Splices.{splice-nil, splice-cons, length-splice}
 use Rattle.spec.proofs.KeywordLaws.{read-step, read-absent, read-count, read-room, read-most, read-proper, accepted}
 use Rattle.keywords.specs.declared.Keywords.{Keywords}
-use Rattle.keywords.specs.Parsed.{startsFrom, parsedOf, Reads, Readable, Placed, Parsed}
+use Rattle.keywords.specs.Parsed.{startsFrom, parsedOf, Reads, ReadableList, Placed, Parsed}
 
 -- ---- one keyword, n the length byte at `at`
 
 pub record Next (list : List ℕ) (left at n : ℕ) : Type 0 where
-  pub some : 1 ≤ n
+  pub nonempty : 1 ≤ n
   pub most : n ≤ 32
   pub room : at + 1 + n ≤ length list
   pub read : readCode left (drop (at + 1 + n) list) ≡ 0
@@ -41,7 +41,7 @@ next list left at e =
     let s = read-step left (getD list at 0) (drop (suc at) list) (rw (drop-cons list at 0 h) at e) in
     let l : at + 1 + getD list at 0 ≤ length list = omega (arith, s .room, length-drop (suc at) list) in
     record {
-      some = s .some;
+      nonempty = s .nonempty;
       most = s .most;
       room = l;
       read = rw (add-one, ← drop-drop) (s .rest);
@@ -63,7 +63,7 @@ pub record Reading (list : List ℕ) (k at most : ℕ) (start len : List ℕ) : 
   pub starts : splice start k (startsFrom at (drop k (keywordsOf list))) ≡ parsedOf list .start
   pub lens : splice len k (map length (drop k (keywordsOf list))) ≡ parsedOf list .len
 
-pub reading-start : (list : List ℕ) → Readable list → Reading list 0 2 0 (replicate 16 0) (replicate 16 0)
+pub reading-start : (list : List ℕ) → ReadableList list → Reading list 0 2 0 (replicate 16 0) (replicate 16 0)
 unfolding listSize keywordsOf parsedOf
 reading-start list r =
     record {
@@ -172,7 +172,7 @@ written-at : (l v : List ℕ) (k : ℕ) → k < length v → getD (written l v) 
 unfolding splice
 written-at l v k h = List·getD-append v (drop (0 + length v) l) 0 k h
 
-module _ (list : List ℕ) (r : Readable list) where
+module _ (list : List ℕ) (r : ReadableList list) where
   count-is : length (keywordsOf list) ≡ countOf list
   unfolding keywordsOf
   count-is = read-count (countOf list) (drop 2 list) (r .read)
@@ -192,14 +192,14 @@ module _ (list : List ℕ) (r : Readable list) where
   placed k h =
       let p = lies list (countOf list) 2 k (r .read) h in
       let n = read-proper (countOf list) (drop 2 list) (r .read) k h in
-      rw (start-at k h, len-at k h) (record { bytes = p .0; room = p .1; some = n .0; most = n .1 })
+      rw (start-at k h, len-at k h) (record { bytes = p .0; room = p .1; nonempty = n .0; most = n .1 })
 
   pub parsed-readable : (words : Keywords) → words ≡ parsedOf list → Parsed list words
   unfolding parsedOf listSize
   parsed-readable words e =
       rw e (record {
         counts = refl;
-        some = r .some;
+        nonempty = r .nonempty;
         few = r .most;
         flags = refl;
         bit = r .flag;
@@ -212,8 +212,8 @@ module _ (list : List ℕ) (r : Readable list) where
         placed = placed;
       })
 
-pub readable : (list : List ℕ) → keywordFrontCode list ≡ 0 → Readable list
-readable list e = let a = accepted list e in record { header = a .header; some = a .some; most = a .most; flag = a .flag; read = a .read }
+pub readable : (list : List ℕ) → keywordFrontCode list ≡ 0 → ReadableList list
+readable list e = let a = accepted list e in record { header = a .header; nonempty = a .nonempty; most = a .most; flag = a .flag; read = a .read }
 
 -- a list that the check accepts
 pub parsed : (list : List ℕ) (words : Keywords) → Reads list words → Parsed list words

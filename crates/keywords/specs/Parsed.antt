@@ -32,9 +32,9 @@ pub record Reads (list : List ℕ) (words : Keywords) : Type 0 where
 -- ---- what callers read from it
 
 -- The list reads without fault from the front: two bytes, count and flag in range, and each keyword whole.
-pub record Readable (list : List ℕ) : Type 0 where
+pub record ReadableList (list : List ℕ) : Type 0 where
   pub header : 2 ≤ length list
-  pub some : 1 ≤ countOf list
+  pub nonempty : 1 ≤ countOf list
   pub most : countOf list ≤ 16
   pub flag : flagOf list ≤ 1
   pub read : readCode (countOf list) (drop 2 list) ≡ 0
@@ -43,13 +43,13 @@ pub record Readable (list : List ℕ) : Type 0 where
 pub record Placed (list : List ℕ) (k at n : ℕ) : Type 0 where
   pub bytes : part list at n ≡ getD (keywordsOf list) k []
   pub room : at + n ≤ listSize list
-  pub some : 1 ≤ n
+  pub nonempty : 1 ≤ n
   pub most : n ≤ 32
 
 -- What the struct says of the list, for callers' proofs: it follows from `parsedOf` (proofs/Reading).
 pub record Parsed (list : List ℕ) (words : Keywords) : Type 0 where
   pub counts : words .count ≡ countOf list
-  pub some : 1 ≤ words .count
+  pub nonempty : 1 ≤ words .count
   pub few : words .count ≤ 16
   pub flags : words .flag ≡ flagOf list
   pub bit : words .flag ≤ 1

@@ -6,7 +6,7 @@ ghost use lib.ListN.{length, drop, getD};
 ghost use Rattle.spec.specs.Bytes.{same, contains, twice};
 ghost use Rattle.spec.specs.Outcome.{firstOf};
 ghost use Rattle.spec.specs.Keywords.{foldByte, folded, foldedKeywords, readCode, frontTests, keywordCode, keywordFrontCode};
-ghost use Rattle.keywords.specs.Parsed.{Readable, Places, parsedOf};
+ghost use Rattle.keywords.specs.Parsed.{ReadableList, Places, parsedOf};
 
 // The byte as it compares.
 pub fn fold(flag: u8, b: u8) -> u8
@@ -46,7 +46,7 @@ fn larger(a: usize, b: usize) -> usize
 
 // Splits a list that reads without fault, whether or not keywords are alike.
 fn split(list: &[u8]) -> Keywords
-    requires { ⌜ Readable (now list) ⌝ }
+    requires { ⌜ ReadableList (now list) ⌝ }
     ensures { λ r. ⌜ r ≡ parsedOf (now (list .entry)) ⌝ }
 {
     let count = list[0] as usize;
@@ -246,6 +246,6 @@ pub fn check(list: &[u8]) -> u8
     let start = k.start;
     let len = k.len;
     let over = k.size < list.len();
-    let twins = repeats(list, k.flag, k.count, &start, &len);
-    first_of(over, 1, twins, 4)
+    let repeated = repeats(list, k.flag, k.count, &start, &len);
+    first_of(over, 1, repeated, 4)
 }

@@ -14,7 +14,7 @@ use lib.Count.{trailingZeros}
 use Rattle.spec.specs.Bytes.{fieldAt, fieldsOf, rising}
 use Rattle.spec.proofs.Tests.{le-or-lt, leb-true, leb-false, T-of, and-left, and-right}
 use Rattle.spec.proofs.Rising.{rising-tail}
-use Rattle.listing.specs.Streams.{below, bits, unread, headed, stream, pulled, Readable, Open}
+use Rattle.listing.specs.Streams.{below, bits, unread, headed, stream, pulled, ReadableStream, Open}
 use Rattle.listing.proofs.Digits.{bits-first, bits-none, trailing-lt}
 
 pub below-head : (n x : ℕ) (xs : List ℕ) → below n (x ∷ xs) ≡ true → x < n
@@ -36,7 +36,7 @@ pub record Pulled (index : List ℕ) (width size : ℕ) (s s′ : List ℕ) : Ty
 
 module _ (index : List ℕ) (width size : ℕ) (s : List ℕ) where
   -- a number is taken
-  pulled-on : (s′ : List ℕ) → Readable index width size s → unread index width s ≡ getD s′ 0 0 ∷ unread index width s′
+  pulled-on : (s′ : List ℕ) → ReadableStream index width size s → unread index width s ≡ getD s′ 0 0 ∷ unread index width s′
       → getD s′ 1 0 + width * getD s′ 2 0 ≤ length index → getD s′ 4 0 < 2 ^ 32 → Pulled index width size s s′
   unfolding stream
   pulled-on s′ r e inside set =
@@ -46,7 +46,7 @@ module _ (index : List ℕ) (width size : ℕ) (s : List ℕ) where
       same = headed-in size (getD s′ 0 0) (unread index width s′) (below-head size (getD s′ 0 0) (unread index width s′) (rw e at (r .under))) ∙ sym e
 
   -- there is none
-  pulled-off : (s′ : List ℕ) → Readable index width size s → unread index width s ≡ [] → size ≤ getD s′ 0 0
+  pulled-off : (s′ : List ℕ) → ReadableStream index width size s → unread index width s ≡ [] → size ≤ getD s′ 0 0
       → getD s′ 1 0 + width * getD s′ 2 0 ≤ length index → getD s′ 4 0 < 2 ^ 32 → Pulled index width size s s′
   unfolding stream
   pulled-off s′ r e h inside set =
@@ -55,7 +55,7 @@ module _ (index : List ℕ) (width size : ℕ) (s : List ℕ) where
       same : stream index width size s′ ≡ unread index width s
       same = headed-out size (getD s′ 0 0) (unread index width s′) h ∙ sym e
 
-  module _ (r : Readable index width size s) where
+  module _ (r : ReadableStream index width size s) where
     abbrev at : ℕ
     at = getD s 1 0
 
@@ -150,7 +150,7 @@ module _ (index : List ℕ) (width size : ℕ) (s : List ℕ) (o : Open index wi
   open-head = headed-in size (getD s 0 0) (unread index width s) h
 
   -- what is behind its head can be read
-  pub behind : Readable index width size s
+  pub behind : ReadableStream index width size s
   behind =
       record {
         up = rising-tail (getD s 0 0) (unread index width s) (rw open-head at (o .up));

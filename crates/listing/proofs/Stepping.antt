@@ -11,7 +11,7 @@ use lib.ListN.{length, getD, set, take, drop, length-set}
 use lib.Seq.{getD-set-same, getD-set-other}
 use lib.Dec.{ltb}
 use Rattle.spec.proofs.Tests.{le-or-lt}
-use Rattle.listing.specs.Streams.{occurrences, headed, stream, pulled, streamOf, streamAt, unreadAt, Open, Ready, Held, Least}
+use Rattle.listing.specs.Streams.{occurrences, headed, stream, pulled, streamOf, streamAt, unreadAt, Open, ReadableStreams, Held, Least}
 use Rattle.listing.specs.Streams.{given, firstKeyword, firstOffset, streamsBehind, nextKeyword, nextOffset, streamsAfter}
 use Rattle.listing.proofs.Order.{eq-or-ne, merge-step, merge-done}
 use Rattle.listing.proofs.Pulling.{Pulled, pulled-gives, headed-out, open-head, behind}
@@ -49,7 +49,7 @@ pub record Opened (index : List ℕ) (width size count : ℕ) (streams streams�
   pub same : (k : ℕ) → k < count → streamAt index width size streams′ k ≡ unreadAt index width streams k
 
 -- THE STREAMS THAT `open` LEAVES
-pub opened : (index : List ℕ) (width size count : ℕ) (streams streams′ : List (List ℕ)) → Ready index width size count streams
+pub opened : (index : List ℕ) (width size count : ℕ) (streams streams′ : List (List ℕ)) → ReadableStreams index width size count streams
     → streams′ ≡ map (pulled index width size) (take count streams) ++ drop count streams → Opened index width size count streams streams′
 opened index width size count streams streams′ ready e =
     record {
@@ -173,13 +173,13 @@ module _ (index : List ℕ) (width size count : ℕ) (streams : List (List ℕ))
     -- WHAT `next` TAKES
     pub next-taken : 0 < count → (streams′ : List (List ℕ)) (keyword offset : ℕ) → Next streams′ keyword offset
         → NextTaken index width size count streams streams′ keyword offset
-    next-taken some streams′ keyword offset q = go (le-or-lt size (head (some-least streams count some .0)))
+    next-taken nonempty streams′ keyword offset q = go (le-or-lt size (head (some-least streams count nonempty .0)))
       where
         k : ℕ
-        k = some-least streams count some .0
+        k = some-least streams count nonempty .0
 
         least : Least streams count k
-        least = some-least streams count some .1
+        least = some-least streams count nonempty .1
 
         as-they-are : (s : List (List ℕ)) (w o : ℕ) → Next s w o
             → NextTaken index width size count streams s w o → NextTaken index width size count streams streams′ keyword offset

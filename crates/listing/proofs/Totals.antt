@@ -12,13 +12,13 @@ use lib.ListN.{length, getD, set, drop, length-append}
 use lib.Seq.{getD-set-same, getD-set-other}
 use lib.Dec.{ltb}
 use Rattle.spec.specs.Bytes.{fieldsOf, each, keep, member, rising, sum}
-use Rattle.spec.specs.Join.{hits}
+use Rattle.spec.specs.Join.{occurrencesAt}
 use Rattle.spec.proofs.Tests.{le-or-lt}
 use Rattle.spec.proofs.Tabulated.{tabulated-getD}
 use Rattle.spec.proofs.RecordLaws.{no-offsets}
 use Rattle.spec.proofs.FieldLists.{length-fieldsOf}
 use Rattle.spec.proofs.Rising.{allBelow, passing-member}
-use Rattle.listing.specs.Streams.{below, bits, unread, pulled, streamOf, unreadAt, occurrences, numbers, total, Ready, Fresh}
+use Rattle.listing.specs.Streams.{below, bits, unread, pulled, streamOf, unreadAt, occurrences, numbers, total, ReadableStreams, Fresh}
 use Rattle.listing.proofs.Digits.{bits-length}
 use Rattle.listing.proofs.Mapped.{mapped, mapped-same}
 
@@ -75,7 +75,7 @@ module _ (size : ℕ) where
   -- by swapping the sum over offsets and the one over keywords
   sum-is : (file count base : ℕ) (s : ℕ → List ℕ) → ((k : ℕ) → k < count → rising (s k) ≡ true) → ((k : ℕ) → k < count → below size (s k) ≡ true)
       → length (occurrences file count base size s) ≡ sumUp (λ k. length (s k)) 0 count
-  unfolding occurrences hits
+  unfolding occurrences occurrencesAt
   sum-is file count base s up under =
       length-each _ 0 size
       ∙ sum-same _ (λ p. sumUp (λ k. at-offset (s k) p) 0 count) 0 size (λ p u v.
@@ -91,7 +91,7 @@ unread-length index width s h =
     length-append (fieldsOf width left bytes) _
     ∙ ap₂ (λ (x y : ℕ). x + y) (length-fieldsOf width left bytes) (bits-length 32 (getD s 3 0) (getD s 4 0) h)
 
-module _ (index : List ℕ) (width size count : ℕ) (streams : List (List ℕ)) (ready : Ready index width size count streams) where
+module _ (index : List ℕ) (width size count : ℕ) (streams : List (List ℕ)) (ready : ReadableStreams index width size count streams) where
   pub total-is : (file base : ℕ) → total streams count ≡ length (occurrences file count base size (unreadAt index width streams))
   total-is file base =
       sum-same _ _ 0 count (λ k u v. sym (unread-length index width (streamOf streams k) (ready .each k (omega arith) .set)))
@@ -126,7 +126,7 @@ pulled-none index width size s five head small none =
     (ap {B = List ℕ} (λ (x : ℕ). x ∷ getD s 1 0 ∷ getD s 2 0 ∷ getD s 3 0 ∷ getD s 4 0 ∷ []) (sym head) ∙ tabulated-getD s 0 5 five)
 
 pub open-none : (index : List ℕ) (width size count : ℕ) (streams : List (List ℕ)) (many : ℕ)
-    → Ready index width size count streams → Fresh size count streams many → many ≡ 0 → streams ≡ mapped (pulled index width size) count streams
+    → ReadableStreams index width size count streams → Fresh size count streams many → many ≡ 0 → streams ≡ mapped (pulled index width size) count streams
 open-none index width size count streams many ready fresh z =
     mapped-same (pulled index width size) [] count streams (ready .long) (λ k h.
     pulled-none index width size (streamOf streams k) (fresh .five k h) (fresh .heads k h) (ready .each k h .set)

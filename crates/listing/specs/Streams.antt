@@ -7,7 +7,7 @@ use lib.ListN.{length, drop, getD, set}
 use lib.Dec.{eqb, ltb}
 use lib.Count.{ones}
 use Rattle.spec.specs.Bytes.{fieldAt, fieldsOf, each, keep, member, rising, every, sum}
-use Rattle.spec.specs.Join.{Occurrence, hits}
+use Rattle.spec.specs.Join.{Occurrence, occurrencesAt}
 
 -- Every number of the list is below the bound.
 abbrev pub below : ℕ → List ℕ → Bool
@@ -20,7 +20,7 @@ bits (suc d) from x = keep (eqb (x % 2) 1) from ++ bits d (suc from) (x / 2)
 
 -- What the keywords' streams give, by rising offset, and at one offset by rising keyword.
 unfoldable pub occurrences : ℕ → ℕ → ℕ → ℕ → (ℕ → List ℕ) → List Occurrence
-occurrences file count base size s = each (λ p. hits file count (λ k. member p (s k)) (base + p)) 0 size
+occurrences file count base size s = each (λ p. occurrencesAt file count (λ k. member p (s k)) (base + p)) 0 size
 
 -- ---- one stream, held in five numbers: head, at, left, from, set
 
@@ -46,7 +46,7 @@ abbrev pub numbers : List ℕ → ℕ
 numbers s = getD s 2 0 + ones (getD s 4 0)
 
 -- What is unread rises, stays below the size and lies in the index.
-pub record Readable (index : List ℕ) (width size : ℕ) (s : List ℕ) : Type 0 where
+pub record ReadableStream (index : List ℕ) (width size : ℕ) (s : List ℕ) : Type 0 where
   pub up : rising (unread index width s) ≡ true
   pub under : below size (unread index width s) ≡ true
   pub inside : getD s 1 0 + width * getD s 2 0 ≤ length index
@@ -83,9 +83,9 @@ unreadAt index width streams k = unread index width (streamOf streams k)
 abbrev pub streamAt : List ℕ → ℕ → ℕ → List (List ℕ) → ℕ → List ℕ
 streamAt index width size streams k = stream index width size (streamOf streams k)
 
-pub record Ready (index : List ℕ) (width size count : ℕ) (streams : List (List ℕ)) : Type 0 where
+pub record ReadableStreams (index : List ℕ) (width size count : ℕ) (streams : List (List ℕ)) : Type 0 where
   pub long : count ≤ length streams
-  pub each : (k : ℕ) → k < count → Readable index width size (streamOf streams k)
+  pub each : (k : ℕ) → k < count → ReadableStream index width size (streamOf streams k)
 
 -- How many numbers are unread of the streams below `count`.
 abbrev pub total : List (List ℕ) → ℕ → ℕ

@@ -6,7 +6,7 @@ ghost use Prim.Native.Nat.{_+_, _≤_, _<_};
 ghost use lib.ListN.{length, take, drop};
 ghost use Rattle.spec.specs.Bytes.{splice};
 ghost use Rattle.spec.specs.Join.{occurrenceBytes};
-ghost use Rattle.listing.specs.Streams.{Readable, Ready, Fresh, Least, Held, pulled, nextKeyword, nextOffset, streamsAfter, numbers, small};
+ghost use Rattle.listing.specs.Streams.{ReadableStream, ReadableStreams, Fresh, Least, Held, pulled, nextKeyword, nextOffset, streamsAfter, numbers, small};
 
 // A stream is five numbers: its next offset (the chunk's size where it has ended); where the index has the offsets behind that, and how
 // many; where the starts are counted from, and the set of those that are left.
@@ -22,7 +22,7 @@ const SET: usize = 4;
 
 // The stream whose next offset is taken off what is unread.
 fn pull(index: &[u8], width: usize, size: usize, stream: [usize; 5]) -> [usize; 5]
-    requires { ⌜ (width ≤ 8) × Readable (now index) width size stream ⌝ }
+    requires { ⌜ (width ≤ 8) × ReadableStream (now index) width size stream ⌝ }
     ensures { λ r. ⌜ r ≡ pulled (now (index .entry)) width size stream ⌝ }
 {
     let at = stream[AT];
@@ -103,7 +103,7 @@ pub fn open(
     many: usize,
     streams: &mut [[usize; 5]; 16],
 )
-    requires { ⌜ (count ≤ 16) × (width ≤ 8) × Ready (now index) width size count (now streams) × Fresh size count (now streams) many ⌝ }
+    requires { ⌜ (count ≤ 16) × (width ≤ 8) × ReadableStreams (now index) width size count (now streams) × Fresh size count (now streams) many ⌝ }
     ensures { λ _. ⌜ now (streams .exit) ≡ map (pulled (now (index .entry)) width size) (take count (now (streams .entry))) ++ drop count (now (streams .entry)) ⌝ }
 {
     if many == 0 {

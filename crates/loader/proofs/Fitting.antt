@@ -10,10 +10,11 @@ use lib.Dec.{ltb, leb·zero}
 use lib.ListN.{length, take, drop, length-take, take-append-drop}
 use Rattle.spec.specs.Bytes.{begins, same}
 use Rattle.spec.specs.Records.{MatchRecord, Form, form1, isEmpty, inRange, recordBytes, readRecord, recordSize, goodBody}
-use Rattle.spec.specs.Steps.{goodFrom, recordGood}
+use Rattle.bodies.specs.Steps.{goodFrom, recordGood}
 use Rattle.spec.proofs.Tests.{bool-cases, and-left, and-right, le-of-and, leb-true}
 use Rattle.spec.proofs.Same.{same-eq}
-use Rattle.spec.proofs.RecordLaws.{FormGood, form1-good, allPositive, good-is-from, good-absent, good-here, written-empty, size-written}
+use Rattle.spec.proofs.RecordLaws.{FormGood, form1-good, allPositive, written-empty, size-written}
+use Rattle.bodies.proofs.StepLaws.{good-is-from, good-absent, good-here}
 use Rattle.loader.specs.Loaded.{sizeNext, fitsFrom}
 use Rattle.loader.proofs.Rows.{size-least}
 

@@ -255,9 +255,9 @@ module _ (f : Form) (index : List ℕ) (at len k : ℕ) (inside : at + len ≤ l
   pub row-other : 0 < len → getD index at 0 ≢ k → RowAt index (f .width) at (0 ∷ 0 ∷ at ∷ 0 ∷ []) (recordNext f k (part index at len)) (sizeNext f k (part index at len))
   row-other h n = row-absent (begins-at h ∙ eqb-ne k (getD index at 0) (λ e. n (sym e)))
 
-  module _ (some : 0 < len) (here : getD index at 0 ≡ k) where
+  module _ (nonempty : 0 < len) (here : getD index at 0 ≡ k) where
     begins-here : begins (k ∷ []) (part index at len) ≡ true
-    begins-here = begins-at some ∙ rw here (eqb-same k)
+    begins-here = begins-at nonempty ∙ rw here (eqb-same k)
 
     pub size-here : sizeNext f k (part index at len) ≡ recordSize f (part index at len)
     unfolding sizeNext

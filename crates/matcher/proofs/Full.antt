@@ -5,12 +5,12 @@ use Prim.Native.Nat.{ℕ, _+_, _*_, _-_, _≤_, _<_}
 use native.Mathlib.Omega.{arith}
 use lib.ListN.{length, getD}
 use Rattle.spec.specs.Bytes.{leBytes, splice, fieldsBytes}
-use Rattle.spec.specs.Records.{MatchRecord, form1, fullBytes, offsetsBytes}
+use Rattle.spec.specs.Records.{MatchRecord, form1, fullBytes, offsetsBytes, headBytes}
 use Rattle.spec.proofs.Tests.{le-or-lt}
 use Rattle.spec.proofs.Fields.{length-leBytes}
 use Rattle.spec.proofs.RecordLaws.{length-full, offsets-one, offsets-two, offsets-three}
 use Rattle.matcher.specs.declared.Summary.{Summary}
-use Rattle.matcher.specs.Summaries.{summaryOf, headBytes, Wrote}
+use Rattle.matcher.specs.Summaries.{summaryOf, Wrote}
 use Rattle.matcher.proofs.Offsets.{left, next, left-next, left-ended}
 use Rattle.matcher.proofs.Shapes.{at-count, at-first, length-head, size-two, size-three, wrote-then}
 use Rattle.matcher.proofs.Summing.{recorded, recorded-offsets}
@@ -51,8 +51,8 @@ module _ (flag : ℕ) (keyword chunk : List ℕ) (k : ℕ) (s : Summary) (e : s 
   few : s .count ≤ 1 → fullBytes form1 k m ≡ headBytes form1 k m
   few h = split ∙ rw (offsets-one form1 (m .offsets) (omega (arith, at-count s m e)), append-nil)
 
-  some : 1 < s .count → s .count ≤ 254 → fullBytes form1 k m ≡ headBytes form1 k m ++ fieldsBytes 2 (left flag keyword chunk (s .first))
-  some l h = split ∙ rw (offsets-two form1 (m .offsets) (omega (arith, at-count s m e)) (omega (arith, at-count s m e)), left-first (omega arith))
+  several : 1 < s .count → s .count ≤ 254 → fullBytes form1 k m ≡ headBytes form1 k m ++ fieldsBytes 2 (left flag keyword chunk (s .first))
+  several l h = split ∙ rw (offsets-two form1 (m .offsets) (omega (arith, at-count s m e)) (omega (arith, at-count s m e)), left-first (omega arith))
 
   many : 254 < s .count → fullBytes form1 k m ≡ headBytes form1 k m ++ leBytes 2 (s .count) ++ fieldsBytes 2 (left flag keyword chunk (s .first))
   many h = split ∙ rw (offsets-three form1 (m .offsets) (omega (arith, at-count s m e)), left-first (omega arith), at-count s m e, append-assoc)
@@ -80,7 +80,7 @@ module _ (flag : ℕ) (keyword chunk : List ℕ) (k : ℕ) (s : Summary) (e : s 
   pub put-two : (l l₁ l₂ : List ℕ) (head end : ℕ) → 1 < s .count → s .count ≤ 254 → Wrote l 0 (headBytes form1 k m) l₁ head
       → Wrote l₁ head (fieldsBytes 2 (left flag keyword chunk (s .first))) l₂ end → Wrote l 0 (fullBytes form1 k m) l₂ end
   put-two l l₁ l₂ head end n h v w =
-      rw (some n h) (wrote-then l l₁ l₂ 0 head end (headBytes form1 k m) (fieldsBytes 2 (left flag keyword chunk (s .first))) (omega arith) v w)
+      rw (several n h) (wrote-then l l₁ l₂ 0 head end (headBytes form1 k m) (fieldsBytes 2 (left flag keyword chunk (s .first))) (omega arith) v w)
 
   pub put-three : (l l₁ l₂ l₃ : List ℕ) (head end : ℕ) → 254 < s .count → Wrote l 0 (headBytes form1 k m) l₁ head
       → l₂ ≡ splice l₁ head (leBytes 2 (s .count)) → Wrote l₂ (head + 2) (fieldsBytes 2 (left flag keyword chunk (s .first))) l₃ end

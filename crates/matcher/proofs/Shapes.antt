@@ -8,14 +8,14 @@ use native.Mathlib.Omega.{arith}
 use lib.ListN.{length, getD, set, length-append}
 use lib.Dec.{eqb}
 use Rattle.spec.specs.Bytes.{leBytes, splice, fieldsBytes}
-use Rattle.spec.specs.Records.{MatchRecord, form1, isEmpty, isTiny, kindOf, tinyBytes, fullBytes}
+use Rattle.spec.specs.Records.{MatchRecord, form1, isEmpty, isTiny, kindOf, tinyBytes, fullBytes, headBytes}
 use Rattle.spec.proofs.Tests.{eqb-ne, leb-true, leb-false}
 use Rattle.spec.proofs.Fields.{length-leBytes}
 use Rattle.spec.proofs.FieldLists.{length-fieldsBytes}
 use Rattle.spec.proofs.Splices.{sets-splice, splice-splice, splice-then}
 use Rattle.spec.proofs.RecordLaws.{length-full, offsets-one, offsets-two, offsets-three}
 use Rattle.matcher.specs.declared.Summary.{Summary}
-use Rattle.matcher.specs.Summaries.{summaryOf, headBytes, Wrote}
+use Rattle.matcher.specs.Summaries.{summaryOf, Wrote}
 
 -- ---- a summary's fields are the record's
 

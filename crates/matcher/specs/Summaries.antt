@@ -1,11 +1,11 @@
 -- What the record writer asks of a match record: the offsets from a place on, what decides a record's kind and length, and what a
 -- writer promises of its buffer.
 use mathlib.Core.Path.{_≡_}
-use mathlib.Core.List.{List, _∷_}
-use Prim.Native.Nat.{ℕ, _+_, _-_, _≤_, _<_, min}
+use mathlib.Core.List.{List}
+use Prim.Native.Nat.{ℕ, _+_, _-_, _≤_, _<_}
 use lib.ListN.{length, getD}
-use Rattle.spec.specs.Bytes.{leBytes, splice, occursAt, each, keep}
-use Rattle.spec.specs.Records.{Form, MatchRecord, form1, kindOf, recordOf, fullBytes, recordBytes}
+use Rattle.spec.specs.Bytes.{splice, occursAt, each, keep}
+use Rattle.spec.specs.Records.{MatchRecord, form1, recordOf, fullBytes, recordBytes}
 use Rattle.spec.specs.Scan.{scanBody}
 use Rattle.keywords.specs.declared.Keywords.{Keywords}
 use Rattle.keywords.specs.Parsed.{Reads}
@@ -19,10 +19,6 @@ offsetsFrom keyword chunk from = each (λ at. keep (occursAt keyword chunk at) a
 unfoldable pub summaryOf : MatchRecord → Summary
 summaryOf m = record { prefix = m .prefix; suffix = m .suffix; count = length (m .offsets); first = getD (m .offsets) 0 0 }
 
--- A full record up to its offsets: keyword number, kind, prefix, suffix, count, first offset.
-unfoldable pub headBytes : Form → ℕ → MatchRecord → List ℕ
-headBytes f k m = k ∷ kindOf (length (m .offsets)) ∷ m .prefix ∷ m .suffix ∷ min (length (m .offsets)) 255 ∷ leBytes (f .width) (getD (m .offsets) 0 0)
-
 -- What a writer promises: the run stands in the buffer from `at` on, every other byte is as it was, and the answer is where the run ends.
 pub record Wrote (buffer : List ℕ) (at : ℕ) (run after : List ℕ) (end : ℕ) : Type 0 where
   pub written : after ≡ splice buffer at run
@@ -30,7 +26,7 @@ pub record Wrote (buffer : List ℕ) (at : ℕ) (run after : List ℕ) (end : �
 
 -- What the writer of a full record asks: the keyword has bytes, the summary is the record's, its numbers are bytes, and the record fits.
 pub record CanPutFull (buffer : List ℕ) (k : ℕ) (s : Summary) (keyword chunk : List ℕ) : Type 0 where
-  pub some : 1 ≤ length keyword
+  pub nonempty : 1 ≤ length keyword
   pub number : k < 256
   pub prefixed : s .prefix < 256
   pub suffixed : s .suffix < 256
@@ -39,7 +35,7 @@ pub record CanPutFull (buffer : List ℕ) (k : ℕ) (s : Summary) (keyword chunk
 
 -- What the writer of any record asks, for a keyword of length n.
 pub record CanPut (buffer : List ℕ) (k n : ℕ) (m : MatchRecord) : Type 0 where
-  pub some : 1 ≤ n
+  pub nonempty : 1 ≤ n
   pub short : n ≤ 32
   pub number : k < 256
   pub room : length (recordBytes form1 n k m) ≤ length buffer

@@ -5,8 +5,8 @@ ghost use Prim.Native.Nat.{ℕ, _+_, _*_, _≤_, _<_, min};
 ghost use lib.ListN.{length, getD};
 ghost use Rattle.spec.specs.Bytes.{fieldsBytes, occursAt, written};
 ghost use Rattle.spec.specs.Keywords.{folded};
-ghost use Rattle.spec.specs.Records.{MatchRecord, reach, prefixOf, suffixOf, recordOf, form1, isEmpty, isTiny, kindOf, tinyBytes, fullBytes, recordBytes};
-ghost use Rattle.matcher.specs.Summaries.{offsetsFrom, summaryOf, headBytes, Wrote, CanPutFull, CanPut, CanSize, CanPutBody};
+ghost use Rattle.spec.specs.Records.{MatchRecord, reach, prefixOf, suffixOf, recordOf, form1, isEmpty, isTiny, kindOf, tinyBytes, fullBytes, recordBytes, headBytes};
+ghost use Rattle.matcher.specs.Summaries.{offsetsFrom, summaryOf, Wrote, CanPutFull, CanPut, CanSize, CanPutBody};
 ghost use Rattle.spec.specs.Scan.{scanBody};
 
 // Whether the keyword occurs at the offset of the chunk.

@@ -12,7 +12,7 @@ use Rattle.spec.specs.Store.{storeLayout, storeKeys, chunkCount, chunkAt, store
 use Rattle.spec.specs.Outcome.{firstOf, whole}
 use Rattle.spec.specs.Keywords.{keywordCode, keywordFrontCode}
 use Rattle.spec.specs.Records.{Form, form1}
-use Rattle.spec.specs.Index.{Entry, directoryBytes, indexBytes}
+use Rattle.spec.specs.Index.{Entry, directoryBytes, indexBytes, entryBytes}
 use Rattle.spec.specs.Scan.{scanBody, scanEntry, scanIndex, scannableCode}
 use Rattle.spec.proofs.Codes.{refused-whole, next-whole, last-whole, passed-whole}
 use Rattle.spec.proofs.Each.{each-step}
@@ -21,7 +21,7 @@ use Rattle.spec.proofs.Tabulated.{length-tabulated, tabulated-at}
 use Rattle.spec.proofs.WrittenEntries.{Fits, Every, noEntry, length-directory}
 use Rattle.spec.proofs.StoreLaws.{store-good, store-key-length, store-size-most, chunk-length}
 use Rattle.matcher.proofs.Bodies.{body-most}
-use Rattle.scan.specs.Layout.{entriesFrom, bodiesFrom, entryBytes, tailBytes}
+use Rattle.scan.specs.Layout.{entriesFrom, bodiesFrom, tailBytes}
 
 module _ (f : Form) (list store : List ℕ) where
   abbrev pub body : ℕ → List ℕ

@@ -8,11 +8,12 @@ use borrow.Rule.Slice.PartMut.{midOf, putMid}
 use Rattle.spec.specs.Bytes.{leBytes, splice, written}
 use Rattle.spec.specs.Store.{storeKeys, chunkCount, chunkAt, storeCode}
 use Rattle.spec.specs.Records.{form1}
+use Rattle.spec.specs.Index.{entryBytes}
 use Rattle.spec.specs.Scan.{scanBody}
 use Rattle.spec.proofs.Fields.{length-leBytes}
 use Rattle.spec.proofs.Splices.{splice-nil, splice-then, splice-splice}
 use Rattle.spec.proofs.StoreLaws.{store-good, chunk-length}
-use Rattle.scan.specs.Layout.{bodiesFrom, entryBytes, tailBytes}
+use Rattle.scan.specs.Layout.{bodiesFrom, tailBytes}
 use Rattle.scan.proofs.Regions.{two-regions}
 use Rattle.scan.proofs.Parts.{body, bodies-step, bodies-end, entry, directoryFrom, directory-step, directory-end, directory-length, entry-length}
 

@@ -3,7 +3,7 @@ use mathlib.Core.Path.{_≡_}
 use mathlib.Core.List.{List, [], _∷_, _++_, map}
 use Prim.Native.Nat.{ℕ, _+_, _*_, _-_, _≤_}
 use lib.ListN.{length}
-use Rattle.spec.specs.Bytes.{leBytes, each, joined}
+use Rattle.spec.specs.Bytes.{each, joined}
 use Rattle.spec.specs.Store.{chunkCount, storeCode}
 use Rattle.spec.specs.Records.{Form, form1}
 use Rattle.spec.specs.Index.{Entry, directoryBytes}
@@ -17,10 +17,6 @@ entriesFrom f list store k = each (λ j. scanEntry f list store j ∷ []) k (chu
 
 abbrev pub bodiesFrom : Form → List ℕ → List ℕ → ℕ → List ℕ
 bodiesFrom f list store k = joined (map (λ e. e .body) (entriesFrom f list store k))
-
--- A directory entry: fingerprint, chunk length, offset and length of the body.
-unfoldable pub entryBytes : List ℕ → ℕ → ℕ → ℕ → List ℕ
-entryBytes key size offset len = key ++ leBytes 4 size ++ leBytes 4 offset ++ leBytes 4 len
 
 -- The index behind its keyword list: directory and bodies.
 unfoldable pub tailBytes : Form → List ℕ → List ℕ → List ℕ

@@ -5,8 +5,9 @@ ghost use Prim.Native.Nat.{_+_};
 ghost use lib.ListN.{length};
 ghost use Rattle.spec.specs.Bytes.{splice};
 ghost use Rattle.spec.specs.Records.{form1};
+ghost use Rattle.spec.specs.Index.{entryBytes};
 ghost use Rattle.spec.specs.Scan.{scanIndex, scannableCode, sizeOutcome, scanOutcome, scanBuffer};
-ghost use Rattle.scan.specs.Layout.{bodiesFrom, entryBytes, tailBytes, Walks, CanPutEntry, CanPutEntries, CanPutIndex};
+ghost use Rattle.scan.specs.Layout.{bodiesFrom, tailBytes, Walks, CanPutEntry, CanPutEntries, CanPutIndex};
 
 // The mark of a match index.
 const MARK: [u8; 4] = [0x44, 0x4D, 0x31, 0x0A];
@@ -45,7 +46,7 @@ fn index_size(list: &[u8], store: &[u8]) -> usize
     ensures { λ r. ⌜ r ≡ length (scanIndex form1 (now (list .entry)) (now (store .entry))) ⌝ }
 {
     let words = keywords::parse(list);
-    let count = store::count(store);
+    let count = store::chunk_count(store);
     let bodies = bodies_size(list, words, store, count);
     8 + list.len() + 32 * count + bodies
 }
@@ -98,7 +99,7 @@ fn put_index(out: &mut [u8], list: &[u8], store: &[u8])
     ensures { λ _. ⌜ now (out .exit) ≡ splice (now (out .entry)) 0 (scanIndex form1 (now (list .entry)) (now (store .entry))) ⌝ }
 {
     let words = keywords::parse(list);
-    let count = store::count(store);
+    let count = store::chunk_count(store);
     field::copy(out, 0, &MARK);
     field::write(out, 4, 4, count as u64);
     field::copy(out, 8, list);

@@ -1,4 +1,4 @@
--- Laws of `begins`. The seam law has no side condition and carries nearly every argument about cuts. Assumes nothing.
+-- Laws of `begins`. The law of a cut has no side condition and carries nearly every argument about cuts. Assumes nothing.
 use mathlib.Core.Path.{_≡_, refl, sym, ap, ap₂, _∙_, subst}
 use mathlib.Core.Logic.{_≢_, _⊎_, inl, inr}
 use mathlib.Core.Bool.{Bool, true, false, _&&_, and-assoc, and-true, and-false, false≢true}

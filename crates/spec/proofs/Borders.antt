@@ -7,9 +7,9 @@ use Prim.Native.Nat.{ℕ}
 use lib.ListN.{length, replicate}
 use Rattle.spec.specs.Bytes.{leBytes, fieldsBytes}
 use Rattle.spec.specs.Keywords.{isUpper, foldByte, keywordsOf}
-use Rattle.spec.specs.Records.{form1, reach, prefixOf, suffixOf, offsetsOf, recordOf, recordsOf, kindOf, offsetsBytes, fullBytes, recordBytes}
+use Rattle.spec.specs.Records.{form1, reach, prefixOf, suffixOf, offsetsOf, recordOf, recordsOf, kindOf, offsetsBytes, fullBytes, recordBytes, headBytes}
 use Rattle.spec.specs.Table.{inCell}
-use Rattle.spec.specs.Join.{hits, crosses, listed, joinFrom, joinFiles, due}
+use Rattle.spec.specs.Join.{occurrencesAt, crosses, listed, joinFrom, joinFiles, innerLeast}
 
 -- 40 and 5B stay, 41 and 5A are folded
 pub fold-borders : (foldByte 1 0x40 ≡ 0x40) × (foldByte 1 0x41 ≡ 0x61) × (foldByte 1 0x5A ≡ 0x7A) × (foldByte 1 0x5B ≡ 0x5B)
@@ -28,7 +28,7 @@ count-borders = (refl, refl)
 -- a prefix or suffix of length 1 is tiny, one of length 2 is not
 pub tiny-borders : (recordBytes form1 3 0 (record { prefix = 1; suffix = 1; offsets = [] }) ≡ 0 ∷ 0 ∷ 3 ∷ [])
     × (recordBytes form1 3 0 (record { prefix = 2; suffix = 0; offsets = [] }) ≡ 0 ∷ 1 ∷ 2 ∷ 0 ∷ 0 ∷ 0 ∷ 0 ∷ [])
-unfolding recordBytes fullBytes offsetsBytes leBytes
+unfolding recordBytes fullBytes headBytes offsetsBytes leBytes
 tiny-borders = (refl, refl)
 
 -- AA in AA: the prefix is short of the whole keyword
@@ -50,10 +50,10 @@ twoAs = replicate 2 0x41 ∷ []
 
 pub file-border : (joinFiles 0 twoAs ((recordsOf twoAs letterA ∷ recordsOf twoAs letterA ∷ []) ∷ []) ≡ record { file = 0; offset = 0; keyword = 0 } ∷ [])
     × (joinFiles 0 twoAs ((recordsOf twoAs letterA ∷ []) ∷ (recordsOf twoAs letterA ∷ []) ∷ []) ≡ [])
-unfolding joinFiles joinFrom hits listed crosses inCell recordsOf recordOf prefixOf suffixOf offsetsOf reach
+unfolding joinFiles joinFrom occurrencesAt listed crosses inCell recordsOf recordOf prefixOf suffixOf offsetsOf reach
 file-border = (refl, refl)
 
 -- keyword ABA: an inner chunk must have 2 bytes
-pub due-border : due form1 (1 ∷ 0 ∷ 3 ∷ 0x41 ∷ 0x42 ∷ 0x41 ∷ []) ≡ 2
-unfolding due keywordsOf
-due-border = refl
+pub innerLeast-border : innerLeast form1 (1 ∷ 0 ∷ 3 ∷ 0x41 ∷ 0x42 ∷ 0x41 ∷ []) ≡ 2
+unfolding innerLeast keywordsOf
+innerLeast-border = refl

@@ -13,7 +13,7 @@ use Rattle.spec.specs.Keywords.{keywordFrontCode}
 use Rattle.spec.specs.Directory.{directoryEnd, entriesCode}
 use Rattle.spec.specs.Store.{chunkCount, mostChunks}
 use Rattle.spec.specs.Records.{Form}
-use Rattle.spec.specs.Index.{listIn, indexLayout, indexKeys, goodAt, allGood, indexCode}
+use Rattle.spec.specs.Index.{listIn, indexLayout, indexKeys, goodAt, allGood, headerCode, directoryCode, laidCode, indexCode}
 use Rattle.spec.proofs.Codes.{passed, passed-whole, or-left, or-right}
 use Rattle.spec.proofs.EntryLaws.{Entries, entries-good, length-keysIn}
 use Rattle.spec.proofs.Same.{same-eq, same-of}
@@ -32,18 +32,20 @@ pub record IndexGood (f : Form) (index : List ℕ) : Type 0 where
   pub bodies : (k : ℕ) → k < chunkCount index → goodAt f index k ≡ true
 
 pub index-good : (f : Form) (index : List ℕ) → indexCode f index ≡ 0 → IndexGood f index
-unfolding indexCode allGood
+unfolding indexCode laidCode headerCode directoryCode allGood
 index-good f index e =
-    let a = passed (ltb (length index) 8 || not (same (take 4 index) (f .mark)) || ltb mostChunks (chunkCount index)) 10 _ (omega arith) e in
-    let b = passed-whole (keywordFrontCode (listIn index)) _ (a .1) in
-    let c = passed (ltb (length index) (directoryEnd (indexLayout index) (chunkCount index))) 11 _ (omega arith) (b .1) in
+    let laid = passed-whole (laidCode f index) _ e in
+    let front = passed-whole (headerCode f index) _ (laid .0) in
+    let a = passed (ltb (length index) 8 || not (same (take 4 index) (f .mark)) || ltb mostChunks (chunkCount index)) 10 _ (omega arith) (front .0) in
+    let b = passed-whole (keywordFrontCode (listIn index)) _ (front .1) in
+    let c = passed (ltb (length index) (directoryEnd (indexLayout index) (chunkCount index))) 11 _ (omega arith) (passed-whole (directoryCode f index) _ (b .1) .0) in
     let d = passed-whole (entriesCode (indexLayout index) index (f .longestChunk) 11 (chunkCount index) 0 (directoryEnd (indexLayout index) (chunkCount index))) _ (c .1) in
-    let g = passed (twice (indexKeys index)) 12 _ (omega arith) (d .1) in
+    let g = passed (twice (indexKeys index)) 12 _ (omega arith) (laid .1) in
     let h = passed (not (allGood f index)) 13 _ (omega arith) (g .1) in
-    let front = or-left (ltb (length index) 8 || not (same (take 4 index) (f .mark))) _ (a .0) in
+    let mark = or-left (ltb (length index) 8 || not (same (take 4 index) (f .mark))) _ (a .0) in
     record {
-      header = ltb-false (length index) 8 (or-left (ltb (length index) 8) _ front);
-      mark = same-eq (take 4 index) (f .mark) (not-false (same (take 4 index) (f .mark)) (or-right (ltb (length index) 8) _ front));
+      header = ltb-false (length index) 8 (or-left (ltb (length index) 8) _ mark);
+      mark = same-eq (take 4 index) (f .mark) (not-false (same (take 4 index) (f .mark)) (or-right (ltb (length index) 8) _ mark));
       few = ltb-false mostChunks (chunkCount index) (or-right (ltb (length index) 8 || not (same (take 4 index) (f .mark))) _ (a .0));
       list = b .0;
       room = ltb-false (length index) (directoryEnd (indexLayout index) (chunkCount index)) (c .0);
@@ -58,7 +60,7 @@ pub index-passes : (f : Form) (index : List ℕ) → 8 ≤ length index → take
     → directoryEnd (indexLayout index) (chunkCount index) ≤ length index
     → entriesCode (indexLayout index) index (f .longestChunk) 11 (chunkCount index) 0 (directoryEnd (indexLayout index) (chunkCount index)) ≡ 0
     → twice (indexKeys index) ≡ false → ((k : ℕ) → k < chunkCount index → goodAt f index k ≡ true) → indexCode f index ≡ 0
-unfolding indexCode allGood
+unfolding indexCode laidCode headerCode directoryCode allGood
 index-passes f index h m c l r e t g =
     rw (
       le-ltb (length index) 8 h,

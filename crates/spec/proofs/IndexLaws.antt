@@ -13,10 +13,11 @@ use Rattle.spec.specs.Store.{chunkCount}
 use Rattle.spec.specs.Records.{Form}
 use Rattle.spec.specs.Index.{Entry, directoryBytes, indexBytes, listIn, indexLayout, indexKeys, bodyAt, lengthsIn}
 use Rattle.spec.proofs.Fields.{length-leBytes}
-use Rattle.spec.proofs.Seams.{part-seam, next-seam, field-seam, next-field}
+use Rattle.spec.proofs.KnownBytes.{part-here, behind-part, field-here, behind-field}
 use Rattle.spec.proofs.KeywordLaws.{keyword-front, keyword-whole}
 use Rattle.spec.proofs.KeywordReads.{SameList, list-front}
-use Rattle.spec.proofs.WrittenEntries.{bodiesOf, Fits, noEntry, Every, length-directory, ReadsAs, Holds, startIn, entry-reads, keys-read, SizeIn, entryLayout, written-pass}
+use Rattle.spec.proofs.WrittenEntries.{bodiesOf, Fits, noEntry, Every, length-directory, ReadsAs, Holds, startIn, entry-reads, keys-read}
+use Rattle.spec.proofs.WrittenEntries.{SizeIn, entryLayout, written-pass}
 
 -- What can be written: an accepted list, entries that fit their fields, and an index that 4-byte offsets reach.
 pub record Writable (f : Form) (list : List ℕ) (entries : List Entry) : Type 0 where
@@ -43,17 +44,17 @@ module _ (f : Form) (list : List ℕ) (entries : List Entry) where
 
   module _ (w : Writable f list entries) where
     at4 : drop 4 (indexBytes f list entries) ≡ leBytes 4 (length entries) ++ (list ++ tail)
-    at4 = next-seam (indexBytes f list entries) 0 (f .mark) _ 4 (w .marked) index-parts
+    at4 = behind-part (indexBytes f list entries) 0 (f .mark) _ 4 (w .marked) index-parts
 
     at8 : listIn (indexBytes f list entries) ≡ list ++ tail
-    at8 = next-field (indexBytes f list entries) 4 4 (length entries) (list ++ tail) at4
+    at8 = behind-field (indexBytes f list entries) 4 4 (length entries) (list ++ tail) at4
 
     atDirectory : drop directoryStart (indexBytes f list entries) ≡ directoryBytes bodiesStart entries ++ bodiesOf entries
     unfolding tail
-    atDirectory = next-seam (indexBytes f list entries) 8 list tail (length list) refl at8
+    atDirectory = behind-part (indexBytes f list entries) 8 list tail (length list) refl at8
 
     atBodies : drop bodiesStart (indexBytes f list entries) ≡ bodiesOf entries
-    atBodies = next-seam (indexBytes f list entries) directoryStart (directoryBytes bodiesStart entries) (bodiesOf entries) (32 * length entries) (length-directory bodiesStart entries (w .fit)) atDirectory
+    atBodies = behind-part (indexBytes f list entries) directoryStart (directoryBytes bodiesStart entries) (bodiesOf entries) (32 * length entries) (length-directory bodiesStart entries (w .fit)) atDirectory
 
     pub index-length : length (indexBytes f list entries) ≡ bodiesStart + length (bodiesOf entries)
     unfolding tail
@@ -62,10 +63,10 @@ module _ (f : Form) (list : List ℕ) (entries : List Entry) where
         ∙ simp (length-append, w .marked, length-leBytes, length-directory bodiesStart entries (w .fit)) (omega arith)
 
     pub index-mark : take 4 (indexBytes f list entries) ≡ f .mark
-    index-mark = part-seam (indexBytes f list entries) 0 (f .mark) _ 4 (w .marked) index-parts
+    index-mark = part-here (indexBytes f list entries) 0 (f .mark) _ 4 (w .marked) index-parts
 
     pub index-count : chunkCount (indexBytes f list entries) ≡ length entries
-    index-count = field-seam (indexBytes f list entries) 4 4 (length entries) _ (omega (arith, w .few)) at4
+    index-count = field-here (indexBytes f list entries) 4 4 (length entries) _ (omega (arith, w .few)) at4
 
     pub index-list : SameList list (listIn (indexBytes f list entries))
     index-list = rw at8 (list-front list tail (keyword-front list (w .accepted)))

@@ -13,14 +13,14 @@ use lib.Dec.{leb}
 use Rattle.spec.specs.Bytes.{begins, occursAt, each, every, joined}
 use Rattle.spec.specs.Keywords.{foldByte, folded, foldedAll, flagOf, keywordsOf, foldedKeywords, longest}
 use Rattle.spec.specs.Records.{Form, recordOf, recordsOf, recordAt, emptyRecord, prefixOf, suffixOf}
-use Rattle.spec.specs.Recipes.{allButLast, roomy}
-use Rattle.spec.specs.Join.{Occurrence, keywordAt, hits, crossesInto, listed, joinFrom, joinFile, joinFiles, due}
+use Rattle.spec.specs.Recipes.{allButLast, innerLong}
+use Rattle.spec.specs.Join.{Occurrence, keywordAt, occurrencesAt, crossesInto, listed, joinFrom, joinFile, joinFiles, innerLeast}
 use Rattle.spec.specs.Scan.{scanRecords}
 use Rattle.spec.specs.Search.{occurrencesIn, occurrencesInAll}
 use Rattle.spec.proofs.Tests.{and-left, and-right, le-of-and}
 use Rattle.spec.proofs.Begins.{begins-front, begins-short}
 use Rattle.spec.proofs.Each.{each-match, each-append}
-use Rattle.spec.proofs.Hits.{hits-same}
+use Rattle.spec.proofs.OccurrencesAt.{occurrencesAt-same}
 use Rattle.spec.proofs.Folding.{folded-length}
 use Rattle.spec.proofs.Point.{starts, starts-guard, prefix-le, suffix-tells, crosses-split, point}
 
@@ -64,9 +64,9 @@ all-next : (m s : ℕ) (rest : List ℕ) → allButLast m (s ∷ rest) ≡ true 
 all-next m s [] e = refl
 all-next m s (t ∷ rest) e = and-right (leb m s) (allButLast m (t ∷ rest)) e
 
-roomy-next : (m : ℕ) (rest : List ℕ) → allButLast m rest ≡ true → roomy m rest ≡ true
-roomy-next m [] e = refl
-roomy-next m (s ∷ rest) e = all-next m s rest e
+innerLong-next : (m : ℕ) (rest : List ℕ) → allButLast m rest ≡ true → innerLong m rest ≡ true
+innerLong-next m [] e = refl
+innerLong-next m (s ∷ rest) e = all-next m s rest e
 
 -- ---- one place, for keywords that are not empty and no longer than m + 1
 
@@ -75,7 +75,7 @@ module _ (keywords : List (List ℕ)) (m : ℕ) (ok : noneEmpty keywords ≡ tru
   unfolding recordsOf
   record-at c k h = getD-map (λ keyword. recordOf keyword c) keywords k [] emptyRecord h
 
-  -- what the join asks of the next record, cut at the seam
+  -- what the join asks of the next record, cut at the border
   into-split : (c : List ℕ) (cs : List (List ℕ)) (at k : ℕ) → k < length keywords
       → crossesInto (keywordAt keywords k) k (recordsOf keywords c) (map (recordsOf keywords) cs) at
       ≡ (starts (keywordAt keywords k) (prefixOf (keywordAt keywords k) c) (length c - at) && ends (keywordAt keywords k) (length c - at) cs)
@@ -101,8 +101,8 @@ module _ (keywords : List (List ℕ)) (m : ℕ) (ok : noneEmpty keywords ≡ tru
   -- ---- one file
 
   module _ (file : ℕ) (text : List ℕ) where
-    from-true : (base : ℕ) (cs : List (List ℕ)) → roomy m (map length cs) ≡ true → drop base text ≡ joined cs
-        → each (λ at. hits file (length keywords) (λ k. occursAt (keywordAt keywords k) text at) at) base (length (joined cs))
+    from-true : (base : ℕ) (cs : List (List ℕ)) → innerLong m (map length cs) ≡ true → drop base text ≡ joined cs
+        → each (λ at. occurrencesAt file (length keywords) (λ k. occursAt (keywordAt keywords k) text at) at) base (length (joined cs))
         ≡ joinFrom file keywords base (map (recordsOf keywords) cs)
     unfolding joinFrom recordsOf
     from-true base [] e d = refl
@@ -111,11 +111,11 @@ module _ (keywords : List (List ℕ)) (m : ℕ) (ok : noneEmpty keywords ≡ tru
         rw (length-append, each-append)
         (ap₂ {C = List Occurrence} (λ x y. x ++ y)
         (each-match _ _ base 0 (length c) (λ p hp. rw zero-add
-        (hits-same file (length keywords) (base + p) _ _ (λ k hk. rw (← drop-drop p base text, d) (listed-true c cs p k e hk hp)))))
-        (from-true (base + length c) cs (roomy-next m (map length cs) e) next))
+        (occurrencesAt-same file (length keywords) (base + p) _ _ (λ k hk. rw (← drop-drop p base text, d) (listed-true c cs p k e hk hp)))))
+        (from-true (base + length c) cs (innerLong-next m (map length cs) e) next))
 
   -- the join of the records of a file's chunks lists what a direct search of the file finds
-  pub join-is-search-file : (file : ℕ) (chunks : List (List ℕ)) → roomy m (map length chunks) ≡ true
+  pub join-is-search-file : (file : ℕ) (chunks : List (List ℕ)) → innerLong m (map length chunks) ≡ true
       → joinFile file keywords (map (recordsOf keywords) chunks) ≡ occurrencesIn file keywords (joined chunks)
   unfolding occurrencesIn
   join-is-search-file file chunks e = sym (from-true file (joined chunks) 0 chunks e refl)
@@ -150,7 +150,7 @@ module _ (flag : ℕ) where
   records-folded keywords (c ∷ cs) = rw (records-folded keywords cs)
 
   module _ (keywords : List (List ℕ)) (m : ℕ) (ok : noneEmpty keywords ≡ true) (covers : longest keywords - 1 ≤ m) where
-    one : (file : ℕ) (cs : List (List ℕ)) → roomy m (map length cs) ≡ true
+    one : (file : ℕ) (cs : List (List ℕ)) → innerLong m (map length cs) ≡ true
         → joinFile file (foldedAll flag keywords) (map (λ c. recordsOf (foldedAll flag keywords) (folded flag c)) cs)
         ≡ occurrencesIn file (foldedAll flag keywords) (folded flag (joined cs))
     one file cs e =
@@ -158,26 +158,26 @@ module _ (flag : ℕ) where
         (join-is-search-file (foldedAll flag keywords) m (rw noneEmpty-folded ok) (rw longest-folded covers) file (map (folded flag) cs) (rw lengths-folded e))
 
     -- files are lists of chunks; m is what an inner chunk must have
-    pub join-is-search : (file : ℕ) (files : List (List (List ℕ))) → every (λ cs. roomy m (map length cs)) files ≡ true
+    pub join-is-search : (file : ℕ) (files : List (List (List ℕ))) → every (λ cs. innerLong m (map length cs)) files ≡ true
         → joinFiles file (foldedAll flag keywords) (map (map (λ c. recordsOf (foldedAll flag keywords) (folded flag c))) files)
         ≡ occurrencesInAll file (foldedAll flag keywords) (map (λ cs. folded flag (joined cs)) files)
     unfolding joinFiles occurrencesInAll
     join-is-search file [] e = refl
     join-is-search file (cs ∷ rest) e =
         ap₂ {C = List Occurrence} (λ x y. x ++ y)
-        (one file cs (and-left (roomy m (map length cs)) (every (λ cs. roomy m (map length cs)) rest) e))
-        (join-is-search (suc file) rest (and-right (roomy m (map length cs)) (every (λ cs. roomy m (map length cs)) rest) e))
+        (one file cs (and-left (innerLong m (map length cs)) (every (λ cs. innerLong m (map length cs)) rest) e))
+        (join-is-search (suc file) rest (and-right (innerLong m (map length cs)) (every (λ cs. innerLong m (map length cs)) rest) e))
 
 -- ---- a keyword list: what refusal 17 asks of an inner chunk is enough, where records have no sets
 
 module _ (f : Form) (plain : f .sets ≡ false) where
-  pub due-covers : (list : List ℕ) → longest (keywordsOf list) - 1 ≤ due f list
-  unfolding due
-  due-covers list = rw plain (omega arith)
+  pub innerLeast-covers : (list : List ℕ) → longest (keywordsOf list) - 1 ≤ innerLeast f list
+  unfolding innerLeast
+  innerLeast-covers list = rw plain (omega arith)
 
   pub scan-join-is-search : (list : List ℕ) (files : List (List (List ℕ))) → noneEmpty (keywordsOf list) ≡ true
-      → every (λ cs. roomy (due f list) (map length cs)) files ≡ true
+      → every (λ cs. innerLong (innerLeast f list) (map length cs)) files ≡ true
       → joinFiles 0 (foldedKeywords list) (map (map (scanRecords list)) files)
       ≡ occurrencesInAll 0 (foldedKeywords list) (map (λ cs. folded (flagOf list) (joined cs)) files)
   unfolding foldedKeywords scanRecords
-  scan-join-is-search list files ok e = join-is-search (flagOf list) (keywordsOf list) (due f list) ok (due-covers list) 0 files e
+  scan-join-is-search list files ok e = join-is-search (flagOf list) (keywordsOf list) (innerLeast f list) ok (innerLeast-covers list) 0 files e

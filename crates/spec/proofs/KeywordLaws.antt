@@ -10,14 +10,15 @@ use lib.Dec.{eqb, ltb}
 use lib.ListN.{length, drop, getD, length-drop, length-map, List·getD-map}
 use lib.Seq.{length-take-le}
 use Rattle.spec.specs.Bytes.{twice}
-use Rattle.spec.specs.Keywords.{folded, foldedAll, countOf, flagOf, readKeywords, keywordsSize, keywordsOf, listSize, foldedKeywords, readCode, headerWrong, keywordCode, keywordFrontCode}
+use Rattle.spec.specs.Keywords.{folded, foldedAll, countOf, flagOf, readKeywords, keywordsSize, keywordsOf, listSize, foldedKeywords, readCode}
+use Rattle.spec.specs.Keywords.{headerWrong, keywordCode, keywordFrontCode}
 use Rattle.spec.proofs.Codes.{passed, passed-whole, all-passed, all-passed-whole, or-left, or-right}
 use Rattle.spec.proofs.Folding.{folded-length}
 
 -- ---- the reading
 
 pub record Step (count n : ℕ) (bytes : List ℕ) : Type 0 where
-  pub some : 1 ≤ n
+  pub nonempty : 1 ≤ n
   pub most : n ≤ 32
   pub room : n ≤ length bytes
   pub rest : readCode count (drop n bytes) ≡ 0
@@ -28,7 +29,7 @@ read-step count n bytes e =
     let b = passed _ 1 _ (omega arith) (a .1) in
     let c = passed-whole _ _ (b .1) in
     record {
-      some = omega (arith, eqb-false n 0 (or-left (eqb n 0) (ltb 32 n) (a .0)));
+      nonempty = omega (arith, eqb-false n 0 (or-left (eqb n 0) (ltb 32 n) (a .0)));
       most = ltb-false 32 n (or-right (eqb n 0) (ltb 32 n) (a .0));
       room = ltb-false (length bytes) n (b .0);
       rest = c .0;
@@ -67,14 +68,14 @@ read-proper (suc count) [] e k h = absurd (read-absent count e)
 read-proper (suc count) (n ∷ bytes) e zero h =
     let s = read-step count n bytes e in
     let l = length-take-le n bytes (s .room) in
-    (omega (arith, s .some), omega (arith, s .most))
+    (omega (arith, s .nonempty), omega (arith, s .most))
 read-proper (suc count) (n ∷ bytes) e (suc k) h = read-proper count (drop n bytes) (read-step count n bytes e .rest) k (omega arith)
 
 -- ---- an accepted list
 
 pub record Accepted (list : List ℕ) : Type 0 where
   pub header : 2 ≤ length list
-  pub some : 1 ≤ countOf list
+  pub nonempty : 1 ≤ countOf list
   pub most : countOf list ≤ 16
   pub flag : flagOf list ≤ 1
   pub count : length (keywordsOf list) ≡ countOf list
@@ -98,7 +99,7 @@ accepted list e =
     let most = ltb-false 16 (countOf list) (or-right (eqb (countOf list) 0) (ltb 16 (countOf list)) counts) in
     record {
       header = header;
-      some = omega (arith, eqb-false (countOf list) 0 (or-left (eqb (countOf list) 0) (ltb 16 (countOf list)) counts));
+      nonempty = omega (arith, eqb-false (countOf list) 0 (or-left (eqb (countOf list) 0) (ltb 16 (countOf list)) counts));
       most = most;
       flag = ltb-false 1 (flagOf list) (or-right (eqb (countOf list) 0 || ltb 16 (countOf list)) (ltb 1 (flagOf list)) (b .0));
       count = read-count (countOf list) (drop 2 list) (c .0);

@@ -11,7 +11,8 @@ use lib.Dec.{ltb}
 use lib.ListN.{length, take, drop, length-append, length-take, take-append-drop}
 use lib.Seq.{take-append-le, drop-append-le, take-add, drop-at, length-take-le}
 use Rattle.spec.specs.Bytes.{twice}
-use Rattle.spec.specs.Keywords.{foldedAll, countOf, flagOf, readKeywords, keywordsSize, keywordsOf, listSize, foldedKeywords, readCode, headerWrong, keywordCode, keywordFrontCode}
+use Rattle.spec.specs.Keywords.{foldedAll, countOf, flagOf, readKeywords, keywordsSize, keywordsOf, listSize, foldedKeywords, readCode}
+use Rattle.spec.specs.Keywords.{headerWrong, keywordCode, keywordFrontCode}
 use Rattle.spec.proofs.Codes.{passed}
 use Rattle.spec.proofs.Splices.{drop-take}
 use Rattle.spec.proofs.KeywordLaws.{read-step, read-absent, read-room, accepted, keyword-front}
@@ -42,7 +43,7 @@ module _ (rest : List ℕ) where
   code-front (suc count) [] e = absurd (read-absent count e)
   code-front (suc count) (n ∷ bytes) e =
       let s = read-step count n bytes e in
-      step-passes count n (bytes ++ rest) (s .some) (s .most) (omega (arith, s .room, length-append bytes rest))
+      step-passes count n (bytes ++ rest) (s .nonempty) (s .most) (omega (arith, s .room, length-append bytes rest))
       (rw (drop-append-le n bytes rest (s .room)) (code-front count (drop n bytes) (s .rest)))
 
 -- a take across a place, from there on
@@ -54,7 +55,7 @@ code-taken (suc count) (n ∷ bytes) e =
     let s = read-step count n bytes e in
     let r : n ≤ length bytes = s .room in
     let l : n ≤ length (take (n + keywordsSize count (drop n bytes)) bytes) = rw length-take (omega arith) in
-    rw suc-add (step-passes count n (take (n + keywordsSize count (drop n bytes)) bytes) (s .some) (s .most) l
+    rw suc-add (step-passes count n (take (n + keywordsSize count (drop n bytes)) bytes) (s .nonempty) (s .most) l
     (rw (drop-take n (keywordsSize count (drop n bytes)) bytes) (code-taken count (drop n bytes) (s .rest))))
 
 pub size-taken : (count : ℕ) (bytes : List ℕ) → readCode count bytes ≡ 0 → keywordsSize count (take (keywordsSize count bytes) bytes) ≡ keywordsSize count bytes

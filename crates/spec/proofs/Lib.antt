@@ -7,7 +7,7 @@ pub mod FieldLists
 pub mod Splices
 pub mod ListBytes
 pub mod Folding
-pub mod Hits
+pub mod OccurrencesAt
 pub mod Rising
 pub mod Sets
 pub mod Same
@@ -16,7 +16,7 @@ pub mod Stream
 pub mod Codes
 pub mod JoinIsSearch
 pub mod EntryLaws
-pub mod Seams
+pub mod KnownBytes
 pub mod WrittenEntries
 pub mod KeywordLaws
 pub mod KeywordReads

@@ -8,13 +8,13 @@ use native.Mathlib.Nat.{add-zero}
 use native.Mathlib.Omega.{arith}
 use lib.ListN.{length, take, drop, getD, length-take, length-drop, take-append-drop}
 use lib.Seq.{drop-drop, drop-length, length-take-le}
-use Rattle.spec.specs.Bytes.{part, fieldAt, leBytes}
+use Rattle.spec.specs.Bytes.{part, fieldAt, leBytes, AllBytes}
 use Rattle.spec.specs.Keywords.{listSize}
 use Rattle.spec.specs.Directory.{sizeAt, offsetAt, lengthAt, pointedAt, entriesCode}
 use Rattle.spec.specs.Store.{chunkCount}
 use Rattle.spec.specs.Records.{Form, bodyBytes}
-use Rattle.spec.specs.Index.{Entry, directoryBytes, indexBytes, listIn, indexLayout, indexKeys, bodyAt, lengthsIn, indexRecords}
-use Rattle.spec.proofs.FieldLists.{AllBytes, bytes-drop, leBytes-take}
+use Rattle.spec.specs.Index.{Entry, directoryBytes, indexBytes, listIn, indexLayout, indexKeys, bodyAt, lengthsIn, indexRecords, entryBytes, listBytesIn}
+use Rattle.spec.proofs.FieldLists.{bytes-drop, leBytes-take}
 use Rattle.spec.proofs.EntryLaws.{entries-step, entries-last, keyIn-at}
 use Rattle.spec.proofs.KeywordLaws.{accepted}
 use Rattle.spec.proofs.RecordLaws.{good-is-written}
@@ -65,7 +65,7 @@ module _ (index : List ℕ) (start : ℕ) where
       directory-is : (n k at : ℕ) → entriesCode (entryLayout start) index most code n k at ≡ 0 → start + 32 * (k + n) ≤ length index
           → ((e : ℕ) → k ≤ e → e < k + n → offsetAt (entryLayout start) index e + lengthAt (entryLayout start) index e ≤ length index)
           → drop (start + 32 * k) index ≡ directoryBytes at (tabulated entryIn k n) ++ drop (start + 32 * (k + n)) index
-      unfolding directoryBytes
+      unfolding directoryBytes entryBytes
       directory-is zero k at e h w = rw add-zero
       directory-is (suc n) k at e h w =
           let s = entries-step (entryLayout start) index most code n k at p e in
@@ -87,10 +87,6 @@ module _ (index : List ℕ) (start : ℕ) where
           ∙ rw (bodies-are n (suc k) (at + lengthAt (entryLayout start) index k) (s .3), s .2)
 
 -- ---- a checked index
-
--- The keyword list's own bytes.
-abbrev pub listBytesIn : List ℕ → List ℕ
-listBytesIn index = take (listSize (listIn index)) (listIn index)
 
 -- What an index says of the chunk of entry k, as an entry that a writer takes.
 unfoldable pub entryOf : Form → List ℕ → ℕ → Entry

@@ -1,5 +1,5 @@
 -- What the record of a chunk and a keyword says at one offset. The chunk's last bytes are the keyword's first exactly if the recorded prefix says
--- so, its first bytes the rest of the keyword exactly if the recorded suffix does; a cell is cut at its seam into these two. Assumes nothing.
+-- so, its first bytes the rest of the keyword exactly if the recorded suffix does; a cell is cut at the border into these two. Assumes nothing.
 use mathlib.Core.Path.{_≡_, refl, sym, ap, _∙_}
 use mathlib.Core.Logic.{_⊎_, inl, inr}
 use mathlib.Core.Bool.{Bool, true, false, _&&_, _||_, or-false}
@@ -84,7 +84,7 @@ module _ (w c : List ℕ) where
           (rw n at (suffix-over (length w - p) l (omega arith) m)) ∙ sym (begins-short (drop p w) (drop (length w - suffixOf w c) w) (simp length-drop (omega arith)))
       go (inr l) (inr m) = begins-short (drop p w) c (simp length-drop m) ∙ sym (begins-short (drop p w) (drop (length w - suffixOf w c) w) (simp length-drop (omega arith)))
 
--- the cell, cut at the seam
+-- the cell, cut at the border
 pub crosses-split : (w : List ℕ) (i j left : ℕ) → i ≤ length w
     → crosses w i j left ≡ (starts w i left && begins (drop left w) (drop (length w - j) w))
 unfolding crosses inCell starts

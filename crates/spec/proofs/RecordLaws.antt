@@ -11,8 +11,9 @@ use lib.Dec.{eqb, leb, ltb, eqb→eq, leb→le, ltb→lt, leb·zero, eqb·suc-ze
 use lib.ListN.{length, take, drop, getD, length-append, length-drop, take-append-drop}
 use lib.Seq.{take-at, drop-at, drop-drop}
 use Rattle.spec.specs.Bytes.{leValue, leBytes, fieldAt, fieldsOf, fieldsBytes, same, begins, rising, every}
-use Rattle.spec.specs.Records.{MatchRecord, emptyRecord, Form, form1, isEmpty, isTiny, reach, inRange, kindOf, offsetsBytes, fullBytes, tinyBytes, recordBytes, bodyFrom, bodyBytes, readOffsets, readRecord, recordSize, readFrom, readBody, allInRange, goodBody}
-use Rattle.spec.specs.Steps.{goodFrom, recordGood}
+use Rattle.spec.specs.Records.{MatchRecord, emptyRecord, Form, form1, isEmpty, isTiny, reach, inRange, kindOf, offsetsBytes, fullBytes}
+use Rattle.spec.specs.Records.{tinyBytes, recordBytes, bodyFrom, bodyBytes, readOffsets, readRecord, recordSize, readFrom, readBody, allInRange}
+use Rattle.spec.specs.Records.{goodBody, headBytes}
 use Rattle.spec.proofs.Tests.{le-or-lt, T-of, and-left, and-right, leb-true, leb-false, eqb-same, eqb-ne, bool-cases, le-of-and}
 use Rattle.spec.proofs.Same.{same-eq, same-of, same-refl}
 use Rattle.spec.proofs.Fields.{length-leBytes, leValue-leBytes}
@@ -217,13 +218,13 @@ module _ (f : Form) (k p s : ℕ) where
 -- a full record with bytes behind it
 pub full-laid : (f : Form) (k : ℕ) (r : MatchRecord) (rest : List ℕ)
     → fullBytes f k r ++ rest ≡ laid f k (kindOf (length (r .offsets))) (r .prefix) (r .suffix) (min (length (r .offsets)) 255) (r .offsets) rest
-unfolding fullBytes
+unfolding fullBytes headBytes
 full-laid f k r rest =
     ap {B = List ℕ} (λ t. k ∷ kindOf (length (r .offsets)) ∷ r .prefix ∷ r .suffix ∷ min (length (r .offsets)) 255 ∷ t)
     (append-assoc (leBytes (f .width) (getD (r .offsets) 0 0)) (offsetsBytes f (r .offsets)) rest)
 
 pub length-full : (f : Form) (k : ℕ) (r : MatchRecord) → length (fullBytes f k r) ≡ 5 + (f .width + length (offsetsBytes f (r .offsets)))
-unfolding fullBytes
+unfolding fullBytes headBytes
 length-full f k r = rw (length-append, length-leBytes) (omega arith)
 
 -- which of the written forms a record has
@@ -249,11 +250,11 @@ module _ (f : Form) (n k : ℕ) (r : MatchRecord) where
 
 -- a record that is written starts with its keyword's number
 pub begins-some : (f : Form) (n k j : ℕ) (r : MatchRecord) → isEmpty r ≡ false → (rest : List ℕ) → begins (j ∷ []) (recordBytes f n k r ++ rest) ≡ eqb j k
-begins-some f n k j r some rest = go (bool-cases (isTiny f n r))
+begins-some f n k j r nonempty rest = go (bool-cases (isTiny f n r))
   where
     go : (isTiny f n r ≡ true) ⊎ (isTiny f n r ≡ false) → begins (j ∷ []) (recordBytes f n k r ++ rest) ≡ eqb j k
     go (inl e) = rw (written-tiny f n k r e) (and-true (eqb j k))
-    go (inr e) = rw (written-full f n k r some e, full-laid f k r rest) (and-true (eqb j k))
+    go (inr e) = rw (written-full f n k r nonempty e, full-laid f k r rest) (and-true (eqb j k))
 
 -- ---- the tiny byte
 
@@ -284,7 +285,7 @@ module _ (f : Form) (good : FormGood f) (n size k : ℕ) (positive : 1 ≤ n) (f
       (λ x t. let l : x + n ≤ size = le-of (x + n) size t in leb-true (suc x) (256 ^ f .width) (omega (arith, good .fits)))
       e
 
-  module _ (r : MatchRecord) (within : inRange n size r ≡ true) (some : isEmpty r ≡ false) (rest : List ℕ) where
+  module _ (r : MatchRecord) (within : inRange n size r ≡ true) (nonempty : isEmpty r ≡ false) (rest : List ℕ) where
     few : length (r .offsets) < 256 ^ f .width
     few = omega (arith, good .fits, offsets-count n size (r .offsets) positive (offsets-rise n size r within) (offsets-in n size r within))
 
@@ -296,7 +297,7 @@ module _ (f : Form) (good : FormGood f) (n size k : ℕ) (positive : 1 ≤ n) (f
       where
         go : (isTiny f n r ≡ true) ⊎ (isTiny f n r ≡ false) → readRecord f (recordBytes f n k r ++ rest) ≡ r
         go (inl e) = rw (written-tiny f n k r e) (read-tiny f good n k r e rest)
-        go (inr e) = rw (written-full f n k r some e, full-laid f k r rest) (read-laid f k (r .prefix) (r .suffix) (r .offsets) rest below few)
+        go (inr e) = rw (written-full f n k r nonempty e, full-laid f k r rest) (read-laid f k (r .prefix) (r .suffix) (r .offsets) rest below few)
 
     pub size-written : recordSize f (recordBytes f n k r ++ rest) ≡ length (recordBytes f n k r)
     size-written = go (bool-cases (isTiny f n r))
@@ -304,11 +305,11 @@ module _ (f : Form) (good : FormGood f) (n size k : ℕ) (positive : 1 ≤ n) (f
         go : (isTiny f n r ≡ true) ⊎ (isTiny f n r ≡ false) → recordSize f (recordBytes f n k r ++ rest) ≡ length (recordBytes f n k r)
         go (inl e) = rw (written-tiny f n k r e) (size-tiny f n k r rest)
         go (inr e) =
-            rw (written-full f n k r some e, full-laid f k r rest)
+            rw (written-full f n k r nonempty e, full-laid f k r rest)
             (size-laid f k (r .prefix) (r .suffix) (r .offsets) rest few ∙ sym (length-full f k r))
 
     pub begins-written : begins (k ∷ []) (recordBytes f n k r ++ rest) ≡ true
-    begins-written = rw (begins-some f n k k r some rest) (eqb-same k)
+    begins-written = rw (begins-some f n k k r nonempty rest) (eqb-same k)
 
 -- ---- bodies
 
@@ -327,10 +328,6 @@ body-begins f j k (n ∷ lengths) (r ∷ records) l = go (bool-cases (isEmpty r)
         → begins (j ∷ []) (recordBytes f n k r ++ bodyFrom f (suc k) lengths records) ≡ false
     go (inl e) ih = rw (written-empty f n k r e) ih
     go (inr e) ih = rw (begins-some f n k j r e (bodyFrom f (suc k) lengths records)) (eqb-ne j k (omega arith))
-
-pub good-is-from : (f : Form) (lengths : List ℕ) (size : ℕ) (body : List ℕ) → goodBody f lengths size body ≡ goodFrom f 0 lengths size body
-unfolding goodBody goodFrom
-good-is-from f lengths size body = refl
 
 module _ (f : Form) (good : FormGood f) (size : ℕ) (fit : size ≤ f .longestChunk) where
   -- written records read back as the same records
@@ -384,58 +381,3 @@ pub one-written-form : (f : Form) (lengths : List ℕ) (size size′ : ℕ) (bod
     → readBody f (length lengths) body ≡ readBody f (length lengths) body′ → body ≡ body′
 one-written-form f lengths size size′ body body′ e e′ q =
     good-is-written f lengths size body e .0 ∙ ap (bodyBytes f lengths) q ∙ sym (good-is-written f lengths size′ body′ e′ .0)
-
--- ---- the body check, keyword by keyword
-
-pub good-end : (f : Form) (k size : ℕ) (bytes : List ℕ) → goodFrom f k [] size bytes ≡ eqb (length bytes) 0
-unfolding goodFrom bodyFrom readFrom allInRange
-good-end f k size [] = refl
-good-end f k size (b ∷ bytes) = sym (eqb·suc-zero (length bytes))
-
--- the next number is not the keyword's: its record is empty
-pub good-absent : (f : Form) (k n : ℕ) (lengths : List ℕ) (size : ℕ) (bytes : List ℕ) → begins (k ∷ []) bytes ≡ false
-    → goodFrom f k (n ∷ lengths) size bytes ≡ goodFrom f (suc k) lengths size bytes
-unfolding goodFrom bodyFrom readFrom allInRange inRange recordBytes
-good-absent f k n lengths size bytes e = rw (e, leb·zero (reach n size))
-
--- two parts are the whole exactly if each is its part of it, where the first part's length is known once they are the whole
-parts-same : (x y bytes : List ℕ) (s : ℕ) (i j : Bool) → (x ++ y ≡ bytes → i ≡ true → s ≡ length x)
-    → (same (x ++ y) bytes && (i && j)) ≡ (same x (take s bytes) && i && (same y (drop s bytes) && j))
-parts-same x y bytes s i j size = bool-ext (same (x ++ y) bytes && (i && j)) (same x (take s bytes) && i && (same y (drop s bytes) && j)) there back
-  where
-    there : (same (x ++ y) bytes && (i && j)) ≡ true → (same x (take s bytes) && i && (same y (drop s bytes) && j)) ≡ true
-    there e =
-        let w : x ++ y ≡ bytes = same-eq (x ++ y) bytes (and-left (same (x ++ y) bytes) (i && j) e) in
-        let ij = and-right (same (x ++ y) bytes) (i && j) e in
-        let l : length x ≡ s = sym (size w (and-left i j ij)) in
-        rw (← w, take-at x y s l, drop-at x y s l, same-refl x, same-refl y, and-left i j ij, and-right i j ij)
-
-    back : (same x (take s bytes) && i && (same y (drop s bytes) && j)) ≡ true → (same (x ++ y) bytes && (i && j)) ≡ true
-    back e =
-        let a = and-left (same x (take s bytes) && i) (same y (drop s bytes) && j) e in
-        let b = and-right (same x (take s bytes) && i) (same y (drop s bytes) && j) e in
-        let p : x ≡ take s bytes = same-eq x (take s bytes) (and-left (same x (take s bytes)) i a) in
-        let q : y ≡ drop s bytes = same-eq y (drop s bytes) (and-left (same y (drop s bytes)) j b) in
-        let w : x ++ y ≡ bytes = ap₂ {C = List ℕ} (λ u v. u ++ v) p q ∙ take-append-drop s bytes in
-        rw (w, same-refl bytes, and-right (same x (take s bytes)) i a, and-right (same y (drop s bytes)) j b)
-
--- the next number is the keyword's: a record, and the bytes behind it
-module _ (f : Form) (good : FormGood f) (k n : ℕ) (lengths : List ℕ) (size : ℕ) (bytes : List ℕ) (positive : 1 ≤ n) (fit : size ≤ f .longestChunk) (here : begins (k ∷ []) bytes ≡ true) where
-  -- a record in range that starts the bytes takes as many of them as its head says; it is not empty, as what follows starts above k
-  here-size : (r : MatchRecord) (records : List MatchRecord) → recordBytes f n k r ++ bodyFrom f (suc k) lengths records ≡ bytes → inRange n size r ≡ true
-      → recordSize f bytes ≡ length (recordBytes f n k r)
-  here-size r records w within = go (bool-cases (isEmpty r))
-    where
-      go : (isEmpty r ≡ true) ⊎ (isEmpty r ≡ false) → recordSize f bytes ≡ length (recordBytes f n k r)
-      go (inl e) =
-          let z : bodyFrom f (suc k) lengths records ≡ bytes = rw (written-empty f n k r e) at w in
-          absurd (false≢true (sym (body-begins f k (suc k) lengths records (omega arith)) ∙ rw z here))
-      go (inr e) = rw (← w) (size-written f good n size k positive fit r within e (bodyFrom f (suc k) lengths records))
-
-  pub good-here : goodFrom f k (n ∷ lengths) size bytes ≡ (recordGood f n k size bytes && goodFrom f (suc k) lengths size (drop (recordSize f bytes) bytes))
-  unfolding goodFrom bodyFrom readFrom allInRange recordGood
-  good-here =
-      let records = readFrom f (suc k) (length lengths) (drop (recordSize f bytes) bytes) in
-      let r = readRecord f bytes in
-      rw here
-      (parts-same (recordBytes f n k r) (bodyFrom f (suc k) lengths records) bytes (recordSize f bytes) (inRange n size r) (allInRange size lengths records) (here-size r records))

@@ -26,7 +26,8 @@ use Rattle.spec.proofs.RecordRanges.{records-in-range}
 use Rattle.spec.proofs.StoreLaws.{StoreGood, store-good, length-storeKeys, store-key-length, store-size-some, store-size-most, chunk-length}
 use Rattle.spec.proofs.Tabulated.{tabulated, length-tabulated, tabulated-at, tabulated-getD, map-tabulated}
 use Rattle.spec.proofs.WrittenEntries.{Fits, noEntry, Every, SizeIn}
-use Rattle.spec.proofs.IndexLaws.{Writable, index-length, index-mark, index-count, index-list, index-list-bytes, index-layout, index-keys, index-lengths, index-size, index-body, index-entries}
+use Rattle.spec.proofs.IndexLaws.{Writable, index-length, index-mark, index-count, index-list, index-list-bytes, index-layout, index-keys}
+use Rattle.spec.proofs.IndexLaws.{index-lengths, index-size, index-body, index-entries}
 use Rattle.spec.proofs.IndexChecks.{index-passes}
 
 -- ---- forms that a scan can write
@@ -92,7 +93,7 @@ pub record ScanReads (f : Form) (list store index : List ℕ) : Type 0 where
   pub records : (k : ℕ) → k < chunkCount store → indexRecords f index k ≡ scanRecords list (chunkAt store k)
   -- the store's own
   pub chunks : (k : ℕ) → k < chunkCount store → length (chunkAt store k) ≡ sizeAt storeLayout store k
-  pub some : (k : ℕ) → k < chunkCount store → 1 ≤ sizeAt storeLayout store k
+  pub nonempty : (k : ℕ) → k < chunkCount store → 1 ≤ sizeAt storeLayout store k
   pub most : (k : ℕ) → k < chunkCount store → sizeAt storeLayout store k ≤ newest .longestChunk
   pub keyCount : length (storeKeys store) ≡ chunkCount store
   pub differ : twice (storeKeys store) ≡ false
@@ -205,7 +206,7 @@ module _ (f : Form) (form : ScanForm f) (list store : List ℕ) (accept : keywor
           bodies = body-of;
           records = records-are;
           chunks = chunk-length store good;
-          some = store-size-some store good;
+          nonempty = store-size-some store good;
           most = store-size-most store good;
           keyCount = length-storeKeys store;
           differ = good .differ;

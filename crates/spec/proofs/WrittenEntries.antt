@@ -1,5 +1,5 @@
 -- A written directory of an index, and its bodies, are read as they were written. Each law goes through the entries from the front,
--- with the bytes known from the directory's next entry on and from its body on, so that every step is a reading at a seam.
+-- with the bytes known from the directory's next entry on and from its body on, so that every step is a reading of known bytes.
 -- Assumes nothing.
 use mathlib.Core.Path.{_≡_, refl, ap₂, _∙_}
 use mathlib.Core.Bool.{_||_, not}
@@ -13,10 +13,10 @@ use lib.Dec.{eqb, ltb}
 use Rattle.spec.specs.Bytes.{part, fieldAt, leBytes, joined}
 use Rattle.spec.specs.Outcome.{firstOf, whole}
 use Rattle.spec.specs.Directory.{Layout, keysOf, sizeAt, lengthAt, entriesCode}
-use Rattle.spec.specs.Index.{Entry, directoryBytes}
+use Rattle.spec.specs.Index.{Entry, directoryBytes, entryBytes}
 use Rattle.spec.proofs.Fields.{length-leBytes}
 use Rattle.spec.proofs.Tests.{eqb-same, eqb-ne, leb-false}
-use Rattle.spec.proofs.Seams.{part-seam, next-seam, field-seam, next-field}
+use Rattle.spec.proofs.KnownBytes.{part-here, behind-part, field-here, behind-field}
 
 -- ---- entries that can be written
 
@@ -42,7 +42,7 @@ every-tail : (P : Entry → Type 0) (e : Entry) (es : List Entry) → Every P (e
 every-tail P e es h k l = h (suc k) (omega arith)
 
 pub length-directory : (at : ℕ) (es : List Entry) → Every Fits es → length (directoryBytes at es) ≡ 32 * length es
-unfolding directoryBytes
+unfolding directoryBytes entryBytes
 length-directory at [] fit = refl
 length-directory at (e ∷ es) fit =
     let k : length (e .key) ≡ 20 = every-head Fits e es fit .long in
@@ -52,7 +52,7 @@ length-directory at (e ∷ es) fit =
 pub directory-cons : (at : ℕ) (e : Entry) (es : List Entry) (rest : List ℕ)
     → directoryBytes at (e ∷ es) ++ rest
     ≡ e .key ++ (leBytes 4 (e .size) ++ (leBytes 4 at ++ (leBytes 4 (length (e .body)) ++ (directoryBytes (at + length (e .body)) es ++ rest))))
-unfolding directoryBytes
+unfolding directoryBytes entryBytes
 directory-cons at e es rest = simp append-assoc
 
 -- ---- what is read
@@ -78,16 +78,16 @@ module _ (index : List ℕ) (at b : ℕ) (e : Entry) (es : List Entry) (h : Hold
   d0 = h .directory ∙ directory-cons b e es (h .rest)
 
   d20 : drop (at + 20) index ≡ leBytes 4 (e .size) ++ (leBytes 4 b ++ (leBytes 4 (length (e .body)) ++ (directoryBytes (b + length (e .body)) es ++ h .rest)))
-  d20 = next-seam index at (e .key) _ 20 (every-head Fits e es (h .fit) .long) d0
+  d20 = behind-part index at (e .key) _ 20 (every-head Fits e es (h .fit) .long) d0
 
   d24 : drop (at + 24) index ≡ leBytes 4 b ++ (leBytes 4 (length (e .body)) ++ (directoryBytes (b + length (e .body)) es ++ h .rest))
-  d24 = rw add-assoc at (next-field index (at + 20) 4 (e .size) _ d20)
+  d24 = rw add-assoc at (behind-field index (at + 20) 4 (e .size) _ d20)
 
   d28 : drop (at + 28) index ≡ leBytes 4 (length (e .body)) ++ (directoryBytes (b + length (e .body)) es ++ h .rest)
-  d28 = rw add-assoc at (next-field index (at + 24) 4 b _ d24)
+  d28 = rw add-assoc at (behind-field index (at + 24) 4 b _ d24)
 
   d32 : drop (at + 32) index ≡ directoryBytes (b + length (e .body)) es ++ h .rest
-  d32 = rw add-assoc at (next-field index (at + 28) 4 (length (e .body)) _ d28)
+  d32 = rw add-assoc at (behind-field index (at + 28) 4 (length (e .body)) _ d28)
 
   bodies-length : b + length (e .body) + length (bodiesOf es) ≤ 4294967295
   bodies-length = omega (arith, h .within, length-append (e .body) (bodiesOf es))
@@ -95,11 +95,11 @@ module _ (index : List ℕ) (at b : ℕ) (e : Entry) (es : List Entry) (h : Hold
   pub first-entry : ReadsAs index at b e
   first-entry =
       record {
-        key = part-seam index at (e .key) _ 20 (every-head Fits e es (h .fit) .long) d0;
-        size = field-seam index (at + 20) 4 (e .size) _ (every-head Fits e es (h .fit) .small) d20;
-        offset = field-seam index (at + 24) 4 b _ (omega (arith, bodies-length)) d24;
-        bodyLength = field-seam index (at + 28) 4 (length (e .body)) _ (omega (arith, bodies-length)) d28;
-        body = part-seam index b (e .body) (bodiesOf es) (length (e .body)) refl (h .bodies);
+        key = part-here index at (e .key) _ 20 (every-head Fits e es (h .fit) .long) d0;
+        size = field-here index (at + 20) 4 (e .size) _ (every-head Fits e es (h .fit) .small) d20;
+        offset = field-here index (at + 24) 4 b _ (omega (arith, bodies-length)) d24;
+        bodyLength = field-here index (at + 28) 4 (length (e .body)) _ (omega (arith, bodies-length)) d28;
+        body = part-here index b (e .body) (bodiesOf es) (length (e .body)) refl (h .bodies);
       }
 
   pub next-entries : Holds index (at + 32) (b + length (e .body)) es
@@ -107,7 +107,7 @@ module _ (index : List ℕ) (at b : ℕ) (e : Entry) (es : List Entry) (h : Hold
       record {
         rest = h .rest;
         directory = d32;
-        bodies = next-seam index b (e .body) (bodiesOf es) (length (e .body)) refl (h .bodies);
+        bodies = behind-part index b (e .body) (bodiesOf es) (length (e .body)) refl (h .bodies);
         fit = every-tail Fits e es (h .fit);
         within = bodies-length;
       }

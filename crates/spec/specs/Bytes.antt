@@ -2,11 +2,15 @@
 -- Integers in files are unsigned, least significant byte first (document 01, introduction).
 use mathlib.Core.Bool.{Bool, true, false, _&&_, _||_, cond}
 use mathlib.Core.List.{List, [], _∷_, _++_}
-use Prim.Native.Nat.{ℕ, zero, suc, _+_, _*_, _-_, _/_, _%_}
-use lib.ListN.{length, take, drop}
+use Prim.Native.Nat.{ℕ, zero, suc, _+_, _*_, _-_, _/_, _%_, _<_}
+use lib.ListN.{length, take, drop, getD}
 use lib.Dec.{eqb, leb, ltb}
 
 -- ---- parts and fields
+
+-- The list is one of bytes: every element is below 256.
+abbrev pub AllBytes : List ℕ → Type 0
+AllBytes bytes = (i : ℕ) → getD bytes i 0 < 256
 
 -- The n bytes from `at` (a "stretch"), or as many of them as there are.
 abbrev pub part : List ℕ → ℕ → ℕ → List ℕ

@@ -2,10 +2,10 @@
 use mathlib.Core.Bool.{Bool, true, false, _&&_, _||_, cond}
 use mathlib.Core.List.{List, [], _∷_, _++_, map}
 use Prim.Native.Nat.{ℕ, zero, suc, _+_, _*_, _-_}
-use lib.ListN.{length, getD}
+use lib.ListN.{length, drop, getD}
 use lib.Dec.{leb, ltb}
 use Rattle.spec.specs.declared.Outcome.{Outcome}
-use Rattle.spec.specs.Bytes.{leBytes, written, positionOf, each, keep, member}
+use Rattle.spec.specs.Bytes.{leBytes, fieldAt, written, positionOf, each, keep, member}
 use Rattle.spec.specs.Outcome.{firstOf, whole, answer, unlessRefused, listTooLong}
 use Rattle.spec.specs.Keywords.{foldedKeywords, keywordsOf, longest}
 use Rattle.spec.specs.Directory.{sizeAt}
@@ -26,8 +26,8 @@ abbrev pub keywordAt : List (List ℕ) → ℕ → List ℕ
 keywordAt keywords k = getD keywords k []
 
 -- The keywords, by rising number, that pass the test at one offset.
-unfoldable pub hits : ℕ → ℕ → (ℕ → Bool) → ℕ → List Occurrence
-hits file count test offset = each (λ k. keep (test k) (record { file = file; offset = offset; keyword = k })) 0 count
+unfoldable pub occurrencesAt : ℕ → ℕ → (ℕ → Bool) → ℕ → List Occurrence
+occurrencesAt file count test offset = each (λ k. keep (test k) (record { file = file; offset = offset; keyword = k })) 0 count
 
 -- ---- one place of a file
 
@@ -51,7 +51,7 @@ listed keywords here rest at k = member at (recordAt here k .offsets) || crosses
 unfoldable pub joinFrom : ℕ → List (List ℕ) → ℕ → List ChunkRecords → List Occurrence
 joinFrom file keywords base [] = []
 joinFrom file keywords base (here ∷ rest) =
-    each (λ at. hits file (length keywords) (listed keywords here rest at) (base + at)) 0 (here .size)
+    each (λ at. occurrencesAt file (length keywords) (listed keywords here rest at) (base + at)) 0 (here .size)
     ++ joinFrom file keywords (base + here .size) rest
 
 abbrev pub joinFile : ℕ → List (List ℕ) → List ChunkRecords → List Occurrence
@@ -79,9 +79,14 @@ unfoldable pub listBytes : List Occurrence → List ℕ
 listBytes [] = []
 listBytes (o ∷ os) = occurrenceBytes o ++ listBytes os
 
+-- The occurrences that n runs of 9 bytes say: file (4), offset (4), keyword (1).
+abbrev pub readList : ℕ → List ℕ → List Occurrence
+readList zero bytes = []
+readList (suc n) bytes = record { file = fieldAt bytes 0 4; offset = fieldAt bytes 4 4; keyword = fieldAt bytes 8 1 } ∷ readList n (drop 9 bytes)
+
 -- What an inner chunk must have: the longest keyword's length minus 1; nothing where records have sets.
-unfoldable pub due : Form → List ℕ → ℕ
-due f list = cond (f .sets) 0 (longest (keywordsOf list) - 1)
+unfoldable pub innerLeast : Form → List ℕ → ℕ
+innerLeast f list = cond (f .sets) 0 (longest (keywordsOf list) - 1)
 
 -- The join's refusals before 18: the index check, 14, then file by file 15, 16, 17.
 unfoldable pub joinableCode : Form → List ℕ → List ℕ → ℕ
@@ -89,7 +94,7 @@ joinableCode f index recipes =
     firstOf
     (whole (indexCode f index)
     ∷ whole (recipesCode recipes)
-    ∷ whole (filesCode (indexKeys index) (sizeAt (indexLayout index) index) (due f (listIn index)) (filesOf recipes))
+    ∷ whole (filesCode (indexKeys index) (sizeAt (indexLayout index) index) (innerLeast f (listIn index)) (filesOf recipes))
     ∷ [])
 
 -- The whole refusal, for a buffer of `room` bytes.

@@ -4,7 +4,7 @@ use mathlib.Core.List.{List, [], _∷_, _++_, map}
 use Prim.Native.Nat.{ℕ, zero, suc, _+_, max}
 use lib.ListN.{length, take, drop, getD}
 use lib.Dec.{eqb, leb, ltb}
-use Rattle.spec.specs.Bytes.{twice}
+use Rattle.spec.specs.Bytes.{twice, joined}
 use Rattle.spec.specs.Outcome.{Test, firstOf, whole, keywordsCut, keywordsHeader, keywordLength, keywordsAlike}
 
 -- ---- comparison
@@ -25,6 +25,9 @@ abbrev pub foldedAll : ℕ → List (List ℕ) → List (List ℕ)
 foldedAll flag lists = map (folded flag) lists
 
 -- ---- the list as bytes: keyword count, fold flag, then each keyword's length byte and its bytes
+
+unfoldable pub keywordListBytes : ℕ → List (List ℕ) → List ℕ
+keywordListBytes flag keywords = length keywords ∷ flag ∷ joined (map (λ keyword. length keyword ∷ keyword) keywords)
 
 abbrev pub countOf : List ℕ → ℕ
 countOf list = getD list 0 0

@@ -4,7 +4,6 @@ pub mod Keywords
 pub mod Directory
 pub mod Store
 pub mod Records
-pub mod Steps
 pub mod Index
 pub mod Table
 pub mod Recipes
@@ -12,3 +11,4 @@ pub mod Join
 pub mod Scan
 pub mod Lookup
 pub mod Search
+pub mod Program

@@ -35,8 +35,8 @@ abbrev pub storeEntryWrong : ℕ
 storeEntryWrong = 7
 
 -- A fingerprint is twice in the store.
-abbrev pub storeTwin : ℕ
-storeTwin = 8
+abbrev pub storeDuplicate : ℕ
+storeDuplicate = 8
 
 -- The index is longer than the buffer or than 4,294,967,295 bytes.
 abbrev pub indexTooLong : ℕ
@@ -51,8 +51,8 @@ abbrev pub indexEntryWrong : ℕ
 indexEntryWrong = 11
 
 -- A fingerprint is twice in the index.
-abbrev pub indexTwin : ℕ
-indexTwin = 12
+abbrev pub indexDuplicate : ℕ
+indexDuplicate = 12
 
 -- A body is not good.
 abbrev pub bodyNotGood : ℕ
@@ -112,6 +112,11 @@ codeOf (Refused code) = code
 abbrev pub valueOf : Outcome → ℕ
 valueOf (Done n) = n
 valueOf (Refused code) = 0
+
+-- A number that is lent to be told the value: as it was on a refusal.
+abbrev pub toldValue : Outcome → ℕ → ℕ
+toldValue (Done n) before = n
+toldValue (Refused code) before = before
 
 -- The answer of an operation whose tests give `code`, and whose work gives `value`.
 unfoldable pub answer : ℕ → ℕ → Outcome

@@ -1,14 +1,22 @@
 -- Recipes: document 01, "Recipes and the join", and the tests 14 to 17 of its refusals.
 use mathlib.Core.Bool.{Bool, true, false, _&&_, _||_, not}
-use mathlib.Core.List.{List, [], _∷_, map}
+use mathlib.Core.List.{List, [], _∷_, _++_, map}
 use Prim.Native.Nat.{ℕ, zero, suc, _+_, _*_, _-_}
 use lib.ListN.{length, drop}
 use lib.Dec.{leb, ltb}
-use Rattle.spec.specs.Bytes.{fieldAt, contains, positionOf, every, sum, same}
+use Rattle.spec.specs.Bytes.{leBytes, fieldAt, contains, positionOf, every, sum, joined, same}
 use Rattle.spec.specs.Outcome.{firstOf, firstCode, recipesWrong, notFound, fileTooLong, innerChunkShort}
 use Rattle.spec.specs.Directory.{keysOf}
 
 -- ---- the file
+
+-- A file: its chunk count (4) and the fingerprints that it names.
+unfoldable pub fileBytes : List (List ℕ) → List ℕ
+fileBytes file = leBytes 4 (length file) ++ joined file
+
+-- The file count (4), then file by file.
+unfoldable pub recipesBytes : List (List (List ℕ)) → List ℕ
+recipesBytes files = leBytes 4 (length files) ++ joined (map fileBytes files)
 
 abbrev pub fileCount : List ℕ → ℕ
 fileCount recipes = fieldAt recipes 0 4
@@ -53,23 +61,23 @@ allButLast m (s ∷ []) = true
 allButLast m (s ∷ t ∷ rest) = leb m s && allButLast m (t ∷ rest)
 
 -- No chunk that is neither first nor last is shorter than m.
-abbrev pub roomy : ℕ → List ℕ → Bool
-roomy m [] = true
-roomy m (s ∷ rest) = allButLast m rest
+abbrev pub innerLong : ℕ → List ℕ → Bool
+innerLong m [] = true
+innerLong m (s ∷ rest) = allButLast m rest
 
--- `keys` are a directory's fingerprints, `sizeOf` gives the chunk's length by entry, `due` is what an inner chunk must have.
-module _ (keys : List (List ℕ)) (sizeOf : ℕ → ℕ) (due : ℕ) where
-  -- The chunks' lengths, in the file's order.
-  abbrev pub sizesIn : List (List ℕ) → List ℕ
-  sizesIn file = map (λ key. sizeOf (positionOf key keys)) file
+-- The lengths of the chunks that a file names, in its order: `keys` are a directory's fingerprints, `sizeOf` gives a chunk's length by entry.
+abbrev pub sizesIn : List (List ℕ) → (ℕ → ℕ) → List (List ℕ) → List ℕ
+sizesIn keys sizeOf file = map (λ key. sizeOf (positionOf key keys)) file
 
+-- The same directory; `least` is the length that an inner chunk must have.
+module _ (keys : List (List ℕ)) (sizeOf : ℕ → ℕ) (least : ℕ) where
   -- Each test over the whole file before the next.
   unfoldable pub fileCode : List (List ℕ) → ℕ
   fileCode file =
       firstOf
       ((not (every (λ key. contains key keys) file), notFound)
-      ∷ (ltb largest32 (sum (sizesIn file)), fileTooLong)
-      ∷ (not (roomy due (sizesIn file)), innerChunkShort)
+      ∷ (ltb largest32 (sum (sizesIn keys sizeOf file)), fileTooLong)
+      ∷ (not (innerLong least (sizesIn keys sizeOf file)), innerChunkShort)
       ∷ [])
 
   -- File by file.

@@ -114,11 +114,14 @@ offsetsBytes f offsets =
     cond (leb (length offsets) 1) []
     (cond (leb (length offsets) 254) [] (leBytes (f .width) (length offsets)) ++ fieldsBytes (f .width) offsets)
 
--- Keyword number, kind, prefix, suffix, count, first offset (0 if none), and the offsets.
-unfoldable pub fullBytes : Form → ℕ → MatchRecord → List ℕ
-fullBytes f k r =
+-- The head of a full record: keyword number, kind, prefix, suffix, count, first offset (0 if none).
+unfoldable pub headBytes : Form → ℕ → MatchRecord → List ℕ
+headBytes f k r =
     k ∷ kindOf (length (r .offsets)) ∷ r .prefix ∷ r .suffix ∷ min (length (r .offsets)) 255 ∷ leBytes (f .width) (getD (r .offsets) 0 0)
-    ++ offsetsBytes f (r .offsets)
+
+-- The head, and the offsets.
+unfoldable pub fullBytes : Form → ℕ → MatchRecord → List ℕ
+fullBytes f k r = headBytes f k r ++ offsetsBytes f (r .offsets)
 
 -- Keyword number, kind 0, the tiny byte.
 abbrev pub tinyBytes : Form → ℕ → MatchRecord → List ℕ

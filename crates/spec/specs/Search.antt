@@ -13,7 +13,7 @@ use Rattle.spec.specs.Directory.{sizeAt}
 use Rattle.spec.specs.Store.{storeLayout, storeKeys, chunkAt}
 use Rattle.spec.specs.Records.{Form}
 use Rattle.spec.specs.Recipes.{filesOf, recipesCode, filesCode}
-use Rattle.spec.specs.Join.{Occurrence, keywordAt, hits, listBytes, due}
+use Rattle.spec.specs.Join.{Occurrence, keywordAt, occurrencesAt, listBytes, innerLeast}
 use Rattle.spec.specs.Scan.{scanIndex, scanCode}
 
 -- ---- the direct search
@@ -21,7 +21,7 @@ use Rattle.spec.specs.Scan.{scanIndex, scanCode}
 -- Every occurrence in one file's bytes: by rising offset, and at one offset by rising keyword.
 unfoldable pub occurrencesIn : ℕ → List (List ℕ) → List ℕ → List Occurrence
 occurrencesIn file keywords text =
-    each (λ at. hits file (length keywords) (λ k. occursAt (keywordAt keywords k) text at) at) 0 (length text)
+    each (λ at. occurrencesAt file (length keywords) (λ k. occursAt (keywordAt keywords k) text at) at) 0 (length text)
 
 -- The same in all files, numbered from `file` on.
 unfoldable pub occurrencesInAll : ℕ → List (List ℕ) → List (List ℕ) → List Occurrence
@@ -50,7 +50,7 @@ unfoldable pub searchJoinCode : Form → List ℕ → List ℕ → List ℕ → 
 searchJoinCode f list store recipes room =
     firstOf
     (whole (recipesCode recipes)
-    ∷ whole (filesCode (storeKeys store) (sizeAt storeLayout store) (due f list) (filesOf recipes))
+    ∷ whole (filesCode (storeKeys store) (sizeAt storeLayout store) (innerLeast f list) (filesOf recipes))
     ∷ (ltb room (9 * length (directSearch list store recipes)), listTooLong)
     ∷ [])
 
@@ -73,18 +73,24 @@ unfoldable pub searchBuffer : Form → List ℕ → List ℕ → List ℕ → �
 searchBuffer f list store recipes indexRoom out =
     unlessRefused (searchCode f list store recipes indexRoom (length out)) (written out (listBytes (directSearch list store recipes))) out
 
--- The number of an answer, 0 for work done; the length of the index that was written; the count.
+-- The number of an answer, 0 for work done; the count.
 abbrev pub searchedCode : Searched → ℕ
 searchedCode (ScanRefused code) = code
 searchedCode (JoinRefused size code) = code
 searchedCode (Found size count) = 0
 
-abbrev pub searchedSize : Searched → ℕ
-searchedSize (ScanRefused code) = 0
-searchedSize (JoinRefused size code) = size
-searchedSize (Found size count) = size
-
 abbrev pub searchedCount : Searched → ℕ
 searchedCount (ScanRefused code) = 0
 searchedCount (JoinRefused size code) = 0
 searchedCount (Found size count) = count
+
+-- Numbers that are lent to be told the length of the index that was written, and the count: as they were where there is none.
+abbrev pub toldSize : Searched → ℕ → ℕ
+toldSize (ScanRefused code) before = before
+toldSize (JoinRefused size code) before = size
+toldSize (Found size count) before = size
+
+abbrev pub toldCount : Searched → ℕ → ℕ
+toldCount (ScanRefused code) before = before
+toldCount (JoinRefused size code) before = before
+toldCount (Found size count) before = count

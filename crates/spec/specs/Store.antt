@@ -1,11 +1,11 @@
 -- Stores: document 01, "Store".
 use mathlib.Core.Bool.{Bool, true, false, _||_, not}
-use mathlib.Core.List.{List, [], _∷_, _++_}
+use mathlib.Core.List.{List, [], _∷_, _++_, map}
 use Prim.Native.Nat.{ℕ, _+_, _*_}
 use lib.ListN.{length, take, drop}
 use lib.Dec.{ltb}
-use Rattle.spec.specs.Bytes.{fieldAt, same, twice, each}
-use Rattle.spec.specs.Outcome.{firstOf, whole, storeMarkWrong, storeDirectoryCut, storeEntryWrong, storeTwin}
+use Rattle.spec.specs.Bytes.{leBytes, fieldAt, same, twice, each, joined}
+use Rattle.spec.specs.Outcome.{firstOf, whole, storeMarkWrong, storeDirectoryCut, storeEntryWrong, storeDuplicate}
 use Rattle.spec.specs.Directory.{Layout, directoryEnd, sizeAt, pointedAt, keysIn, entriesCode}
 use Rattle.spec.specs.Records.{newest}
 
@@ -24,6 +24,27 @@ mostChunks = 65000
 abbrev pub storeLayout : Layout
 storeLayout = record { start = 8; stride = 28; sizeField = 24; offsetField = 20; lengthField = 24 }
 
+-- ---- the written form
+
+-- A chunk under its fingerprint.
+pub record Chunk : Type 0 where
+  pub key : List ℕ
+  pub bytes : List ℕ
+
+-- An entry for each chunk: fingerprint (20), offset (4), length L (4); the chunks lie one after the other from `at` on.
+unfoldable pub storeDirectoryBytes : ℕ → List Chunk → List ℕ
+storeDirectoryBytes at [] = []
+storeDirectoryBytes at (c ∷ cs) = c .key ++ leBytes 4 at ++ leBytes 4 (length (c .bytes)) ++ storeDirectoryBytes (at + length (c .bytes)) cs
+
+-- Mark, chunk count, directory, chunks.
+unfoldable pub storeBytes : List Chunk → List ℕ
+storeBytes chunks =
+    storeMark ++ leBytes 4 (length chunks)
+    ++ storeDirectoryBytes (8 + 28 * length chunks) chunks
+    ++ joined (map (λ c. c .bytes) chunks)
+
+-- ---- reading
+
 -- The fingerprints, by entry.
 unfoldable pub storeKeys : List ℕ → List (List ℕ)
 storeKeys store = keysIn storeLayout store (chunkCount store)
@@ -35,12 +56,13 @@ chunkAt store k = pointedAt storeLayout store k
 unfoldable pub chunksOf : List ℕ → List (List ℕ)
 chunksOf store = each (λ k. chunkAt store k ∷ []) 0 (chunkCount store)
 
--- The store check.
+-- ---- the store check
+
 unfoldable pub storeCode : List ℕ → ℕ
 storeCode store =
     firstOf
     ((ltb (length store) 8 || not (same (take 4 store) storeMark), storeMarkWrong)
     ∷ (ltb mostChunks (chunkCount store) || ltb (length store) (directoryEnd storeLayout (chunkCount store)), storeDirectoryCut)
     ∷ whole (entriesCode storeLayout store (newest .longestChunk) storeEntryWrong (chunkCount store) 0 (directoryEnd storeLayout (chunkCount store)))
-    ∷ (twice (storeKeys store), storeTwin)
+    ∷ (twice (storeKeys store), storeDuplicate)
     ∷ [])

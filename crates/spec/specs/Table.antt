@@ -7,16 +7,16 @@ use Rattle.spec.specs.Bytes.{occursAt}
 use Rattle.spec.specs.Records.{offsetsOf}
 
 -- The keyword's first i bytes followed by its last j.
-abbrev pub seam : List ℕ → ℕ → ℕ → List ℕ
-seam keyword i j = take i keyword ++ drop (length keyword - j) keyword
+abbrev pub borderText : List ℕ → ℕ → ℕ → List ℕ
+borderText keyword i j = take i keyword ++ drop (length keyword - j) keyword
 
 -- The cell for lengths i and j holds every start of the keyword in these.
 unfoldable pub cellOf : List ℕ → ℕ → ℕ → List ℕ
-cellOf keyword i j = offsetsOf keyword (seam keyword i j)
+cellOf keyword i j = offsetsOf keyword (borderText keyword i j)
 
 -- s is in the cell for i and j.
 unfoldable pub inCell : List ℕ → ℕ → ℕ → ℕ → Bool
-inCell keyword i j s = occursAt keyword (seam keyword i j) s
+inCell keyword i j s = occursAt keyword (borderText keyword i j) s
 
 -- A set of small numbers as one number: bit s, worth 2 to the s, for each s below n that passes the test.
 abbrev pub setOf : (ℕ → Bool) → ℕ → ℕ

@@ -19,11 +19,11 @@ use Rattle.spec.proofs.LookupLaws.{lookup-passed, start-found, length-found, st
 use Rattle.spec.proofs.StoreLaws.{store-good, length-storeKeys}
 use Rattle.directory.specs.Chains.{keysFrom, Chained, Lies}
 use Rattle.directory.proofs.ChainLists.{Built, chained}
-use Rattle.store.specs.Examined.{Examined, EntryOf}
+use Rattle.store.specs.Examined.{Examined, StoreEntry}
 
 -- ---- the store check
 
-pub refused-with : (store : List ℕ) (code : ℕ) {heads next : List ℕ} → code ≡ storeCode store → 0 < code → Examined store heads next code
+pub refused-with : (store : List ℕ) (code : ℕ) {heads chain : List ℕ} → code ≡ storeCode store → 0 < code → Examined store heads chain code
 refused-with store code e p = record { number = e; chains = λ z. absurd (omega arith) }
 
 pub short : (store : List ℕ) → length store < 8 → 5 ≡ storeCode store
@@ -61,23 +61,23 @@ module _ (store : List ℕ) (a : 8 ≤ length store) (m : same (take 4 store) st
   entered n q z = sym q ∙ z
 
   module _ (h : c ≤ 65000) (l : 8 + 28 * c ≤ length store) (z : entriesCode storeLayout store 65535 7 c 0 (8 + 28 * c) ≡ 0) where
-    pub twin : twice (keysFrom store 8 28 c) ≡ true → 8 ≡ storeCode store
-    twin t = sym (rest h l ∙ rw (z, t))
+    pub duplicate : twice (keysFrom store 8 28 c) ≡ true → 8 ≡ storeCode store
+    duplicate t = sym (rest h l ∙ rw (z, t))
 
-    pub twin-told : (t : Bool) → t ≡ twice (keysFrom store 8 28 c) → t ≡ true → 8 ≡ storeCode store
-    twin-told t e q = twin (sym e ∙ q)
+    pub duplicate-told : (t : Bool) → t ≡ twice (keysFrom store 8 28 c) → t ≡ true → 8 ≡ storeCode store
+    duplicate-told t e q = duplicate (sym e ∙ q)
 
     pub sound : twice (keysFrom store 8 28 c) ≡ false → 0 ≡ storeCode store
     sound f = sym (rest h l ∙ rw (z, f))
 
     -- all entries are in the index
-    pub examined : (next₀ heads next : List ℕ) (t : Bool) → Built (keysFrom store 8 28 c) next₀ heads next t
-        → 65000 ≤ length next₀ → t ≡ false → Examined store heads next 0
+    pub examined : (chain₀ heads chain : List ℕ) (t : Bool) → Built (keysFrom store 8 28 c) chain₀ heads chain t
+        → 65000 ≤ length chain₀ → t ≡ false → Examined store heads chain 0
     unfolding storeKeys
-    examined next₀ heads next t b r f = record {
+    examined chain₀ heads chain t b r f = record {
       number = sound (sym (b .0) ∙ f);
-      chains = λ _. subst (λ (n : ℕ). Chained (keysFrom store 8 28 n) 0 heads next) e
-          (chained (keysFrom store 8 28 c) heads next next₀ (b .1) (b .2) (omega (arith, length-keys 28 c (drop 8 store))));
+      chains = λ _. subst (λ (n : ℕ). Chained (keysFrom store 8 28 n) 0 heads chain) e
+          (chained (keysFrom store 8 28 c) heads chain chain₀ (b .1) (b .2) (omega (arith, length-keys 28 c (drop 8 store))));
     }
 
 -- ---- the directory of a store, as the crate below takes it
@@ -94,7 +94,7 @@ lies store c z e = let g = store-good store z in record { inside = omega (arith,
 
 -- ---- the entries of a store that passed its check
 
-module _ (store : List ℕ) (k : ℕ) (entry : EntryOf store k) where
+module _ (store : List ℕ) (k : ℕ) (entry : StoreEntry store k) where
   pub entry-room : 8 + 28 * k + 28 ≤ length store
   entry-room = omega (arith, entry .within, store-good store (entry .checked) .room)
 
@@ -113,7 +113,7 @@ module _ (store : List ℕ) (k : ℕ) (entry : EntryOf store k) where
 -- ---- where a lookup's chunk is
 
 -- a fingerprint that is found has an entry
-pub found-entry : (store fp : List ℕ) (k : ℕ) → findChunk store fp ≡ 0 → k ≡ positionOf fp (storeKeys store) → EntryOf store k
+pub found-entry : (store fp : List ℕ) (k : ℕ) → findChunk store fp ≡ 0 → k ≡ positionOf fp (storeKeys store) → StoreEntry store k
 unfolding findChunk
 found-entry store fp k z q =
     let p = lookup-passed (storeCode store) (storeKeys store) fp z in

@@ -6,11 +6,11 @@ use Rattle.spec.specs.Store.{storeKeys, storeCode, chunkCount}
 use Rattle.directory.specs.Chains.{Chained}
 
 -- The store check's number, and where it is 0 the index of the fingerprints.
-pub record Examined (store heads next : List ℕ) (code : ℕ) : Type 0 where
+pub record Examined (store heads chain : List ℕ) (code : ℕ) : Type 0 where
   pub number : code ≡ storeCode store
-  pub chains : storeCode store ≡ 0 → Chained (storeKeys store) 0 heads next
+  pub chains : storeCode store ≡ 0 → Chained (storeKeys store) 0 heads chain
 
 -- An entry of a store that passed its check.
-pub record EntryOf (store : List ℕ) (k : ℕ) : Type 0 where
+pub record StoreEntry (store : List ℕ) (k : ℕ) : Type 0 where
   pub checked : storeCode store ≡ 0
   pub within : k < chunkCount store

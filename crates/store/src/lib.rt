@@ -9,7 +9,7 @@ ghost use Rattle.spec.specs.Directory.{entryField, offsetAt};
 ghost use Rattle.spec.specs.Store.{storeMark, storeLayout, storeKeys, storeCode, chunkCount, chunkAt};
 ghost use Rattle.spec.specs.Lookup.{findChunk, chunkStart, chunkLength, chunkOf};
 ghost use Rattle.directory.specs.Chains.{Empty};
-ghost use Rattle.store.specs.Examined.{Examined, EntryOf};
+ghost use Rattle.store.specs.Examined.{Examined, StoreEntry};
 
 // 44 56 31 0A
 const MARK: [u8; 4] = [0x44, 0x56, 0x31, 0x0A];
@@ -23,7 +23,7 @@ fn marked(store: &[u8]) -> bool
 }
 
 // The chunk count.
-pub fn count(store: &[u8]) -> usize
+pub fn chunk_count(store: &[u8]) -> usize
     requires { ⌜ 8 ≤ length (now store) ⌝ }
     ensures { λ r. ⌜ r ≡ chunkCount (now (store .entry)) ⌝ }
 {
@@ -31,9 +31,9 @@ pub fn count(store: &[u8]) -> usize
 }
 
 // The store check, with document 01's numbers; it leaves the index of the fingerprints in the arrays.
-fn examine(store: &[u8], heads: &mut [u32], next: &mut [u32]) -> u8
-    requires { ⌜ Empty (now heads) (now next) ⌝ }
-    ensures { λ r. ⌜ Examined (now (store .entry)) (now (heads .exit)) (now (next .exit)) r ⌝ }
+fn examine(store: &[u8], heads: &mut [u32], chain: &mut [u32]) -> u8
+    requires { ⌜ Empty (now heads) (now chain) ⌝ }
+    ensures { λ r. ⌜ Examined (now (store .entry)) (now (heads .exit)) (now (chain .exit)) r ⌝ }
 {
     if store.len() < 8 {
         return 5;
@@ -41,7 +41,7 @@ fn examine(store: &[u8], heads: &mut [u32], next: &mut [u32]) -> u8
     if !marked(store) {
         return 5;
     }
-    let c = count(store);
+    let c = chunk_count(store);
     if 65000 < c {
         return 6;
     }
@@ -52,7 +52,7 @@ fn examine(store: &[u8], heads: &mut [u32], next: &mut [u32]) -> u8
     if code != 0 {
         return code;
     }
-    if directory::build(store, 8, 28, c, heads, next) {
+    if directory::build(store, 8, 28, c, heads, chain) {
         return 8;
     }
     0
@@ -63,8 +63,8 @@ pub fn check(store: &[u8]) -> u8
     ensures { λ r. ⌜ r ≡ storeCode (now (store .entry)) ⌝ }
 {
     let mut heads = [0u32; 65536];
-    let mut next = [0u32; 65000];
-    examine(store, &mut heads, &mut next)
+    let mut chain = [0u32; 65000];
+    examine(store, &mut heads, &mut chain)
 }
 
 // The entry of a fingerprint, or the number that refuses the lookup.
@@ -72,16 +72,16 @@ fn locate(store: &[u8], fp: &[u8]) -> spec::Outcome
     ensures { λ r. ⌜ r ≡ answer (findChunk (now (store .entry)) (now (fp .entry))) (positionOf (now (fp .entry)) (storeKeys (now (store .entry)))) ⌝ }
 {
     let mut heads = [0u32; 65536];
-    let mut next = [0u32; 65000];
-    let code = examine(store, &mut heads, &mut next);
+    let mut chain = [0u32; 65000];
+    let code = examine(store, &mut heads, &mut chain);
     if code != 0 {
         return spec::Outcome::Refused(code);
     }
     if fp.len() != 20 {
         return spec::Outcome::Refused(19);
     }
-    let c = count(store);
-    let k = directory::find(store, 8, 28, c, &heads, &next, fp);
+    let c = chunk_count(store);
+    let k = directory::find(store, 8, 28, c, &heads, &chain, fp);
     if k == c {
         return spec::Outcome::Refused(15);
     }
@@ -100,7 +100,7 @@ pub fn find_chunk(store: &[u8], fp: &[u8]) -> u8
 
 // The field of entry k that starts at byte `at` of it.
 fn entry_field(store: &[u8], k: usize, at: usize) -> usize
-    requires { ⌜ EntryOf (now store) k × (at + 4 ≤ 28) ⌝ }
+    requires { ⌜ StoreEntry (now store) k × (at + 4 ≤ 28) ⌝ }
     ensures { λ r. ⌜ r ≡ entryField storeLayout (now (store .entry)) at k ⌝ }
 {
     field::read(store, 8 + 28 * k + at, 4) as usize
@@ -108,7 +108,7 @@ fn entry_field(store: &[u8], k: usize, at: usize) -> usize
 
 // The fingerprint of entry k.
 pub fn key_at(store: &[u8], k: usize) -> &[u8]
-    requires { ⌜ EntryOf (now store) k ⌝ }
+    requires { ⌜ StoreEntry (now store) k ⌝ }
     ensures { λ r. ⌜ now r ≡ getD (storeKeys (now (store .entry))) k [] ⌝ }
 {
     directory::key(store, 8, 28, k)
@@ -116,7 +116,7 @@ pub fn key_at(store: &[u8], k: usize) -> &[u8]
 
 // The chunk of entry k: the store's own slice, uncopied.
 pub fn chunk_at(store: &[u8], k: usize) -> &[u8]
-    requires { ⌜ EntryOf (now store) k ⌝ }
+    requires { ⌜ StoreEntry (now store) k ⌝ }
     ensures { λ r. ⌜ (now r ≡ chunkAt (now (store .entry)) k)
         × (r .ptr .0 ≡ store .entry .ptr .0)
         × (r .ptr .1 ≡ offsetAt storeLayout (now (store .entry)) k + store .entry .ptr .1) ⌝ }

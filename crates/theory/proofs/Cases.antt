@@ -3,25 +3,62 @@ use mathlib.Core.Path.{refl}
 use Prim.Native.Nat.{ℕ}
 use Rattle.spec.specs.Bytes.{leValue, leBytes, fieldsOf, fieldsBytes, splice}
 use Rattle.spec.specs.Outcome.{answer, unlessRefused}
-use Rattle.spec.specs.Keywords.{isUpper, foldByte, folded, keywordsOf, listSize, foldedKeywords, keywordCode, keywordFrontCode}
-use Rattle.spec.specs.Store.{storeKeys, chunkAt, storeCode}
-use Rattle.spec.specs.Records.{reach, prefixOf, suffixOf, offsetsOf, recordOf, recordsOf, inRange, offsetsBytes, fullBytes, recordBytes, bodyFrom, readOffsets, readRecord, recordSize, readFrom, allInRange, goodBody}
-use Rattle.spec.specs.Index.{directoryBytes, indexBytes, indexLayout, indexKeys, bodyAt, lengthsIn, indexRecords, allGood, indexCode}
+use Rattle.spec.specs.Keywords.{isUpper, foldByte, folded, keywordListBytes, keywordsOf, listSize, foldedKeywords, keywordCode, keywordFrontCode}
+use Rattle.spec.specs.Store.{storeDirectoryBytes, storeBytes, storeKeys, chunkAt, storeCode}
+use Rattle.spec.specs.Records.{reach, prefixOf, suffixOf, offsetsOf, recordOf, recordsOf, inRange, offsetsBytes, fullBytes, headBytes, recordBytes}
+use Rattle.spec.specs.Records.{bodyFrom, readOffsets, readRecord, recordSize, readFrom, allInRange, goodBody}
+use Rattle.spec.specs.Index.{directoryBytes, entryBytes, indexBytes, indexLayout, indexKeys, bodyAt, lengthsIn, indexRecords, allGood, headerCode}
+use Rattle.spec.specs.Index.{directoryCode, laidCode, indexCode}
 use Rattle.spec.specs.Table.{cellOf, inCell}
-use Rattle.spec.specs.Recipes.{filesOf, recipesCode, fileCode, filesCode}
-use Rattle.spec.specs.Join.{hits, crosses, listed, joinFrom, joinFiles, fileRecords, joinList, occurrenceBytes, listBytes, due, joinableCode, joinCode, joinOutcome, joinBuffer}
+use Rattle.spec.specs.Recipes.{fileBytes, recipesBytes, filesOf, recipesCode, fileCode, filesCode}
+use Rattle.spec.specs.Join.{occurrencesAt, crosses, listed, joinFrom, joinFiles, fileRecords, joinList, occurrenceBytes, listBytes, innerLeast}
+use Rattle.spec.specs.Join.{joinableCode, joinCode, joinOutcome, joinBuffer}
 use Rattle.spec.specs.Scan.{scanRecords, scanBody, scanEntry, scanIndex, scannableCode, scanCode, scanOutcome, scanBuffer}
 use Rattle.theory.specs.Cases.{Cases}
 
--- every definition that the cases compute with
+-- the definitions that the cases compute with: of bytes and outcomes, keyword lists, stores and recipes, records, bodies and cells, index files,
+-- the join, the scan; and all of them
+unfoldable byteDefinitions : ℕ
+unfolding leValue leBytes fieldsOf fieldsBytes splice answer unlessRefused
+byteDefinitions = 0
+
+unfoldable keywordDefinitions : ℕ
+unfolding isUpper foldByte folded keywordListBytes keywordsOf listSize foldedKeywords keywordCode keywordFrontCode
+keywordDefinitions = 0
+
+unfoldable storeDefinitions : ℕ
+unfolding storeDirectoryBytes storeBytes storeKeys chunkAt storeCode fileBytes recipesBytes filesOf recipesCode fileCode filesCode
+storeDefinitions = 0
+
+unfoldable recordDefinitions : ℕ
+unfolding reach prefixOf suffixOf offsetsOf recordOf recordsOf inRange offsetsBytes fullBytes headBytes recordBytes
+recordDefinitions = 0
+
+unfoldable bodyDefinitions : ℕ
+unfolding bodyFrom readOffsets readRecord recordSize readFrom allInRange goodBody cellOf inCell
+bodyDefinitions = 0
+
+unfoldable indexDefinitions : ℕ
+unfolding directoryBytes entryBytes indexBytes indexLayout indexKeys bodyAt lengthsIn indexRecords allGood headerCode directoryCode laidCode indexCode
+indexDefinitions = 0
+
+unfoldable joinDefinitions : ℕ
+unfolding occurrencesAt crosses listed joinFrom joinFiles fileRecords joinList occurrenceBytes listBytes innerLeast joinableCode joinCode joinOutcome joinBuffer
+joinDefinitions = 0
+
+unfoldable scanDefinitions : ℕ
+unfolding scanRecords scanBody scanEntry scanIndex scannableCode scanCode scanOutcome scanBuffer
+scanDefinitions = 0
+
 unfoldable pub definitions : ℕ
-unfolding leValue leBytes fieldsOf fieldsBytes splice answer unlessRefused isUpper foldByte folded keywordsOf listSize foldedKeywords keywordCode keywordFrontCode storeKeys chunkAt storeCode reach prefixOf suffixOf offsetsOf recordOf recordsOf inRange offsetsBytes fullBytes recordBytes bodyFrom readOffsets readRecord recordSize readFrom allInRange goodBody directoryBytes indexBytes indexLayout indexKeys bodyAt lengthsIn indexRecords allGood indexCode cellOf inCell filesOf recipesCode fileCode filesCode hits crosses listed joinFrom joinFiles fileRecords joinList occurrenceBytes listBytes due joinableCode joinCode joinOutcome joinBuffer scanRecords scanBody scanEntry scanIndex scannableCode scanCode scanOutcome scanBuffer
+unfolding byteDefinitions keywordDefinitions storeDefinitions recordDefinitions bodyDefinitions indexDefinitions joinDefinitions scanDefinitions
 definitions = 0
 
 pub cases : Cases
 unfolding definitions
 cases =
     record {
+      spelled = (refl, refl, refl);
       sizes = (refl, refl, refl, refl);
       xab = (refl, refl);
       abax = (refl, refl);

@@ -17,12 +17,12 @@ use Rattle.spec.specs.Directory.{sizeAt}
 use Rattle.spec.specs.Store.{storeLayout, storeKeys, storeCode}
 use Rattle.spec.specs.Records.{form1}
 use Rattle.spec.specs.Recipes.{largest32, filesOf, recipesCode, filesCode}
-use Rattle.spec.specs.Join.{listBytes, due, joinOutcome, joinBuffer}
+use Rattle.spec.specs.Join.{listBytes, innerLeast, joinOutcome, joinBuffer, readList}
 use Rattle.spec.specs.Scan.{scanIndex, scannableCode, scanCode, scanOutcome, scanBuffer}
 use Rattle.spec.specs.Search.{directSearch, searchJoinCode}
 use Rattle.spec.proofs.Codes.{passed, passed-whole, or-left, or-right}
 use Rattle.spec.proofs.ScanLaws.{ScanReads, form1-scans, scan-reads}
-use Rattle.theory.specs.Demand3.{NoScanRefusal, NoJoinRefusal, scanned, readList, JoinOfScan, Demand3}
+use Rattle.theory.specs.Demand3.{NoScanRefusal, NoJoinRefusal, scanned, JoinOfScan, ScanAndJoin}
 use Rattle.theory.proofs.SearchList.{direct-search-list}
 use Rattle.theory.proofs.ScanThenJoin.{outcome-of-scan, buffer-of-scan}
 use Rattle.theory.proofs.ListRead.{list-read}
@@ -59,11 +59,14 @@ module _ (list store : List ℕ) where
           let a = passed-whole (scannableCode list store) _ e in
           let b = passed-whole (keywordCode list) _ (a .0) in
           let c = passed-whole (storeCode store) _ (b .1) in
-          let d = passed (ltb room (length (scanIndex form1 list store)) || ltb largest32 (length (scanIndex form1 list store))) 9 _ (omega arith) (a .1) in (
+          let size = length (scanIndex form1 list store) in
+          let over = ltb room size in
+          let large = ltb largest32 size in
+          let d = passed (over || large) 9 _ (omega arith) (a .1) in (
             b .0,
             c .0,
-            ltb-false room (length (scanIndex form1 list store)) (or-left (ltb room (length (scanIndex form1 list store))) (ltb largest32 (length (scanIndex form1 list store))) (d .0)),
-            ltb-false largest32 (length (scanIndex form1 list store)) (or-right (ltb room (length (scanIndex form1 list store))) (ltb largest32 (length (scanIndex form1 list store))) (d .0)),
+            ltb-false room size (or-left over large (d .0)),
+            ltb-false largest32 size (or-right over large (d .0)),
           )
 
       back : NoScanRefusal list store room → scanCode form1 list store room ≡ 0
@@ -88,14 +91,14 @@ module _ (list store : List ℕ) where
         ≡ unlessRefused (searchJoinCode form1 list store recipes (length out)) (written out (listBytes (directSearch list store recipes))) out
     join-buffer index recipes out p = rw p (buffer-of-scan form1 refl list store (scanIndex form1 list store) accepts scan-is-read recipes out)
 
-  search-done : (recipes : List ℕ) (room : ℕ) → (searchJoinCode form1 list store recipes room ≡ 0) ↔ NoJoinRefusal list store recipes room
+  pub search-done : (recipes : List ℕ) (room : ℕ) → (searchJoinCode form1 list store recipes room ≡ 0) ↔ NoJoinRefusal list store recipes room
   unfolding searchJoinCode
   search-done recipes room = (there, back)
     where
       there : searchJoinCode form1 list store recipes room ≡ 0 → NoJoinRefusal list store recipes room
       there e =
           let a = passed-whole (recipesCode recipes) _ e in
-          let b = passed-whole (filesCode (storeKeys store) (sizeAt storeLayout store) (due form1 list) (filesOf recipes)) _ (a .1) in
+          let b = passed-whole (filesCode (storeKeys store) (sizeAt storeLayout store) (innerLeast form1 list) (filesOf recipes)) _ (a .1) in
           let c = passed (ltb room (9 * length (directSearch list store recipes))) 18 _ (omega arith) (b .1) in
           (a .0, b .0, ltb-false room (9 * length (directSearch list store recipes)) (c .0))
 
@@ -110,7 +113,8 @@ module _ (list store : List ℕ) where
   pub join-of-scan : (recipes buffer out : List ℕ) → scanCode form1 list store (length buffer) ≡ 0 → JoinOfScan list store recipes buffer out
   join-of-scan recipes buffer out e =
       let p : scanned list store buffer ≡ scanIndex form1 list store = scanned-is buffer e in
-      let o : joinOutcome form1 (scanned list store buffer) recipes (length out) ≡ answer (searchJoinCode form1 list store recipes (length out)) (length (directSearch list store recipes)) =
+      let o : joinOutcome form1 (scanned list store buffer) recipes (length out)
+      ≡ answer (searchJoinCode form1 list store recipes (length out)) (length (directSearch list store recipes)) =
       join-outcome (length buffer) e (scanned list store buffer) recipes (length out) p in
       let q : codeOf (joinOutcome form1 (scanned list store buffer) recipes (length out)) ≡ searchJoinCode form1 list store recipes (length out) =
       ap codeOf o ∙ code-of-answer (searchJoinCode form1 list store recipes (length out)) (length (directSearch list store recipes)) in
@@ -124,18 +128,21 @@ module _ (list store : List ℕ) where
             let c : searchJoinCode form1 list store recipes (length out) ≡ 0 = sym q ∙ z in
             let v : valueOf (joinOutcome form1 (scanned list store buffer) recipes (length out)) ≡ length (directSearch list store recipes) =
             ap valueOf o ∙ value-of-answer (searchJoinCode form1 list store recipes (length out)) (length (directSearch list store recipes)) c in
-            let b : joinBuffer form1 (scanned list store buffer) recipes out ≡ listBytes (directSearch list store recipes) ++ drop (0 + length (listBytes (directSearch list store recipes))) out =
+            let b : joinBuffer form1 (scanned list store buffer) recipes out
+            ≡ listBytes (directSearch list store recipes) ++ drop (0 + length (listBytes (directSearch list store recipes))) out =
             join-buffer (length buffer) e (scanned list store buffer) recipes out p
             ∙ worked-buffer (searchJoinCode form1 list store recipes (length out)) out (listBytes (directSearch list store recipes)) c in
             ap₂ readList v b
-            ∙ list-read form1 refl list store (scanIndex form1 list store) recipes (accepts (length buffer) e) (scan-is-read (length buffer) e) (d .0 c .0) (d .0 c .1)
+            ∙ list-read form1 refl list store (scanIndex form1 list store) recipes
+            (accepts (length buffer) e) (scan-is-read (length buffer) e) (d .0 c .0) (d .0 c .1)
             (drop (0 + length (listBytes (directSearch list store recipes))) out);
       }
 
-pub demand-3 : (list store recipes buffer out : List ℕ) → Demand3 list store recipes buffer out
+pub scan-and-join : (list store recipes buffer out : List ℕ) → ScanAndJoin list store recipes buffer out
 unfolding scanOutcome
-demand-3 list store recipes buffer out =
-    let q : codeOf (scanOutcome form1 list store (length buffer)) ≡ scanCode form1 list store (length buffer) = code-of-answer (scanCode form1 list store (length buffer)) (length (scanIndex form1 list store)) in
+scan-and-join list store recipes buffer out =
+    let q : codeOf (scanOutcome form1 list store (length buffer)) ≡ scanCode form1 list store (length buffer) =
+    code-of-answer (scanCode form1 list store (length buffer)) (length (scanIndex form1 list store)) in
     record {
       scan = (λ z. scan-done list store (length buffer) .0 (sym q ∙ z), λ n. q ∙ scan-done list store (length buffer) .1 n);
       join = λ z. join-of-scan list store recipes buffer out (sym q ∙ z);

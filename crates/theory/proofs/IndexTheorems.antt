@@ -8,65 +8,25 @@ use Prim.Native.Nat.{ℕ, _≤_, _<_}
 use native.Mathlib.Nat.{zero-add}
 use native.Mathlib.Omega.{arith}
 use lib.ListN.{length, getD, length-map}
-use Rattle.spec.specs.Bytes.{twice}
+use Rattle.spec.specs.Bytes.{twice, AllBytes}
 use Rattle.spec.specs.Keywords.{keywordsOf, keywordCode}
 use Rattle.spec.specs.Directory.{sizeAt}
 use Rattle.spec.specs.Store.{chunkCount, mostChunks, storeKeys, chunkAt}
 use Rattle.spec.specs.Records.{Form, MatchRecord, ChunkRecords, bodyBytes, readBody, allInRange, goodBody}
-use Rattle.spec.specs.Index.{Entry, indexBytes, listIn, indexLayout, indexKeys, bodyAt, lengthsIn, indexRecords, goodAt, indexCode}
+use Rattle.spec.specs.Index.{Entry, indexBytes, listIn, indexLayout, indexKeys, bodyAt, lengthsIn, indexRecords, goodAt, indexCode, listBytesIn}
 use Rattle.spec.specs.Scan.{scanRecords, scanIndex, scanCode}
-use Rattle.spec.proofs.FieldLists.{AllBytes}
+use Rattle.theory.specs.RecordSets.{Said, nothing, entryFor, writtenIndex, Fitting, AllFitting, Says, saidIn, scannedRecords}
 use Rattle.spec.proofs.JoinIsSearch.{getD-map}
 use Rattle.spec.proofs.KeywordLaws.{folded-lengths}
 use Rattle.spec.proofs.KeywordReads.{own-list}
 use Rattle.spec.proofs.RecordLaws.{FormGood, allPositive, body-read, good-written, good-is-written}
 use Rattle.spec.proofs.Tabulated.{tabulated, length-tabulated, tabulated-at, tabulated-getD, tabulated-same, map-tabulated}
 use Rattle.spec.proofs.WrittenEntries.{Fits, noEntry, Every, SizeIn}
-use Rattle.spec.proofs.IndexLaws.{Writable, index-length, index-mark, index-count, index-list, index-list-bytes, index-layout, index-keys, index-lengths, index-size, index-body, index-entries}
+use Rattle.spec.proofs.IndexLaws.{Writable, index-length, index-mark, index-count, index-list, index-list-bytes, index-layout, index-keys}
+use Rattle.spec.proofs.IndexLaws.{index-lengths, index-size, index-body, index-entries}
 use Rattle.spec.proofs.IndexChecks.{IndexGood, index-good, index-passes, length-indexKeys}
 use Rattle.spec.proofs.ScanLaws.{ScanForm, scan-positive, scan-done-reads}
-use Rattle.spec.proofs.OneForm.{listBytesIn, entryOf, checked-is-written}
-
--- ---- what an index says
-
--- Of one chunk: its fingerprint, its length, and a record for each keyword.
-pub record Said : Type 0 where
-  pub key : List ℕ
-  pub chunk : ChunkRecords
-
-abbrev pub nothing : Said
-nothing = record { key = []; chunk = record { size = 0; records = [] } }
-
--- The index that says it: the entries in their order, each body the writing of its records.
-abbrev pub entryFor : Form → List ℕ → Said → Entry
-entryFor f list s =
-    record { key = s .key; size = s .chunk .size; body = bodyBytes f (map length (keywordsOf list)) (s .chunk .records) }
-
-unfoldable pub writtenIndex : Form → List ℕ → List Said → List ℕ
-writtenIndex f list said = indexBytes f list (map (entryFor f list) said)
-
--- A chunk's records fit an index: a fingerprint of 20 bytes, a length in 1 to the longest, a record in range for each keyword.
-pub record Fitting (f : Form) (list : List ℕ) (s : Said) : Type 0 where
-  pub long : length (s .key) ≡ 20
-  pub low : 1 ≤ s .chunk .size
-  pub high : s .chunk .size ≤ f .longestChunk
-  pub count : length (s .chunk .records) ≡ length (map length (keywordsOf list))
-  pub ranges : allInRange (s .chunk .size) (map length (keywordsOf list)) (s .chunk .records) ≡ true
-
--- A set of records fits an index file: its chunks do, no fingerprint is twice, the count and the file's length have room.
-pub record AllFitting (f : Form) (list : List ℕ) (said : List Said) : Type 0 where
-  pub accepted : keywordCode list ≡ 0
-  pub each : (k : ℕ) → k < length said → Fitting f list (getD said k nothing)
-  pub differ : twice (map (λ s. s .key) said) ≡ false
-  pub few : length said ≤ mostChunks
-  pub within : length (writtenIndex f list said) ≤ 4294967295
-
--- An index file is accepted and says these records under this keyword list.
-pub record Says (f : Form) (list : List ℕ) (said : List Said) (index : List ℕ) : Type 0 where
-  pub passes : indexCode f index ≡ 0
-  pub listed : listBytesIn index ≡ list
-  pub keys : indexKeys index ≡ map (λ s. s .key) said
-  pub records : (k : ℕ) → k < length said → indexRecords f index k ≡ getD said k nothing .chunk
+use Rattle.spec.proofs.OneForm.{entryOf, checked-is-written}
 
 -- ---- theorem 3: written records read back as the same records
 
@@ -126,7 +86,8 @@ module _ (f : Form) (form : ScanForm f) (list : List ℕ) (said : List Said) (fi
     read-is : readBody f (length (lengthsIn index)) (bodyAt index k) ≡ here .chunk .records
     read-is =
         rw (lengths-are, body-is)
-        (body-read f (form .good) (here .chunk .size) (fit .each k l .high) 0 (map length (keywordsOf list)) (here .chunk .records) positive (fit .each k l .ranges) (fit .each k l .count))
+        (body-read f (form .good) (here .chunk .size) (fit .each k l .high) 0 (map length (keywordsOf list)) (here .chunk .records)
+        positive (fit .each k l .ranges) (fit .each k l .count))
 
     records-are : indexRecords f index k ≡ here .chunk
     unfolding indexRecords
@@ -135,7 +96,8 @@ module _ (f : Form) (form : ScanForm f) (list : List ℕ) (said : List Said) (fi
     good-is : goodAt f index k ≡ true
     good-is =
         rw (lengths-are, body-is, size-is)
-        (good-written f (form .good) (here .chunk .size) (fit .each k l .high) (map length (keywordsOf list)) (here .chunk .records) positive (fit .each k l .ranges) (fit .each k l .count))
+        (good-written f (form .good) (here .chunk .size) (fit .each k l .high) (map length (keywordsOf list)) (here .chunk .records)
+        positive (fit .each k l .ranges) (fit .each k l .count))
 
   passes-check : indexCode f index ≡ 0
   passes-check =
@@ -144,7 +106,8 @@ module _ (f : Form) (form : ScanForm f) (list : List ℕ) (said : List Said) (fi
       (rw count-is (fit .few))
       (index-list f list entries writable .code)
       (rw (index-layout f list entries writable, count-is) (omega (arith, index-length f list entries writable, entries-length)))
-      (index-entries f list entries writable (f .longestChunk) 11 (every-entry (SizeIn (f .longestChunk)) (λ k l. record { low = fit .each k l .low; high = fit .each k l .high })))
+      (index-entries f list entries writable (f .longestChunk) 11
+      (every-entry (SizeIn (f .longestChunk)) (λ k l. record { low = fit .each k l .low; high = fit .each k l .high })))
       (rw keys-are (fit .differ))
       (λ k l. good-is k (rw count-is at l))
 
@@ -197,10 +160,6 @@ module _ (f : Form) (list : List ℕ) (said : List Said) (index : List ℕ) (say
       ∙ sym (map-tabulated (entryFor f list) (λ k. getD said k nothing) 0 (length said))
       ∙ ap (map (entryFor f list)) (tabulated-getD said nothing (length said) refl)))
 
--- What an accepted file says.
-unfoldable pub saidIn : Form → List ℕ → List Said
-saidIn f index = tabulated (λ k. record { key = getD (indexKeys index) k []; chunk = indexRecords f index k }) 0 (chunkCount index)
-
 module _ (f : Form) (index : List ℕ) where
   abbrev reading : ℕ → Said
   reading k = record { key = getD (indexKeys index) k []; chunk = indexRecords f index k }
@@ -221,8 +180,8 @@ module _ (f : Form) (index : List ℕ) where
   said-records k l = let m : k < chunkCount index = omega (arith, said-count) in ap (λ (s : Said). s .chunk) (sym (said-at k m))
 
 -- Two files of bytes that are accepted and say the same are the same.
-pub same-index : (f : Form) (list : List ℕ) (said : List Said) (index other : List ℕ) → Says f list said index → Says f list said other → AllBytes index → AllBytes other
-    → index ≡ other
+pub same-index : (f : Form) (list : List ℕ) (said : List Said) (index other : List ℕ) → Says f list said index → Says f list said other
+    → AllBytes index → AllBytes other → index ≡ other
 same-index f list said index other s o b c = one-index-form f list said index s b ∙ sym (one-index-form f list said other o c)
 
 -- The same said by what is read: the keyword list's bytes, the fingerprints, and of every entry the length and the records.
@@ -231,7 +190,12 @@ pub same-reading : (f : Form) (index other : List ℕ) → indexCode f index ≡
     → ((k : ℕ) → k < chunkCount index → indexRecords f index k ≡ indexRecords f other k) → index ≡ other
 same-reading f index other p q b c l keys records =
     same-index f (listBytesIn other) (saidIn f other) index other
-    (record { passes = p; listed = l; keys = keys ∙ said-keys f other; records = λ k m. records k (omega (arith, said-count f other, count)) ∙ said-records f other k m })
+    (record {
+      passes = p;
+      listed = l;
+      keys = keys ∙ said-keys f other;
+      records = λ k m. records k (omega (arith, said-count f other, count)) ∙ said-records f other k m;
+    })
     (record { passes = q; listed = refl; keys = said-keys f other; records = said-records f other })
     b c
   where
@@ -241,7 +205,8 @@ same-reading f index other p q b c l keys records =
 -- ---- theorem 3, of one body
 
 -- Records in range for keywords of these lengths read back, and their writing is good.
-pub record-body-reads : (f : Form) → FormGood f → (size : ℕ) (lengths : List ℕ) (records : List MatchRecord) → size ≤ f .longestChunk → allPositive lengths ≡ true
+pub record-body-reads : (f : Form) → FormGood f → (size : ℕ) (lengths : List ℕ) (records : List MatchRecord)
+    → size ≤ f .longestChunk → allPositive lengths ≡ true
     → allInRange size lengths records ≡ true → length records ≡ length lengths
     → (readBody f (length lengths) (bodyBytes f lengths records) ≡ records) × (goodBody f lengths size (bodyBytes f lengths records) ≡ true)
 record-body-reads f form size lengths records h p r l = (body-read f form size h 0 lengths records p r l, good-written f form size h lengths records p r l)
@@ -252,11 +217,6 @@ pub good-body-is-written : (f : Form) (lengths : List ℕ) (size : ℕ) (body : 
 good-body-is-written = good-is-written
 
 -- ---- theorem 4: the scan
-
--- What a scan has to say: of every chunk of the store its fingerprint, its length and its records.
-unfoldable pub scannedRecords : List ℕ → List ℕ → List Said
-scannedRecords list store =
-    tabulated (λ k. record { key = getD (storeKeys store) k []; chunk = scanRecords list (chunkAt store k) }) 0 (chunkCount store)
 
 module _ (f : Form) (form : ScanForm f) (list store : List ℕ) (room : ℕ) (done : scanCode f list store room ≡ 0) where
   -- The index of a scan that did its work passes the index check.

@@ -9,4 +9,12 @@ pub mod ListRead
 pub mod WrittenBytes
 pub mod SearchLaws
 pub mod AnyOrder
-pub mod Moved
+pub mod SameChunks
+pub mod Numbers
+pub mod Demand2
+pub mod OccursText
+pub mod Demands
+pub mod WrittenKeywords
+pub mod WrittenRecipes
+pub mod WrittenStores
+pub mod WrittenInputs

@@ -9,13 +9,13 @@ use native.Mathlib.Omega.{arith}
 use lib.ListN.{length, getD, drop, length-append, length-map}
 use lib.Dec.{ltb}
 use borrow.Author.Tests.{ltb-true, ltb-false}
-use Rattle.spec.specs.Bytes.{fieldAt, leBytes, occursAt, sum, joined}
+use Rattle.spec.specs.Bytes.{fieldAt, occursAt, sum, joined}
 use Rattle.spec.specs.Keywords.{flagOf, folded, foldedKeywords, keywordCode}
 use Rattle.spec.specs.Directory.{sizeAt}
 use Rattle.spec.specs.Store.{storeLayout, storeKeys}
 use Rattle.spec.specs.Records.{Form}
 use Rattle.spec.specs.Recipes.{largest32, mostFiles, fileCount, readFiles, fileCode, filesCode, filesOf, recipesCode}
-use Rattle.spec.specs.Join.{Occurrence, keywordAt, occurrenceBytes, listBytes, due}
+use Rattle.spec.specs.Join.{Occurrence, keywordAt, occurrenceBytes, listBytes, innerLeast, readList}
 use Rattle.spec.specs.Search.{chunkNamed, restored, directSearch}
 use Rattle.spec.proofs.Tests.{and-left, and-right}
 use Rattle.spec.proofs.Codes.{passed, passed-code}
@@ -24,49 +24,22 @@ use Rattle.spec.proofs.Folding.{folded-length}
 use Rattle.spec.proofs.JoinIsSearch.{getD-map}
 use Rattle.spec.proofs.KeywordLaws.{Accepted, accepted, keyword-front, folded-count}
 use Rattle.spec.proofs.ScanLaws.{ScanReads}
-use Rattle.spec.proofs.Seams.{field-seam, next-field}
+use Rattle.spec.proofs.ListBytes.{Fits, list-reads}
 use Rattle.theory.specs.SearchList.{isIn}
-use Rattle.theory.specs.Demand3.{restoredFiles, readList}
+use Rattle.theory.specs.Demand3.{restoredFiles}
 use Rattle.theory.proofs.SearchList.{same-self, direct-search-list}
 use Rattle.theory.proofs.ScanThenJoin.{file-lengths}
 
--- ---- written and read
+-- ---- members
 
-pub record Fits (o : Occurrence) : Type 0 where
-  pub file : o .file < 256 ^ 4
-  pub offset : o .offset < 256 ^ 4
-  pub keyword : o .keyword < 256 ^ 1
+pub member-at : (os : List Occurrence) (k : ℕ) → k < length os → (none : Occurrence) → isIn (getD os k none) os ≡ true
+member-at [] k l none = absurd (not-suc-le-zero l)
+member-at (o ∷ os) zero l none = rw (same-self o)
+member-at (o ∷ os) (suc k) l none = rw (member-at os k (omega arith) none, or-true)
 
+-- a list of occurrences that fit their fields reads back
 pub read-written : (os : List Occurrence) (rest : List ℕ) → ((o : Occurrence) → isIn o os ≡ true → Fits o) → readList (length os) (listBytes os ++ rest) ≡ os
-unfolding listBytes occurrenceBytes
-read-written [] rest h = refl
-read-written (o ∷ os) rest h =
-    ap₂ {C = List Occurrence} (λ x xs. x ∷ xs) (λ i. record { file = file i; offset = offset i; keyword = keyword i })
-    (ap (readList (length os)) (next-field bytes 8 1 (o .keyword) (listBytes os ++ rest) at8) ∙ read-written os rest (λ p e. h p (rw (e, or-true))))
-  where
-    bytes : List ℕ
-    bytes = listBytes (o ∷ os) ++ rest
-
-    fits : Fits o
-    fits = h o (rw (same-self o))
-
-    at0 : bytes ≡ leBytes 4 (o .file) ++ (leBytes 4 (o .offset) ++ (leBytes 1 (o .keyword) ++ (listBytes os ++ rest)))
-    at0 = simp append-assoc
-
-    at4 : drop 4 bytes ≡ leBytes 4 (o .offset) ++ (leBytes 1 (o .keyword) ++ (listBytes os ++ rest))
-    at4 = next-field bytes 0 4 (o .file) (leBytes 4 (o .offset) ++ (leBytes 1 (o .keyword) ++ (listBytes os ++ rest))) at0
-
-    at8 : drop 8 bytes ≡ leBytes 1 (o .keyword) ++ (listBytes os ++ rest)
-    at8 = next-field bytes 4 4 (o .offset) (leBytes 1 (o .keyword) ++ (listBytes os ++ rest)) at4
-
-    file : fieldAt bytes 0 4 ≡ o .file
-    file = field-seam bytes 0 4 (o .file) (leBytes 4 (o .offset) ++ (leBytes 1 (o .keyword) ++ (listBytes os ++ rest))) (fits .file) at0
-
-    offset : fieldAt bytes 4 4 ≡ o .offset
-    offset = field-seam bytes 4 4 (o .offset) (leBytes 1 (o .keyword) ++ (listBytes os ++ rest)) (fits .offset) at4
-
-    keyword : fieldAt bytes 8 1 ≡ o .keyword
-    keyword = field-seam bytes 8 1 (o .keyword) (listBytes os ++ rest) (fits .keyword) at8
+read-written os rest h = list-reads os rest (λ k l none. h (getD os k none) (member-at os k l none))
 
 -- ---- the bounds
 
@@ -74,7 +47,7 @@ length-joined : (cs : List (List ℕ)) → length (joined cs) ≡ sum (map lengt
 length-joined [] = refl
 length-joined (c ∷ cs) = length-append c (joined cs) ∙ rw (length-joined cs)
 
-length-files : (n : ℕ) (bytes : List ℕ) → length (readFiles n bytes) ≡ n
+pub length-files : (n : ℕ) (bytes : List ℕ) → length (readFiles n bytes) ≡ n
 length-files zero bytes = refl
 length-files (suc n) bytes = ap suc (length-files n (drop (4 + 20 * fieldAt bytes 0 4) bytes))
 
@@ -86,12 +59,12 @@ few-files recipes e =
     omega (arith, ltb-false mostFiles (fileCount recipes) (b .0), length-files (fileCount recipes) (drop 4 recipes))
 
 module _ (f : Form) (plain : f .sets ≡ false) (list store index recipes : List ℕ) (accept : keywordCode list ≡ 0) (reads : ScanReads f list store index)
-    (known : recipesCode recipes ≡ 0) (good : filesCode (storeKeys store) (sizeAt storeLayout store) (due f list) (filesOf recipes) ≡ 0) where
+    (known : recipesCode recipes ≡ 0) (good : filesCode (storeKeys store) (sizeAt storeLayout store) (innerLeast f list) (filesOf recipes) ≡ 0) where
   short-text : (n : ℕ) → n < length (filesOf recipes) → length (getD (restoredFiles list store recipes) n []) ≤ largest32
   unfolding restored
   short-text n l =
-      let g : FileAccepted (storeKeys store) (sizeAt storeLayout store) (due f list) (getD (filesOf recipes) n []) =
-      files-accepted (storeKeys store) (sizeAt storeLayout store) (due f list) (filesOf recipes) n good l in
+      let g : FileAccepted (storeKeys store) (sizeAt storeLayout store) (innerLeast f list) (getD (filesOf recipes) n []) =
+      files-accepted (storeKeys store) (sizeAt storeLayout store) (innerLeast f list) (filesOf recipes) n good l in
       rw (
         getD-map (λ file. folded (flagOf list) (restored store file)) (filesOf recipes) n [] [] l,
         folded-length,
@@ -100,7 +73,7 @@ module _ (f : Form) (plain : f .sets ≡ false) (list store index recipes : List
       )
       (g .short)
 
-  occurrence-fits : (o : Occurrence) → isIn o (directSearch list store recipes) ≡ true → Fits o
+  pub occurrence-fits : (o : Occurrence) → isIn o (directSearch list store recipes) ≡ true → Fits o
   occurrence-fits o e =
       let a : Bool = ltb (o .file) (length (restoredFiles list store recipes)) in
       let b : Bool = ltb (o .offset) (length (getD (restoredFiles list store recipes) (o .file) [])) in
@@ -110,7 +83,8 @@ module _ (f : Form) (plain : f .sets ≡ false) (list store index recipes : List
       let abc : (a && b && c) ≡ true = and-left (a && b && c) d abcd in
       let ab : (a && b) ≡ true = and-left (a && b) c abc in
       let p : o .file < length (restoredFiles list store recipes) = ltb-true (o .file) (length (restoredFiles list store recipes)) (and-left a b ab) in
-      let q : o .offset < length (getD (restoredFiles list store recipes) (o .file) []) = ltb-true (o .offset) (length (getD (restoredFiles list store recipes) (o .file) [])) (and-right a b ab) in
+      let q : o .offset < length (getD (restoredFiles list store recipes) (o .file) []) =
+      ltb-true (o .offset) (length (getD (restoredFiles list store recipes) (o .file) [])) (and-right a b ab) in
       let r : o .keyword < length (foldedKeywords list) = ltb-true (o .keyword) (length (foldedKeywords list)) (and-right (a && b) c abc) in
       let n : o .file < length (filesOf recipes) = omega (arith, p, length-map (filesOf recipes) (λ file. folded (flagOf list) (restored store file))) in
       let k : Accepted list = accepted list (keyword-front list accept) in
@@ -120,5 +94,6 @@ module _ (f : Form) (plain : f .sets ≡ false) (list store index recipes : List
         keyword = omega (arith, r, folded-count list, k .count, k .most);
       }
 
-  pub list-read : (rest : List ℕ) → readList (length (directSearch list store recipes)) (listBytes (directSearch list store recipes) ++ rest) ≡ directSearch list store recipes
+  pub list-read : (rest : List ℕ) → readList (length (directSearch list store recipes)) (listBytes (directSearch list store recipes) ++ rest)
+      ≡ directSearch list store recipes
   list-read rest = read-written (directSearch list store recipes) rest occurrence-fits

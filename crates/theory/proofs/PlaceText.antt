@@ -10,7 +10,7 @@ use lib.Dec.{leb}
 use borrow.Author.Tests.{leb-true, lt-ltb}
 use Rattle.spec.specs.Bytes.{each, keep, every, rising}
 use Rattle.spec.specs.Records.{MatchRecord, ChunkRecords, recordAt, reach, inRange, offsetsOf}
-use Rattle.spec.specs.Table.{seam, cellOf, inCell}
+use Rattle.spec.specs.Table.{borderText, cellOf, inCell}
 use Rattle.spec.specs.Join.{keywordAt, listed}
 use Rattle.spec.proofs.Tests.{and-left, and-right}
 use Rattle.spec.proofs.Each.{each-match, each-append, each-none, passing}
@@ -56,9 +56,10 @@ module _ (w : List ℕ) (i j : ℕ) (hi : i < length w) (hj : j < length w) wher
   cell-starts : cellOf w i j ≡ passing (inCell w i j) 0 i
   unfolding cellOf offsetsOf inCell
   cell-starts =
-      let n : length (seam w i j) ≡ i + j = simp (length-append, length-take, length-drop) (omega arith) in
+      let n : length (borderText w i j) ≡ i + j = simp (length-append, length-take, length-drop) (omega arith) in
       rw (n, each-append)
-      (ap (λ (l : List ℕ). passing (inCell w i j) 0 i ++ l) (each-none _ (0 + i) j (λ p a b. rw (cell-beyond w i j p hj (omega arith)))) ∙ append-nil (passing (inCell w i j) 0 i))
+      (ap (λ (l : List ℕ). passing (inCell w i j) 0 i ++ l) (each-none _ (0 + i) j (λ p a b. rw (cell-beyond w i j p hj (omega arith))))
+      ∙ append-nil (passing (inCell w i j) 0 i))
 
   cell-none : (i ≡ 0) → cellOf w i j ≡ []
   cell-none e = cell-starts ∙ rw e
@@ -73,17 +74,21 @@ module _ (keywords : List (List ℕ)) (here next : ChunkRecords) (rest : List Ch
       → inRange (length (keywordAt keywords k)) (next .size) (recordAt next k) ≡ true → PlaceText keywords here next rest k
   unfolding listed
   stream-is-text h e f =
-      let a : InRange (length (keywordAt keywords k)) (here .size) (recordAt here k) = ranges (length (keywordAt keywords k)) (here .size) (recordAt here k) h e in
-      let b : InRange (length (keywordAt keywords k)) (next .size) (recordAt next k) = ranges (length (keywordAt keywords k)) (next .size) (recordAt next k) h f in
+      let w = keywordAt keywords k in
+      let r = recordAt here k in
+      let s = recordAt next k in
+      let a : InRange (length w) (here .size) r = ranges (length w) (here .size) r h e in
+      let b : InRange (length w) (next .size) s = ranges (length w) (next .size) s h f in
       record {
         followed =
-            stream (keywordAt keywords k) (recordAt here k .offsets) (recordAt here k .prefix) (recordAt next k .suffix) (here .size) (a .up) (a .low (recordAt here k .prefix) (a .shortPrefix)) (a .fits)
-            ∙ ap (λ (l : List ℕ). recordAt here k .offsets ++ l)
-            (sym (map-passing (λ s. here .size - recordAt here k .prefix + s) (inCell (keywordAt keywords k) (recordAt here k .prefix) (recordAt next k .suffix)) 0 (recordAt here k .prefix))
-            ∙ ap (map (λ s. here .size - recordAt here k .prefix + s)) (sym (cell-starts (keywordAt keywords k) (recordAt here k .prefix) (recordAt next k .suffix) (a .shortPrefix) (b .shortSuffix))));
+            stream w (r .offsets) (r .prefix) (s .suffix) (here .size) (a .up) (a .low (r .prefix) (a .shortPrefix)) (a .fits)
+            ∙ ap (λ (l : List ℕ). r .offsets ++ l)
+            (sym (map-passing (λ p. here .size - r .prefix + p) (inCell w (r .prefix) (s .suffix)) 0 (r .prefix))
+            ∙ ap (map (λ p. here .size - r .prefix + p)) (sym (cell-starts w (r .prefix) (s .suffix) (a .shortPrefix) (b .shortSuffix))));
         last =
             each-match _ _ 0 0 (here .size) (λ p l. rw or-false)
-            ∙ passing-member (here .size) 0 (recordAt here k .offsets) (a .up) (let z : 0 + here .size ≡ here .size - 0 = omega arith in rw z (a .low 0 (omega arith))) (λ _. omega arith);
-        noPrefix = λ z. ap (map (λ s. here .size - recordAt here k .prefix + s)) (cell-none (keywordAt keywords k) (recordAt here k .prefix) (recordAt next k .suffix) (a .shortPrefix) (b .shortSuffix) z);
-        noSuffix = λ z. ap (map (λ s. here .size - recordAt here k .prefix + s)) (cell-none′ (keywordAt keywords k) (recordAt here k .prefix) (recordAt next k .suffix) (a .shortPrefix) (b .shortSuffix) z);
+            ∙ passing-member (here .size) 0 (r .offsets) (a .up)
+            (let z : 0 + here .size ≡ here .size - 0 = omega arith in rw z (a .low 0 (omega arith))) (λ _. omega arith);
+        noPrefix = λ z. ap (map (λ p. here .size - r .prefix + p)) (cell-none w (r .prefix) (s .suffix) (a .shortPrefix) (b .shortSuffix) z);
+        noSuffix = λ z. ap (map (λ p. here .size - r .prefix + p)) (cell-none′ w (r .prefix) (s .suffix) (a .shortPrefix) (b .shortSuffix) z);
       }

@@ -13,6 +13,7 @@ use lib.ListN.{length, take, drop, length-take, length-drop, take-append-drop, d
 use lib.Seq.{take-at, take-all}
 use Rattle.spec.specs.Bytes.{begins, occursAt, largest, member, rising}
 use Rattle.spec.specs.Records.{MatchRecord, reach, endsWith, startsWith, prefixOf, suffixOf, offsetsOf, recordOf}
+use Rattle.theory.specs.Published.{Ends, Starts, Occurs, Published}
 use Rattle.spec.proofs.Tests.{le-or-lt, eqb-same}
 use Rattle.spec.proofs.Begins.{begins-front, begins-split, begins-short}
 use Rattle.spec.proofs.Each.{passing, each-match, member-passing, member-above}
@@ -70,32 +71,7 @@ rising-same n xs ys r s e h =
 -- ---- the published record
 
 module _ (keyword chunk : List ℕ) where
-  -- the chunk's last i bytes, the keyword's first i
-  abbrev pub Ends : ℕ → Type 0
-  Ends i = drop (length chunk - i) chunk ≡ take i keyword
-
-  -- the chunk's first j bytes, the keyword's last j
-  abbrev pub Starts : ℕ → Type 0
-  Starts j = take j chunk ≡ drop (length keyword - j) keyword
-
-  -- The keyword's bytes from an offset of the chunk on.
-  abbrev pub Occurs : ℕ → Type 0
-  Occurs at = take (length keyword) (drop at chunk) ≡ keyword
-
-  pub record Published (r : MatchRecord) : Type 0 where
-    pub prefixShort : r .prefix < length keyword
-    pub prefixIn : r .prefix ≤ length chunk
-    pub prefixEnds : Ends (r .prefix)
-    pub prefixLongest : (i : ℕ) → i < length keyword → i ≤ length chunk → Ends i → i ≤ r .prefix
-    pub suffixShort : r .suffix < length keyword
-    pub suffixIn : r .suffix ≤ length chunk
-    pub suffixStarts : Starts (r .suffix)
-    pub suffixLongest : (j : ℕ) → j < length keyword → j ≤ length chunk → Starts j → j ≤ r .suffix
-    pub offsetsRise : rising (r .offsets) ≡ true
-    pub offsetsAll : (at : ℕ) → Occurs at → member at (r .offsets) ≡ true
-    pub offsetsOnly : (at : ℕ) → member at (r .offsets) ≡ true → Occurs at
-
-  module _ (some : 1 ≤ length keyword) where
+  module _ (nonempty : 1 ≤ length keyword) where
     in-reach : (i : ℕ) → i < length keyword → i ≤ length chunk → i ≤ reach (length keyword) (length chunk)
     unfolding reach
     in-reach i l h = omega arith
@@ -108,15 +84,15 @@ module _ (keyword chunk : List ℕ) where
     unfolding reach
     reach-in = omega arith
 
-    ends-of : (i : ℕ) → i < length keyword → i ≤ length chunk → endsWith keyword chunk i ≡ true → Ends i
+    ends-of : (i : ℕ) → i < length keyword → i ≤ length chunk → endsWith keyword chunk i ≡ true → Ends keyword chunk i
     ends-of i l h e = begins-same (take i keyword) (drop (length chunk - i) chunk) (rw (length-drop, length-take) (omega arith)) e
 
-    starts-of : (j : ℕ) → j < length keyword → j ≤ length chunk → startsWith keyword chunk j ≡ true → Starts j
+    starts-of : (j : ℕ) → j < length keyword → j ≤ length chunk → startsWith keyword chunk j ≡ true → Starts keyword chunk j
     starts-of j l h e =
         let n : length (drop (length keyword - j) keyword) ≡ j = rw length-drop (omega arith) in
         rw n at (begins-take (drop (length keyword - j) keyword) chunk e)
 
-    of-starts : (j : ℕ) → j < length keyword → Starts j → startsWith keyword chunk j ≡ true
+    of-starts : (j : ℕ) → j < length keyword → Starts keyword chunk j → startsWith keyword chunk j ≡ true
     of-starts j l e =
         let n : length (drop (length keyword - j) keyword) ≡ j = rw length-drop (omega arith) in
         take-begins (drop (length keyword - j) keyword) chunk (rw n e)
@@ -127,7 +103,7 @@ module _ (keyword chunk : List ℕ) where
         (λ h. h) (le-or-lt (length chunk) at)
 
     -- The record is the published method's.
-    pub record-published : Published (recordOf keyword chunk)
+    pub record-published : Published keyword chunk (recordOf keyword chunk)
     unfolding recordOf prefixOf suffixOf offsetsOf
     record-published =
         let t = endsWith keyword chunk in
@@ -142,7 +118,8 @@ module _ (keyword chunk : List ℕ) where
           prefixLongest = λ i l h e. longest-by t n i (in-reach i l h) (same-begins (take i keyword) (drop (length chunk - i) chunk) e);
           suffixShort = omega (arith, largest-le u n, reach-short);
           suffixIn = omega (arith, largest-le u n, reach-in);
-          suffixStarts = starts-of (largest u n) (omega (arith, largest-le u n, reach-short)) (omega (arith, largest-le u n, reach-in)) (largest-passes u n zero-starts);
+          suffixStarts =
+              starts-of (largest u n) (omega (arith, largest-le u n, reach-short)) (omega (arith, largest-le u n, reach-in)) (largest-passes u n zero-starts);
           suffixLongest = λ j l h e. longest-by u n j (in-reach j l h) (of-starts j l e);
           offsetsRise = passing-rises (occursAt keyword chunk) 0 (length chunk);
           offsetsAll = λ at e.
@@ -152,13 +129,21 @@ module _ (keyword chunk : List ℕ) where
         }
 
     -- No other record is.
-    pub published-once : (r : MatchRecord) → Published r → r ≡ recordOf keyword chunk
+    pub published-once : (r : MatchRecord) → Published keyword chunk r → r ≡ recordOf keyword chunk
     published-once r p =
         let q = record-published in
         let a : r .prefix ≡ recordOf keyword chunk .prefix =
-        omega (arith, q .prefixLongest (r .prefix) (p .prefixShort) (p .prefixIn) (p .prefixEnds), p .prefixLongest (recordOf keyword chunk .prefix) (q .prefixShort) (q .prefixIn) (q .prefixEnds)) in
+        omega (
+          arith,
+          q .prefixLongest (r .prefix) (p .prefixShort) (p .prefixIn) (p .prefixEnds),
+          p .prefixLongest (recordOf keyword chunk .prefix) (q .prefixShort) (q .prefixIn) (q .prefixEnds),
+        ) in
         let b : r .suffix ≡ recordOf keyword chunk .suffix =
-        omega (arith, q .suffixLongest (r .suffix) (p .suffixShort) (p .suffixIn) (p .suffixStarts), p .suffixLongest (recordOf keyword chunk .suffix) (q .suffixShort) (q .suffixIn) (q .suffixStarts)) in
+        omega (
+          arith,
+          q .suffixLongest (r .suffix) (p .suffixShort) (p .suffixIn) (p .suffixStarts),
+          p .suffixLongest (recordOf keyword chunk .suffix) (q .suffixShort) (q .suffixIn) (q .suffixStarts),
+        ) in
         let c : r .offsets ≡ recordOf keyword chunk .offsets =
         rising-same (length chunk) (r .offsets) (recordOf keyword chunk .offsets) (p .offsetsRise) (q .offsetsRise)
         (λ x. bool-ext _ _ (λ m. q .offsetsAll x (p .offsetsOnly x m)) (λ m. p .offsetsAll x (q .offsetsOnly x m)))

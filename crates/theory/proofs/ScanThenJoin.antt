@@ -16,8 +16,8 @@ use Rattle.spec.specs.Directory.{sizeAt}
 use Rattle.spec.specs.Store.{storeLayout, chunkCount, storeKeys}
 use Rattle.spec.specs.Records.{Form}
 use Rattle.spec.specs.Index.{listIn, indexLayout, indexKeys}
-use Rattle.spec.specs.Recipes.{largest32, roomy, sizesIn, fileCode, filesCode, filesOf, recipesCode}
-use Rattle.spec.specs.Join.{Occurrence, fileRecords, joinList, listBytes, due, joinableCode, joinCode, joinOutcome, joinBuffer}
+use Rattle.spec.specs.Recipes.{largest32, innerLong, sizesIn, fileCode, filesCode, filesOf, recipesCode}
+use Rattle.spec.specs.Join.{Occurrence, fileRecords, joinList, listBytes, innerLeast, joinableCode, joinCode, joinOutcome, joinBuffer}
 use Rattle.spec.specs.Scan.{scanRecords}
 use Rattle.spec.specs.Search.{chunkNamed, restored, directSearch, searchJoinCode, occurrencesInAll}
 use Rattle.spec.proofs.Tests.{bool-cases, and-left, and-right}
@@ -63,7 +63,7 @@ pub position-in : (keys : List (List ℕ)) (key : List ℕ) → contains key key
 position-in keys key e = ltb-true (positionOf key keys) (length keys) (sym (contains-position key keys) ∙ e)
 
 module _ (keys : List (List ℕ)) (s t : ℕ → ℕ) (m : ℕ) (h : (k : ℕ) → k < length keys → s k ≡ t k) where
-  sizes-same : (file : List (List ℕ)) → every (λ key. contains key keys) file ≡ true → sizesIn keys s m file ≡ sizesIn keys t m file
+  sizes-same : (file : List (List ℕ)) → every (λ key. contains key keys) file ≡ true → sizesIn keys s file ≡ sizesIn keys t file
   sizes-same file e = map-same (λ key. contains key keys) _ _ file e (λ key c. h (positionOf key keys) (position-in keys key c))
 
   file-same : (file : List (List ℕ)) → fileCode keys s m file ≡ fileCode keys t m file
@@ -87,10 +87,10 @@ module _ (keys : List (List ℕ)) (s t : ℕ → ℕ) (m : ℕ) (h : (k : ℕ) �
 module _ (f : Form) (plain : f .sets ≡ false) (list store index : List ℕ) (accept : keywordCode list ≡ 0) (reads : ScanReads f list store index) where
   -- the tests 15 to 17 of a file and of all files, said of the store
   abbrev storeFileCode : List (List ℕ) → ℕ
-  storeFileCode file = fileCode (storeKeys store) (sizeAt storeLayout store) (due f list) file
+  storeFileCode file = fileCode (storeKeys store) (sizeAt storeLayout store) (innerLeast f list) file
 
   abbrev storeFilesCode : List (List (List ℕ)) → ℕ
-  storeFilesCode files = filesCode (storeKeys store) (sizeAt storeLayout store) (due f list) files
+  storeFilesCode files = filesCode (storeKeys store) (sizeAt storeLayout store) (innerLeast f list) files
 
   abbrev chunksNamed : List (List ℕ) → List (List ℕ)
   chunksNamed file = map (chunkNamed store) file
@@ -98,7 +98,8 @@ module _ (f : Form) (plain : f .sets ≡ false) (list store index : List ℕ) (a
   in-store : (key : List ℕ) → contains key (storeKeys store) ≡ true → positionOf key (storeKeys store) < chunkCount store
   in-store key e = omega (arith, position-in (storeKeys store) key e, reads .keyCount)
 
-  file-records : (file : List (List ℕ)) → every (λ key. contains key (storeKeys store)) file ≡ true → fileRecords f index file ≡ map (scanRecords list) (chunksNamed file)
+  file-records : (file : List (List ℕ)) → every (λ key. contains key (storeKeys store)) file ≡ true
+      → fileRecords f index file ≡ map (scanRecords list) (chunksNamed file)
   unfolding fileRecords
   file-records file e =
       rw (reads .keys)
@@ -106,28 +107,33 @@ module _ (f : Form) (plain : f .sets ≡ false) (list store index : List ℕ) (a
       ∙ sym (map-map (scanRecords list) (chunkNamed store) file))
 
   pub file-lengths : (file : List (List ℕ)) → every (λ key. contains key (storeKeys store)) file ≡ true
-      → map length (chunksNamed file) ≡ sizesIn (storeKeys store) (sizeAt storeLayout store) (due f list) file
+      → map length (chunksNamed file) ≡ sizesIn (storeKeys store) (sizeAt storeLayout store) file
   file-lengths file e =
       map-map length (chunkNamed store) file
       ∙ map-same (λ key. contains key (storeKeys store)) _ _ file e (λ key c. reads .chunks (positionOf key (storeKeys store)) (in-store key c))
 
-  all-records : (files : List (List (List ℕ))) → storeFilesCode files ≡ 0 → map (fileRecords f index) files ≡ map (map (scanRecords list)) (map chunksNamed files)
+  all-records : (files : List (List (List ℕ))) → storeFilesCode files ≡ 0
+      → map (fileRecords f index) files ≡ map (map (scanRecords list)) (map chunksNamed files)
   unfolding filesCode
   all-records [] e = refl
   all-records (file ∷ files) e =
       let p : (storeFileCode file ≡ 0) × (storeFilesCode files ≡ 0) = passed-code (storeFileCode file) (map storeFileCode files) e in
-      let g : FileAccepted (storeKeys store) (sizeAt storeLayout store) (due f list) file = file-accepted (storeKeys store) (sizeAt storeLayout store) (due f list) file (p .0) in
+      let g : FileAccepted (storeKeys store) (sizeAt storeLayout store) (innerLeast f list) file =
+      file-accepted (storeKeys store) (sizeAt storeLayout store) (innerLeast f list) file (p .0) in
       rw (file-records file (g .known), all-records files (p .1))
 
-  all-roomy : (files : List (List (List ℕ))) → storeFilesCode files ≡ 0 → every (λ cs. roomy (due f list) (map length cs)) (map chunksNamed files) ≡ true
+  all-roomy : (files : List (List (List ℕ))) → storeFilesCode files ≡ 0
+      → every (λ cs. innerLong (innerLeast f list) (map length cs)) (map chunksNamed files) ≡ true
   unfolding filesCode
   all-roomy [] e = refl
   all-roomy (file ∷ files) e =
       let p : (storeFileCode file ≡ 0) × (storeFilesCode files ≡ 0) = passed-code (storeFileCode file) (map storeFileCode files) e in
-      let g : FileAccepted (storeKeys store) (sizeAt storeLayout store) (due f list) file = file-accepted (storeKeys store) (sizeAt storeLayout store) (due f list) file (p .0) in
+      let g : FileAccepted (storeKeys store) (sizeAt storeLayout store) (innerLeast f list) file =
+      file-accepted (storeKeys store) (sizeAt storeLayout store) (innerLeast f list) file (p .0) in
       rw (file-lengths file (g .known), g .inner, all-roomy files (p .1))
 
-  texts : (files : List (List (List ℕ))) → map (λ cs. folded (flagOf list) (joined cs)) (map chunksNamed files) ≡ map (λ file. folded (flagOf list) (restored store file)) files
+  texts : (files : List (List (List ℕ))) → map (λ cs. folded (flagOf list) (joined cs)) (map chunksNamed files)
+      ≡ map (λ file. folded (flagOf list) (restored store file)) files
   unfolding restored
   texts files = map-map (λ cs. folded (flagOf list) (joined cs)) chunksNamed files
 
@@ -140,14 +146,16 @@ module _ (f : Form) (plain : f .sets ≡ false) (list store index : List ℕ) (a
 
   -- ---- the number
 
-  due-same : due f (listIn index) ≡ due f list
-  unfolding due
-  due-same = rw (reads .listed .keywords)
+  innerLeast-same : innerLeast f (listIn index) ≡ innerLeast f list
+  unfolding innerLeast
+  innerLeast-same = rw (reads .listed .keywords)
 
-  index-files : (files : List (List (List ℕ))) → filesCode (indexKeys index) (sizeAt (indexLayout index) index) (due f (listIn index)) files ≡ storeFilesCode files
+  index-files : (files : List (List (List ℕ))) → filesCode (indexKeys index) (sizeAt (indexLayout index) index) (innerLeast f (listIn index)) files
+      ≡ storeFilesCode files
   index-files files =
-      rw (reads .keys, due-same)
-      (files-same (storeKeys store) (sizeAt (indexLayout index) index) (sizeAt storeLayout store) (due f list) (λ k l. reads .sizes k (omega (arith, reads .keyCount))) files)
+      rw (reads .keys, innerLeast-same)
+      (files-same (storeKeys store) (sizeAt (indexLayout index) index) (sizeAt storeLayout store) (innerLeast f list)
+      (λ k l. reads .sizes k (omega (arith, reads .keyCount))) files)
 
   chain : (r c n : ℕ) (b d : Bool) → (r ≡ 0 → c ≡ 0 → b ≡ d)
       → firstOf (whole (firstOf (whole 0 ∷ whole r ∷ whole c ∷ [])) ∷ (b, n) ∷ []) ≡ firstOf (whole r ∷ whole c ∷ (d, n) ∷ [])
@@ -159,7 +167,8 @@ module _ (f : Form) (plain : f .sets ≡ false) (list store index : List ℕ) (a
   unfolding joinCode joinableCode searchJoinCode
   codes-agree recipes room =
       rw (reads .passes, index-files (filesOf recipes))
-      (chain (recipesCode recipes) (storeFilesCode (filesOf recipes)) 18 (ltb room (9 * length (joinList f index recipes))) (ltb room (9 * length (directSearch list store recipes)))
+      (chain (recipesCode recipes) (storeFilesCode (filesOf recipes)) 18
+      (ltb room (9 * length (joinList f index recipes))) (ltb room (9 * length (directSearch list store recipes)))
       (λ _ e. ap (λ (l : List Occurrence). ltb room (9 * length l)) (lists-same recipes e)))
 
   -- where the number is 0 the lists are the same
@@ -175,12 +184,14 @@ module _ (f : Form) (plain : f .sets ≡ false) (list store index : List ℕ) (a
       → joinOutcome f index recipes room ≡ answer (searchJoinCode f list store recipes room) (length (directSearch list store recipes))
   unfolding joinOutcome
   outcome-of-scan recipes room =
-      answer-same (joinCode f index recipes room) (searchJoinCode f list store recipes room) (length (joinList f index recipes)) (length (directSearch list store recipes))
+      answer-same (joinCode f index recipes room) (searchJoinCode f list store recipes room)
+      (length (joinList f index recipes)) (length (directSearch list store recipes))
       (codes-agree recipes room)
       (λ e. ap length (done-same recipes room e))
 
   pub buffer-of-scan : (recipes out : List ℕ)
-      → joinBuffer f index recipes out ≡ unlessRefused (searchJoinCode f list store recipes (length out)) (written out (listBytes (directSearch list store recipes))) out
+      → joinBuffer f index recipes out
+      ≡ unlessRefused (searchJoinCode f list store recipes (length out)) (written out (listBytes (directSearch list store recipes))) out
   unfolding joinBuffer
   buffer-of-scan recipes out =
       buffer-same (joinCode f index recipes (length out)) (searchJoinCode f list store recipes (length out))

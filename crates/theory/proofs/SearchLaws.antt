@@ -41,12 +41,14 @@ refused-some (suc code) value c e z = omega arith
 
 module _ (list store recipes buffer out : List ℕ) where
   pub search-scan-refused : (c : ℕ) → scanOutcome form1 list store (length buffer) ≡ Refused c
-      → (ScanRefused c ≡ searchOutcome form1 list store recipes (length buffer) (length out)) × (out ≡ searchBuffer form1 list store recipes (length buffer) out)
+      → (ScanRefused c ≡ searchOutcome form1 list store recipes (length buffer) (length out))
+      × (out ≡ searchBuffer form1 list store recipes (length buffer) out)
   unfolding scanOutcome searchOutcome searchBuffer searchCode unlessRefused
   search-scan-refused c e =
-      let p : scanCode form1 list store (length buffer) ≡ c = refused-code (scanCode form1 list store (length buffer)) (length (scanIndex form1 list store)) c e in
-      let q : scanCode form1 list store (length buffer) ≢ 0 = refused-some (scanCode form1 list store (length buffer)) (length (scanIndex form1 list store)) c e in
-      (rw (ne-eqb (scanCode form1 list store (length buffer)) 0 q, p), rw (lt-ltb 0 (scanCode form1 list store (length buffer)) (omega arith), ne-eqb (scanCode form1 list store (length buffer)) 0 q))
+      let code : ℕ = scanCode form1 list store (length buffer) in
+      let p : code ≡ c = refused-code code (length (scanIndex form1 list store)) c e in
+      let q : code ≢ 0 = refused-some code (length (scanIndex form1 list store)) c e in
+      (rw (ne-eqb code 0 q, p), rw (lt-ltb 0 code (omega arith), ne-eqb code 0 q))
 
   -- the scan did its work and reported n bytes
   module _ (n : ℕ) (e : scanOutcome form1 list store (length buffer) ≡ Done n) where
@@ -64,17 +66,20 @@ module _ (list store recipes buffer out : List ℕ) where
         ap (λ (o : Outcome). take (valueOf o) (scanBuffer form1 list store buffer)) (sym e)
         ∙ scanned-is list store buffer scan-code
 
-    answered : joinOutcome form1 (take n (scanBuffer form1 list store buffer)) recipes (length out) ≡ answer (searchJoinCode form1 list store recipes (length out)) (length (directSearch list store recipes))
+    answered : joinOutcome form1 (take n (scanBuffer form1 list store buffer)) recipes (length out)
+        ≡ answer (searchJoinCode form1 list store recipes (length out)) (length (directSearch list store recipes))
     answered = join-outcome list store (length buffer) scan-code (take n (scanBuffer form1 list store buffer)) recipes (length out) scanned-front
 
     pub search-join-refused : (c : ℕ) → joinOutcome form1 (take n (scanBuffer form1 list store buffer)) recipes (length out) ≡ Refused c
         → JoinRefused n c ≡ searchOutcome form1 list store recipes (length buffer) (length out)
     unfolding searchOutcome
     search-join-refused c f =
-        let g : answer (searchJoinCode form1 list store recipes (length out)) (length (directSearch list store recipes)) ≡ Refused c = sym answered ∙ f in
-        let p : searchJoinCode form1 list store recipes (length out) ≡ c = refused-code (searchJoinCode form1 list store recipes (length out)) (length (directSearch list store recipes)) c g in
-        let q : searchJoinCode form1 list store recipes (length out) ≢ 0 = refused-some (searchJoinCode form1 list store recipes (length out)) (length (directSearch list store recipes)) c g in
-        rw (scan-code, ne-eqb (searchJoinCode form1 list store recipes (length out)) 0 q, p, scan-length)
+        let code : ℕ = searchJoinCode form1 list store recipes (length out) in
+        let count : ℕ = length (directSearch list store recipes) in
+        let g : answer code count ≡ Refused c = sym answered ∙ f in
+        let p : code ≡ c = refused-code code count c g in
+        let q : code ≢ 0 = refused-some code count c g in
+        rw (scan-code, ne-eqb code 0 q, p, scan-length)
 
     pub search-found : (m : ℕ) → joinOutcome form1 (take n (scanBuffer form1 list store buffer)) recipes (length out) ≡ Done m
         → Found n m ≡ searchOutcome form1 list store recipes (length buffer) (length out)

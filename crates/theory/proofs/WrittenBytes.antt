@@ -8,18 +8,19 @@ use native.Mathlib.Nat.{mod-lt, zero-lt-suc}
 use native.Mathlib.Omega.{arith}
 use lib.Dec.{leb, eqb}
 use lib.ListN.{length, getD, length-map}
-use Rattle.spec.specs.Bytes.{leBytes, fieldsBytes}
+use Rattle.spec.specs.Bytes.{leBytes, fieldsBytes, AllBytes}
 use Rattle.spec.specs.Keywords.{keywordsOf, keywordCode}
-use Rattle.spec.specs.Records.{Form, form1, MatchRecord, reach, isEmpty, isTiny, inRange, kindOf, offsetsBytes, fullBytes, tinyBytes, recordBytes, bodyFrom, allInRange}
-use Rattle.spec.specs.Index.{directoryBytes, indexBytes}
+use Rattle.spec.specs.Records.{Form, form1, MatchRecord, reach, isEmpty, isTiny, inRange, kindOf, offsetsBytes, fullBytes, tinyBytes, recordBytes}
+use Rattle.spec.specs.Records.{bodyFrom, allInRange, headBytes}
+use Rattle.spec.specs.Index.{directoryBytes, indexBytes, entryBytes}
 use Rattle.spec.proofs.Tests.{cond-elim, and-left, and-right}
-use Rattle.spec.proofs.FieldLists.{AllBytes}
 use Rattle.spec.proofs.JoinIsSearch.{getD-map}
 use Rattle.spec.proofs.KeywordLaws.{accepted, keyword-front}
 use Rattle.spec.proofs.RecordLaws.{prefix-in, suffix-in, le-of}
 use Rattle.spec.proofs.ScanLaws.{form1-scans}
 use Rattle.spec.proofs.WrittenEntries.{bodiesOf}
-use Rattle.theory.proofs.IndexTheorems.{Said, nothing, entryFor, writtenIndex, Fitting, AllFitting, Says, records-read-back, one-index-form}
+use Rattle.theory.specs.RecordSets.{Said, nothing, entryFor, writtenIndex, Fitting, AllFitting, Says, WrittenOnce}
+use Rattle.theory.proofs.IndexTheorems.{records-read-back, one-index-form}
 
 -- ---- bytes put together
 
@@ -74,10 +75,13 @@ bytes-offsets : (f : Form) (offsets : List ℕ) → Bytes (offsetsBytes f offset
 unfolding offsetsBytes
 bytes-offsets f offsets =
     bytes-cond (leb (length offsets) 1) (λ _. bytes-nil)
-    (λ _. bytes-append (bytes-cond (leb (length offsets) 254) (λ _. bytes-nil) (λ _. bytes-leBytes (f .width) (length offsets))) (bytes-fields (f .width) offsets))
+    (λ _. bytes-append (bytes-cond (leb (length offsets) 254) (λ _. bytes-nil) (λ _. bytes-leBytes (f .width) (length offsets)))
+    (bytes-fields (f .width) offsets))
 
 kind-small : (count : ℕ) → kindOf count < 256
-kind-small count = cond-elim (λ k. k < 256) (leb count 1) _ _ (λ e. omega arith) (λ e. cond-elim (λ k. k < 256) (leb count 254) 2 3 (λ e. omega arith) (λ e. omega arith))
+kind-small count =
+    cond-elim (λ k. k < 256) (leb count 1) _ _ (λ e. omega arith)
+    (λ e. cond-elim (λ k. k < 256) (leb count 254) 2 3 (λ e. omega arith) (λ e. omega arith))
 
 reach-small : (n size : ℕ) → n ≤ 32 → reach n size < 256
 unfolding reach
@@ -86,20 +90,22 @@ reach-small n size h = omega arith
 module _ (f : Form) (form : ByteForm f) (size : ℕ) where
   module _ (n k : ℕ) (h : n ≤ 32) (l : k < 256) (r : MatchRecord) (e : inRange n size r ≡ true) where
     bytes-full : Bytes (fullBytes f k r)
-    unfolding fullBytes
+    unfolding fullBytes headBytes
     bytes-full =
         let p : r .prefix < 256 = omega (arith, prefix-in n size r e, reach-small n size h) in
         let s : r .suffix < 256 = omega (arith, suffix-in n size r e, reach-small n size h) in
         let c : min (length (r .offsets)) 255 < 256 = omega arith in
         bytes-append
-        (bytes-cons l (bytes-cons (kind-small (length (r .offsets))) (bytes-cons p (bytes-cons s (bytes-cons c (bytes-leBytes (f .width) (getD (r .offsets) 0 0)))))))
+        (bytes-cons l (bytes-cons (kind-small (length (r .offsets)))
+        (bytes-cons p (bytes-cons s (bytes-cons c (bytes-leBytes (f .width) (getD (r .offsets) 0 0)))))))
         (bytes-offsets f (r .offsets))
 
     bytes-tiny : isTiny f n r ≡ true → Bytes (tinyBytes f k r)
     bytes-tiny t =
         let b : (eqb (length (r .offsets)) 0 && leb (r .prefix) (f .tinyMost n) && leb (r .suffix) (f .tinyMost n)) ≡ true = and-left _ _ t in
         let p : r .prefix ≤ f .tinyMost n = le-of (r .prefix) (f .tinyMost n) (and-right (eqb (length (r .offsets)) 0) _ (and-left _ _ b)) in
-        let s : r .suffix ≤ f .tinyMost n = le-of (r .suffix) (f .tinyMost n) (and-right (eqb (length (r .offsets)) 0 && leb (r .prefix) (f .tinyMost n)) _ b) in
+        let s : r .suffix ≤ f .tinyMost n =
+        le-of (r .suffix) (f .tinyMost n) (and-right (eqb (length (r .offsets)) 0 && leb (r .prefix) (f .tinyMost n)) _ b) in
         bytes-cons l (bytes-cons (omega arith) (bytes-cons (form .tiny n (r .prefix) (r .suffix) h p s) bytes-nil))
 
     bytes-record : Bytes (recordBytes f n k r)
@@ -128,20 +134,23 @@ keyword-count list e = let a = accepted list (keyword-front list e) in rw (lengt
 
 -- what holds of every entry, along the list
 module _ (f : Form) (form : ByteForm f) (list : List ℕ) (accept : keywordCode list ≡ 0) where
-  bytes-directory : (at : ℕ) (said : List Said) → ((k : ℕ) → k < length said → AllBytes (getD said k nothing .key)) → Bytes (directoryBytes at (map (entryFor f list) said))
-  unfolding directoryBytes
+  bytes-directory : (at : ℕ) (said : List Said) → ((k : ℕ) → k < length said → AllBytes (getD said k nothing .key))
+      → Bytes (directoryBytes at (map (entryFor f list) said))
+  unfolding directoryBytes entryBytes
   bytes-directory at [] h = bytes-nil
   bytes-directory at (s ∷ said) h =
       let key : Bytes (s .key) = record { below = h 0 (zero-lt-suc _) } in
       bytes-append
-      (bytes-append (bytes-append (bytes-append key (bytes-leBytes 4 (s .chunk .size))) (bytes-leBytes 4 at)) (bytes-leBytes 4 (length (entryFor f list s .body))))
+      (bytes-append (bytes-append (bytes-append key (bytes-leBytes 4 (s .chunk .size))) (bytes-leBytes 4 at))
+      (bytes-leBytes 4 (length (entryFor f list s .body))))
       (bytes-directory (at + length (entryFor f list s .body)) said (λ k l. h (suc k) (omega arith)))
 
   bytes-bodies : (said : List Said) → ((k : ℕ) → k < length said → Fitting f list (getD said k nothing)) → Bytes (bodiesOf (map (entryFor f list) said))
   bytes-bodies [] h = bytes-nil
   bytes-bodies (s ∷ said) h =
       bytes-append
-      (bytes-body f form (s .chunk .size) 0 (map length (keywordsOf list)) (s .chunk .records) (omega (arith, keyword-count list accept)) (keyword-lengths list accept) (h 0 (zero-lt-suc _) .ranges))
+      (bytes-body f form (s .chunk .size) 0 (map length (keywordsOf list)) (s .chunk .records)
+      (omega (arith, keyword-count list accept)) (keyword-lengths list accept) (h 0 (zero-lt-suc _) .ranges))
       (bytes-bodies said (λ k l. h (suc k) (omega arith)))
 
 -- For a list and fingerprints of bytes.
@@ -158,12 +167,6 @@ written-is-bytes f form list said fit b keys =
     (bytes-bodies f form list (fit .accepted) said (fit .each)) .below
 
 -- ---- demand 2, second half, on the form that document 01 gives
-
--- Records that fit an index file have exactly one written form: it reads back as these records, it is bytes, and no other file of bytes says them.
-pub record WrittenOnce (list : List ℕ) (said : List Said) : Type 0 where
-  pub says : Says form1 list said (writtenIndex form1 list said)
-  pub bytes : AllBytes (writtenIndex form1 list said)
-  pub only : (index : List ℕ) → AllBytes index → Says form1 list said index → index ≡ writtenIndex form1 list said
 
 pub written-once : (list : List ℕ) (said : List Said) → AllFitting form1 list said → AllBytes list
     → ((k : ℕ) → k < length said → AllBytes (getD said k nothing .key)) → WrittenOnce list said

@@ -6,13 +6,14 @@ use lib.ListN.{replicate, length}
 use lib.Dec.{ltb}
 use Rattle.spec.specs.declared.Outcome.{Outcome}
 use Rattle.spec.specs.declared.Outcome.the-variants.{Done, Refused}
-use Rattle.spec.specs.Bytes.{leBytes, fieldsBytes, each, keep, joined}
-use Rattle.spec.specs.Keywords.{keywordCode}
-use Rattle.spec.specs.Store.{storeMark}
+use Rattle.spec.specs.Bytes.{leBytes, fieldsBytes, each, keep}
+use Rattle.spec.specs.Keywords.{keywordListBytes, keywordCode}
+use Rattle.spec.specs.Store.{storeMark, Chunk, storeBytes}
 use Rattle.spec.specs.Directory.{offsetAt}
 use Rattle.spec.specs.Records.{form1, offsetsOf}
 use Rattle.spec.specs.Table.{cellOf}
 use Rattle.spec.specs.Index.{indexLayout, bodyAt, indexCode}
+use Rattle.spec.specs.Recipes.{recipesBytes}
 use Rattle.spec.specs.Join.{joinOutcome, joinBuffer}
 use Rattle.spec.specs.Scan.{scanIndex, scanOutcome}
 
@@ -37,26 +38,37 @@ store =
 abbrev pub keywords : List ℕ
 keywords = 0x02 ∷ 0x00 ∷ 0x03 ∷ 0x41 ∷ 0x42 ∷ 0x41 ∷ 0x02 ∷ 0x41 ∷ 0x41 ∷ []
 
--- A file of a recipe, by the fingerprints that it names; recipes of files.
-abbrev pub fileOf : List ℕ → List ℕ
-fileOf names = leBytes 4 (length names) ++ joined (map fingerprint names)
-
-abbrev pub recipesOf : List (List ℕ) → List ℕ
-recipesOf files = leBytes 4 (length files) ++ joined (map fileOf files)
-
 -- File 0 is XAB, ABAX; file 1 is A, A; file 2 is empty.
 abbrev pub recipes : List ℕ
-recipes = recipesOf ((1 ∷ 2 ∷ []) ∷ (3 ∷ 3 ∷ []) ∷ [] ∷ [])
+recipes =
+    (3 ∷ 0 ∷ 0 ∷ 0 ∷ [])
+    ++ (2 ∷ 0 ∷ 0 ∷ 0 ∷ []) ++ fingerprint 1 ++ fingerprint 2
+    ++ (2 ∷ 0 ∷ 0 ∷ 0 ∷ []) ++ fingerprint 3 ++ fingerprint 3
+    ++ (0 ∷ 0 ∷ 0 ∷ 0 ∷ [])
+
+-- The vault's chunks under their fingerprints.
+abbrev pub chunkXAB : Chunk
+chunkXAB = record { key = fingerprint 1; bytes = 0x58 ∷ 0x41 ∷ 0x42 ∷ [] }
+
+abbrev pub chunkABAX : Chunk
+chunkABAX = record { key = fingerprint 2; bytes = 0x41 ∷ 0x42 ∷ 0x41 ∷ 0x58 ∷ [] }
+
+abbrev pub chunkA : Chunk
+chunkA = record { key = fingerprint 3; bytes = 0x41 ∷ [] }
+
+-- Recipes, by the numbers of the fingerprints that each file names.
+abbrev pub recipesOf : List (List ℕ) → List ℕ
+recipesOf files = recipesBytes (map (map fingerprint) files)
 
 abbrev pub index : List ℕ
 index = scanIndex form1 keywords store
 
--- A store of one chunk with fewer than 256 bytes, and one keyword with a flag.
+-- A store of one chunk, and one keyword with a flag.
 abbrev pub oneChunk : List ℕ → List ℕ
-oneChunk chunk = storeMark ++ (1 ∷ 0 ∷ 0 ∷ 0 ∷ []) ++ fingerprint 1 ++ (36 ∷ 0 ∷ 0 ∷ 0 ∷ length chunk ∷ 0 ∷ 0 ∷ 0 ∷ []) ++ chunk
+oneChunk chunk = storeBytes (record { key = fingerprint 1; bytes = chunk } ∷ [])
 
 abbrev pub oneKeyword : ℕ → List ℕ → List ℕ
-oneKeyword flag keyword = 1 ∷ flag ∷ length keyword ∷ keyword
+oneKeyword flag keyword = keywordListBytes flag (keyword ∷ [])
 
 -- The body that a scan writes for it.
 abbrev pub bodyFor : List ℕ → List ℕ → List ℕ
@@ -78,14 +90,22 @@ nine file offset keyword = leBytes 4 file ++ leBytes 4 offset ++ leBytes 1 keywo
 -- ---- the cases
 
 pub record Cases : Type 0 where
+  -- the small vault, as it is spelled above byte by byte, is the written form of its chunks, its keywords and its files
+  pub spelled : (store ≡ storeBytes (chunkXAB ∷ chunkABAX ∷ chunkA ∷ []))
+      × (keywords ≡ keywordListBytes 0 ((0x41 ∷ 0x42 ∷ 0x41 ∷ []) ∷ (0x41 ∷ 0x41 ∷ []) ∷ []))
+      × (recipes ≡ recipesOf ((1 ∷ 2 ∷ []) ∷ (3 ∷ 3 ∷ []) ∷ [] ∷ []))
   -- the store has 100 bytes, the index 136, and both are good
-  pub sizes : (length store ≡ 100) × (scanOutcome form1 keywords store 136 ≡ Done 136) × (scanOutcome form1 keywords store 135 ≡ Refused 9) × (indexCode form1 index ≡ 0)
+  pub sizes : (length store ≡ 100)
+      × (scanOutcome form1 keywords store 136 ≡ Done 136)
+      × (scanOutcome form1 keywords store 135 ≡ Refused 9)
+      × (indexCode form1 index ≡ 0)
   -- * XAB, ABAX and A: the bodies, at 113, 120 and 130
   pub xab : (offsetAt (indexLayout index) index 0 ≡ 113) × (bodyAt index 0 ≡ 0x00 ∷ 0x01 ∷ 0x02 ∷ 0x00 ∷ 0x00 ∷ 0x00 ∷ 0x00 ∷ [])
   pub abax : (offsetAt (indexLayout index) index 1 ≡ 120) × (bodyAt index 1 ≡ 0x00 ∷ 0x01 ∷ 0x00 ∷ 0x01 ∷ 0x01 ∷ 0x00 ∷ 0x00 ∷ 0x01 ∷ 0x00 ∷ 0x02 ∷ [])
   pub a : (offsetAt (indexLayout index) index 2 ≡ 130) × (bodyAt index 2 ≡ 0x00 ∷ 0x00 ∷ 0x03 ∷ 0x01 ∷ 0x00 ∷ 0x03 ∷ [])
   -- the small vault's list, in a buffer of 30 bytes: 27 are written
-  pub list : (joinOutcome form1 index recipes 30 ≡ Done 3) × (joinBuffer form1 index recipes (replicate 30 7) ≡ nine 0 1 0 ++ nine 0 3 0 ++ nine 1 0 1 ++ replicate 3 7)
+  pub list : (joinOutcome form1 index recipes 30 ≡ Done 3)
+      × (joinBuffer form1 index recipes (replicate 30 7) ≡ nine 0 1 0 ++ nine 0 3 0 ++ nine 1 0 1 ++ replicate 3 7)
   -- * DEDUP's five cells, and no others
   pub dedup : filledCells (0x44 ∷ 0x45 ∷ 0x44 ∷ 0x55 ∷ 0x50 ∷ [])
       ≡ (1, 4, 0 ∷ []) ∷ (2, 3, 0 ∷ []) ∷ (3, 2, 0 ∷ []) ∷ (3, 4, 2 ∷ []) ∷ (4, 1, 0 ∷ []) ∷ []
@@ -95,7 +115,8 @@ pub record Cases : Type 0 where
   pub aaInAaa : (offsetsOf (0x41 ∷ 0x41 ∷ []) (replicate 3 0x41) ≡ 0 ∷ 1 ∷ [])
       × (bodyFor (0x41 ∷ 0x41 ∷ []) (replicate 3 0x41) ≡ 0x00 ∷ 0x02 ∷ 0x01 ∷ 0x01 ∷ 0x02 ∷ 0x00 ∷ 0x00 ∷ 0x00 ∷ 0x00 ∷ 0x01 ∷ 0x00 ∷ [])
   -- * file XAB, A: ABA at 1
-  pub xabThenA : (joinOutcome form1 index (recipesOf ((1 ∷ 3 ∷ []) ∷ [])) 9 ≡ Done 1) × (joinBuffer form1 index (recipesOf ((1 ∷ 3 ∷ []) ∷ [])) (replicate 9 7) ≡ nine 0 1 0)
+  pub xabThenA : (joinOutcome form1 index (recipesOf ((1 ∷ 3 ∷ []) ∷ [])) 9 ≡ Done 1)
+      × (joinBuffer form1 index (recipesOf ((1 ∷ 3 ∷ []) ∷ [])) (replicate 9 7) ≡ nine 0 1 0)
   -- * XAB, A, ABAX is refused with 17
   pub innerShort : (joinOutcome form1 index (recipesOf ((1 ∷ 3 ∷ 2 ∷ []) ∷ [])) 65536 ≡ Refused 17)
       × (joinBuffer form1 index (recipesOf ((1 ∷ 3 ∷ 2 ∷ []) ∷ [])) (replicate 30 7) ≡ replicate 30 7)

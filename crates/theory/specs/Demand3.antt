@@ -11,7 +11,7 @@ use Rattle.spec.specs.Directory.{sizeAt}
 use Rattle.spec.specs.Store.{storeLayout, storeKeys, storeCode}
 use Rattle.spec.specs.Records.{form1}
 use Rattle.spec.specs.Recipes.{largest32, filesOf, recipesCode, filesCode}
-use Rattle.spec.specs.Join.{Occurrence, listBytes, due, joinOutcome, joinBuffer}
+use Rattle.spec.specs.Join.{Occurrence, listBytes, innerLeast, joinOutcome, joinBuffer, readList}
 use Rattle.spec.specs.Scan.{scanIndex, scanOutcome, scanBuffer}
 use Rattle.spec.specs.Search.{restored, directSearch, searchJoinCode}
 use Rattle.theory.specs.SearchList.{SearchList}
@@ -28,7 +28,7 @@ NoScanRefusal list store room =
 abbrev pub NoJoinRefusal : List ℕ → List ℕ → List ℕ → ℕ → Type 0
 NoJoinRefusal list store recipes room =
     (recipesCode recipes ≡ 0)
-    × (filesCode (storeKeys store) (sizeAt storeLayout store) (due form1 list) (filesOf recipes) ≡ 0)
+    × (filesCode (storeKeys store) (sizeAt storeLayout store) (innerLeast form1 list) (filesOf recipes) ≡ 0)
     × (9 * length (directSearch list store recipes) ≤ room)
 
 -- The restored files, as they compare.
@@ -38,11 +38,6 @@ restoredFiles list store recipes = map (λ file. folded (flagOf list) (restored 
 -- The join's index: the bytes that the scan wrote into its buffer, of the length it reported.
 abbrev pub scanned : List ℕ → List ℕ → List ℕ → List ℕ
 scanned list store buffer = take (valueOf (scanOutcome form1 list store (length buffer))) (scanBuffer form1 list store buffer)
-
--- The occurrences that n runs of 9 bytes say: file (4), offset (4), keyword (1).
-abbrev pub readList : ℕ → List ℕ → List Occurrence
-readList zero bytes = []
-readList (suc n) bytes = record { file = fieldAt bytes 0 4; offset = fieldAt bytes 4 4; keyword = fieldAt bytes 8 1 } ∷ readList n (drop 9 bytes)
 
 -- What holds of a join once the scan has done its work.
 pub record JoinOfScan (list store recipes buffer out : List ℕ) : Type 0 where
@@ -59,7 +54,7 @@ pub record JoinOfScan (list store recipes buffer out : List ℕ) : Type 0 where
       → readList (valueOf (joinOutcome form1 (scanned list store buffer) recipes (length out))) (joinBuffer form1 (scanned list store buffer) recipes out)
       ≡ directSearch list store recipes
 
-pub record Demand3 (list store recipes buffer out : List ℕ) : Type 0 where
+pub record ScanAndJoin (list store recipes buffer out : List ℕ) : Type 0 where
   -- the scan does its work exactly when none of its refusals holds
   pub scan : (codeOf (scanOutcome form1 list store (length buffer)) ≡ 0) ↔ NoScanRefusal list store (length buffer)
   -- and then a join of what it wrote answers by the restored files

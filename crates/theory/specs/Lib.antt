@@ -2,4 +2,8 @@ pub mod Cases
 pub mod SearchList
 pub mod PlaceText
 pub mod Demand3
-pub mod Moved
+pub mod WrittenInputs
+pub mod SameChunks
+pub mod Published
+pub mod RecordSets
+pub mod Demands

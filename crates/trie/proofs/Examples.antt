@@ -3,7 +3,8 @@ use mathlib.Core.Path.{_≡_, refl}
 use mathlib.Core.Bool.{true, false}
 use mathlib.Core.List.{List, [], _∷_, map}
 use Prim.Native.Nat.{ℕ}
-use Rattle.trie.specs.Trie.{someBegins, isNode, hasChild, longestNode, link, stops, arrived, oneMore, follow, step, nodeFrom, movesFrom, nodeAfter, movesOf, movesOfAll, isEnding, endsAt, prefixAt}
+use Rattle.trie.specs.Trie.{someBegins, isNode, hasChild, longestNode, link, stops, arrived, oneMore, follow, step, nodeFrom, movesFrom}
+use Rattle.trie.specs.Trie.{nodeAfter, movesOf, movesOfAll, isEnding, endsAt, prefixAt}
 use Rattle.trie.specs.Numbers.{beginnings, without, distinct, nodesOf, nodeCount, nodeNumber, nodeAt}
 
 -- every definition that the examples compute with

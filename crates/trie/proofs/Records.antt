@@ -131,9 +131,9 @@ map-match f g (x ∷ xs) h = ap₂ {C = List MatchRecord} (λ r rs. r ∷ rs) (h
 pub walk-records : (keywords : List (List ℕ)) (chunk : List ℕ) → ((k : ℕ) → k < length keywords → 1 ≤ length (keywordAt keywords k))
     → map (λ keyword. walkRecord keywords keyword chunk) keywords ≡ recordsOf keywords chunk .records
 unfolding recordsOf
-walk-records keywords chunk some =
+walk-records keywords chunk nonempty =
     map-match (λ keyword. walkRecord keywords keyword chunk) (λ keyword. recordOf keyword chunk) keywords
-    (λ k h. walk-record keywords (keywordAt keywords k) (keyword-contained keywords k h) chunk (some k h))
+    (λ k h. walk-record keywords (keywordAt keywords k) (keyword-contained keywords k h) chunk (nonempty k h))
 
 accepted-some : (list : List ℕ) → Accepted list → (k : ℕ) → k < countOf list → 1 ≤ length (keywordAt (foldedKeywords list) k)
 accepted-some list good k h =

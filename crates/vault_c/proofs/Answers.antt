@@ -1,28 +1,31 @@
--- An answer r, known to be the definition's e and to be the case o, gives what a call promises: code, number, buffers. Assumes nothing.
+-- An answer r, known to be the definition's e and to be the case o, gives what a call promises: code, numbers that were lent, buffers. Assumes nothing.
 use mathlib.Core.Path.{_≡_, sym, ap, _∙_}
 use mathlib.Core.List.{List}
 use Prim.Native.Nat.{ℕ}
 use lib.ListN.{length}
 use Rattle.spec.specs.declared.Outcome.{Outcome}
 use Rattle.spec.specs.declared.Searched.{Searched}
-use Rattle.spec.specs.Outcome.{codeOf, valueOf}
+use Rattle.spec.specs.Outcome.{codeOf, toldValue}
 use Rattle.spec.specs.Records.{form1}
 use Rattle.spec.specs.Scan.{scanBuffer}
-use Rattle.spec.specs.Search.{searchOutcome, searchBuffer, searchedCode, searchedSize, searchedCount}
+use Rattle.spec.specs.Search.{searchOutcome, searchBuffer, searchedCode, toldSize, toldCount}
 
-module _ (o r : Outcome) {e : Outcome} (k : r ≡ o) (d : r ≡ e) where
-  pub told : (codeOf o ≡ codeOf e) × (valueOf o ≡ valueOf e)
-  told = (ap codeOf (sym k ∙ d), ap valueOf (sym k ∙ d))
+-- `before` is what the number held at entry
+module _ (o r : Outcome) {e : Outcome} (k : r ≡ o) (d : r ≡ e) (before : ℕ) where
+  pub told : (codeOf o ≡ codeOf e) × (toldValue o before ≡ toldValue e before)
+  told = (ap codeOf (sym k ∙ d), ap (λ (x : Outcome). toldValue x before) (sym k ∙ d))
 
-  pub told-buffer : {out b : List ℕ} → out ≡ b → (codeOf o ≡ codeOf e) × (valueOf o ≡ valueOf e) × (out ≡ b)
+  pub told-buffer : {out b : List ℕ} → out ≡ b → (codeOf o ≡ codeOf e) × (toldValue o before ≡ toldValue e before) × (out ≡ b)
   told-buffer q = (told .0, told .1, q)
 
-module _ (list store recipes index out index′ out′ : List ℕ) (o r : Searched) where
+module _ (list store recipes index out index′ out′ : List ℕ) (o r : Searched) (size count : ℕ) where
   -- the definition's answer
   abbrev searched : Searched
   searched = searchOutcome form1 list store recipes (length index) (length out)
 
   pub told-search : r ≡ o → r ≡ searched → index′ ≡ scanBuffer form1 list store index → out′ ≡ searchBuffer form1 list store recipes (length index) out
-      → (searchedCode o ≡ searchedCode searched) × (searchedSize o ≡ searchedSize searched) × (searchedCount o ≡ searchedCount searched)
+      → (searchedCode o ≡ searchedCode searched) × (toldSize o size ≡ toldSize searched size) × (toldCount o count ≡ toldCount searched count)
       × (index′ ≡ scanBuffer form1 list store index) × (out′ ≡ searchBuffer form1 list store recipes (length index) out)
-  told-search k e b d = (ap searchedCode (sym k ∙ e), ap searchedSize (sym k ∙ e), ap searchedCount (sym k ∙ e), b, d)
+  told-search k e b d =
+      let q : o ≡ searched = sym k ∙ e in
+      (ap searchedCode q, ap (λ (x : Searched). toldSize x size) q, ap (λ (x : Searched). toldCount x count) q, b, d)

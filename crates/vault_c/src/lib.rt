@@ -1,6 +1,6 @@
 // The library for C and other languages: numbers, byte slices (a pointer and a length) and single numbers by reference. A call answers
-// document 01's number, 0 for accepted, found or done. A number by reference is a part of the answer: the length or the count where the
-// work is done, 0 on a refusal. include/vault.h declares these functions.
+// document 01's number, 0 for accepted, found or done. A number by reference is told the length or the count where the work is done, and stays
+// as it was on a refusal. include/vault.h declares these functions.
 ghost use mathlib.Core.Path.{_≡_};
 ghost use lib.ListN.{length};
 ghost use Rattle.spec.specs.Keywords.{keywordCode};
@@ -8,10 +8,10 @@ ghost use Rattle.spec.specs.Store.{storeCode};
 ghost use Rattle.spec.specs.Records.{form1};
 ghost use Rattle.spec.specs.Index.{indexCode};
 ghost use Rattle.spec.specs.Lookup.{findChunk, chunkStart, chunkLength, findBody, bodyStart, bodyLength};
-ghost use Rattle.spec.specs.Outcome.{codeOf, valueOf};
+ghost use Rattle.spec.specs.Outcome.{codeOf, toldValue};
 ghost use Rattle.spec.specs.Scan.{sizeOutcome, scanOutcome, scanBuffer};
 ghost use Rattle.spec.specs.Join.{countOutcome, joinOutcome, joinBuffer};
-ghost use Rattle.spec.specs.Search.{searchOutcome, searchBuffer, searchedCode, searchedSize, searchedCount};
+ghost use Rattle.spec.specs.Search.{searchOutcome, searchBuffer, searchedCode, toldSize, toldCount};
 
 // ---- checks
 
@@ -41,24 +41,21 @@ pub extern "C" fn vault_check_index(index: &[u8]) -> u8
 #[no_mangle]
 pub extern "C" fn vault_scan_size(list: &[u8], store: &[u8], size: &mut u64) -> u8
     ensures { λ r. ⌜ (r ≡ codeOf (sizeOutcome form1 (now (list .entry)) (now (store .entry))))
-        × (now (size .exit) ≡ valueOf (sizeOutcome form1 (now (list .entry)) (now (store .entry)))) ⌝ }
+        × (now (size .exit) ≡ toldValue (sizeOutcome form1 (now (list .entry)) (now (store .entry))) (now (size .entry))) ⌝ }
 {
     match scan::size(list, store) {
         spec::Outcome::Done(needed) => {
             *size = needed as u64;
             0
         }
-        spec::Outcome::Refused(code) => {
-            *size = 0;
-            code
-        }
+        spec::Outcome::Refused(code) => code,
     }
 }
 
 #[no_mangle]
 pub extern "C" fn vault_scan(list: &[u8], store: &[u8], out: &mut [u8], size: &mut u64) -> u8
     ensures { λ r. ⌜ (r ≡ codeOf (scanOutcome form1 (now (list .entry)) (now (store .entry)) (length (now (out .entry)))))
-        × (now (size .exit) ≡ valueOf (scanOutcome form1 (now (list .entry)) (now (store .entry)) (length (now (out .entry)))))
+        × (now (size .exit) ≡ toldValue (scanOutcome form1 (now (list .entry)) (now (store .entry)) (length (now (out .entry)))) (now (size .entry)))
         × (now (out .exit) ≡ scanBuffer form1 (now (list .entry)) (now (store .entry)) (now (out .entry))) ⌝ }
 {
     match scan::scan(list, store, out) {
@@ -66,34 +63,28 @@ pub extern "C" fn vault_scan(list: &[u8], store: &[u8], out: &mut [u8], size: &m
             *size = written as u64;
             0
         }
-        spec::Outcome::Refused(code) => {
-            *size = 0;
-            code
-        }
+        spec::Outcome::Refused(code) => code,
     }
 }
 
 #[no_mangle]
 pub extern "C" fn vault_count(index: &[u8], recipes: &[u8], count: &mut u64) -> u8
     ensures { λ r. ⌜ (r ≡ codeOf (countOutcome form1 (now (index .entry)) (now (recipes .entry))))
-        × (now (count .exit) ≡ valueOf (countOutcome form1 (now (index .entry)) (now (recipes .entry)))) ⌝ }
+        × (now (count .exit) ≡ toldValue (countOutcome form1 (now (index .entry)) (now (recipes .entry))) (now (count .entry))) ⌝ }
 {
     match join::count(index, recipes) {
         spec::Outcome::Done(counted) => {
             *count = counted as u64;
             0
         }
-        spec::Outcome::Refused(code) => {
-            *count = 0;
-            code
-        }
+        spec::Outcome::Refused(code) => code,
     }
 }
 
 #[no_mangle]
 pub extern "C" fn vault_join(index: &[u8], recipes: &[u8], out: &mut [u8], count: &mut u64) -> u8
     ensures { λ r. ⌜ (r ≡ codeOf (joinOutcome form1 (now (index .entry)) (now (recipes .entry)) (length (now (out .entry)))))
-        × (now (count .exit) ≡ valueOf (joinOutcome form1 (now (index .entry)) (now (recipes .entry)) (length (now (out .entry)))))
+        × (now (count .exit) ≡ toldValue (joinOutcome form1 (now (index .entry)) (now (recipes .entry)) (length (now (out .entry)))) (now (count .entry)))
         × (now (out .exit) ≡ joinBuffer form1 (now (index .entry)) (now (recipes .entry)) (now (out .entry))) ⌝ }
 {
     match join::join(index, recipes, out) {
@@ -101,10 +92,7 @@ pub extern "C" fn vault_join(index: &[u8], recipes: &[u8], out: &mut [u8], count
             *count = listed as u64;
             0
         }
-        spec::Outcome::Refused(code) => {
-            *count = 0;
-            code
-        }
+        spec::Outcome::Refused(code) => code,
     }
 }
 
@@ -165,20 +153,15 @@ pub extern "C" fn vault_search(
     count: &mut u64,
 ) -> u8
     ensures { λ r. ⌜ (r ≡ searchedCode (searchOutcome form1 (now (list .entry)) (now (store .entry)) (now (recipes .entry)) (length (now (index .entry))) (length (now (out .entry)))))
-        × (now («index_length» .exit) ≡ searchedSize (searchOutcome form1 (now (list .entry)) (now (store .entry)) (now (recipes .entry)) (length (now (index .entry))) (length (now (out .entry)))))
-        × (now (count .exit) ≡ searchedCount (searchOutcome form1 (now (list .entry)) (now (store .entry)) (now (recipes .entry)) (length (now (index .entry))) (length (now (out .entry)))))
+        × (now («index_length» .exit) ≡ toldSize (searchOutcome form1 (now (list .entry)) (now (store .entry)) (now (recipes .entry)) (length (now (index .entry))) (length (now (out .entry)))) (now («index_length» .entry)))
+        × (now (count .exit) ≡ toldCount (searchOutcome form1 (now (list .entry)) (now (store .entry)) (now (recipes .entry)) (length (now (index .entry))) (length (now (out .entry)))) (now (count .entry)))
         × (now (index .exit) ≡ scanBuffer form1 (now (list .entry)) (now (store .entry)) (now (index .entry)))
         × (now (out .exit) ≡ searchBuffer form1 (now (list .entry)) (now (store .entry)) (now (recipes .entry)) (length (now (index .entry))) (now (out .entry))) ⌝ }
 {
     match search::search(list, store, recipes, index, out) {
-        spec::Searched::ScanRefused(code) => {
-            *index_length = 0;
-            *count = 0;
-            code
-        }
+        spec::Searched::ScanRefused(code) => code,
         spec::Searched::JoinRefused(written, code) => {
             *index_length = written as u64;
-            *count = 0;
             code
         }
         spec::Searched::Found(size, found) => {

@@ -10,10 +10,10 @@ use Rattle.spec.specs.Bytes.{splice, each, keep}
 use Rattle.spec.specs.Keywords.{foldedKeywords}
 use Rattle.spec.specs.Records.{ChunkRecords}
 use Rattle.spec.specs.Index.{listIn}
-use Rattle.spec.specs.Join.{Occurrence, hits, listed, joinFrom, occurrenceBytes, listBytes}
+use Rattle.spec.specs.Join.{Occurrence, occurrencesAt, listed, joinFrom, occurrenceBytes, listBytes}
 use Rattle.spec.proofs.Writing.{Going, going-start, going-room, going-on, going-end, going-place}
 use Rattle.spec.proofs.ListBytes.{length-occurrence, length-list, list-cons, list-nil}
-use Rattle.listing.specs.Streams.{streamOf, unreadAt, occurrences, total, Ready}
+use Rattle.listing.specs.Streams.{streamOf, unreadAt, occurrences, total, ReadableStreams}
 use Rattle.listing.proofs.Totals.{total-is}
 use Rattle.walk.specs.Walking.{chunksIn, fileList, sizeOf, Directory, File, Keyed, Walkable, LoadedAt, Crossed, AtPlace, coming}
 use Rattle.walk.proofs.Places.{AllGood, place-ready, place-join}
@@ -41,20 +41,20 @@ length-keep : {A : Type 0} (b : Bool) (x y : A) → length (keep b x) ≡ length
 length-keep true x y = refl
 length-keep false x y = refl
 
-hits-length : (file file′ count offset offset′ : ℕ) (t : ℕ → Bool) → length (hits file count t offset) ≡ length (hits file′ count t offset′)
-unfolding hits
-hits-length file file′ count offset offset′ t = length-match _ _ 0 0 count (λ k l. length-keep (t (0 + k)) _ _)
+occurrencesAt-length : (file file′ count offset offset′ : ℕ) (t : ℕ → Bool) → length (occurrencesAt file count t offset) ≡ length (occurrencesAt file′ count t offset′)
+unfolding occurrencesAt
+occurrencesAt-length file file′ count offset offset′ t = length-match _ _ 0 0 count (λ k l. length-keep (t (0 + k)) _ _)
 
 join-length : (keywords : List (List ℕ)) (chunks : List ChunkRecords) (file base file′ base′ : ℕ)
     → length (joinFrom file keywords base chunks) ≡ length (joinFrom file′ keywords base′ chunks)
 unfolding joinFrom
 join-length keywords [] file base file′ base′ = refl
 join-length keywords (here ∷ rest) file base file′ base′ =
-    length-append (each (λ at. hits file (length keywords) (listed keywords here rest at) (base + at)) 0 (here .size)) _
+    length-append (each (λ at. occurrencesAt file (length keywords) (listed keywords here rest at) (base + at)) 0 (here .size)) _
     ∙ ap₂ (λ (x y : ℕ). x + y)
-    (length-match _ _ 0 0 (here .size) (λ p l. hits-length file file′ (length keywords) (base + (0 + p)) (base′ + (0 + p)) (listed keywords here rest (0 + p))))
+    (length-match _ _ 0 0 (here .size) (λ p l. occurrencesAt-length file file′ (length keywords) (base + (0 + p)) (base′ + (0 + p)) (listed keywords here rest (0 + p))))
     (join-length keywords rest file (base + here .size) file′ (base′ + here .size))
-    ∙ sym (length-append (each (λ at. hits file′ (length keywords) (listed keywords here rest at) (base′ + at)) 0 (here .size)) _)
+    ∙ sym (length-append (each (λ at. occurrencesAt file′ (length keywords) (listed keywords here rest at) (base′ + at)) 0 (here .size)) _)
 
 -- THE COUNT DOES NOT HANG ON THE FILE'S NUMBER
 pub count-any : (index file : List ℕ) (number : ℕ) → length (fileList number index file) ≡ length (fileList 0 index file)
@@ -70,9 +70,9 @@ keep-most : {A : Type 0} (b : Bool) (x : A) → length (keep b x) ≤ 1
 keep-most true x = omega arith
 keep-most false x = omega arith
 
-hits-most : (file count offset : ℕ) (t : ℕ → Bool) → length (hits file count t offset) ≤ count
-unfolding hits
-hits-most file count offset t =
+occurrencesAt-most : (file count offset : ℕ) (t : ℕ → Bool) → length (occurrencesAt file count t offset) ≤ count
+unfolding occurrencesAt
+occurrencesAt-most file count offset t =
     let f : ℕ → List Occurrence = λ k. keep (t k) (record { file = file; offset = offset; keyword = k }) in
     rw mul-one at (each-most f 1 0 count (λ k. keep-most (t k) (record { file = file; offset = offset; keyword = k })))
 
@@ -81,11 +81,11 @@ join-most : (keywords : List (List ℕ)) (chunks : List ChunkRecords) (base : �
 unfolding joinFrom
 join-most keywords [] base few = omega arith
 join-most keywords (here ∷ rest) base few =
-    let f : ℕ → List Occurrence = λ at. hits 0 (length keywords) (listed keywords here rest at) (base + at) in
+    let f : ℕ → List Occurrence = λ at. occurrencesAt 0 (length keywords) (listed keywords here rest at) (base + at) in
     omega (
       arith,
       length-append (each f 0 (here .size)) (joinFrom 0 keywords (base + here .size) rest),
-      each-most f (length keywords) 0 (here .size) (λ at. hits-most 0 (length keywords) (base + at) (listed keywords here rest at)),
+      each-most f (length keywords) 0 (here .size) (λ at. occurrencesAt-most 0 (length keywords) (base + at) (listed keywords here rest at)),
       mul-le-mul-left {m = length keywords} {n = 16} (here .size) few,
       join-most keywords rest (base + here .size) few,
     )
@@ -111,7 +111,7 @@ module _ (index : List ℕ) (count : ℕ) (tables : List (List (List ℕ))) (chu
   abbrev keywords : List (List ℕ)
   keywords = foldedKeywords (listIn index)
 
-  ready : Ready index 2 size count streams
+  ready : ReadableStreams index 2 size count streams
   ready = place-ready index count tables chunks keyed good n rows rows′ size size′ h l l′ streams c
 
   rest-count : length (joinFrom 0 keywords 0 (drop n chunks)) ≡ total streams count + length (joinFrom 0 keywords 0 (drop (n + 1) chunks))

@@ -12,9 +12,9 @@ use Rattle.spec.specs.Records.{ChunkRecords, recordAt, inRange}
 use Rattle.spec.specs.Index.{listIn}
 use Rattle.spec.specs.Join.{Occurrence, keywordAt, joinFrom, joinFile}
 use Rattle.spec.proofs.Tests.{leb-false}
-use Rattle.listing.specs.Streams.{stream, streamOf, streamAt, occurrences, total, Held, Ready, Fresh}
+use Rattle.listing.specs.Streams.{stream, streamOf, streamAt, occurrences, total, Held, ReadableStreams, Fresh}
 use Rattle.listing.proofs.Stepping.{Opened, NextTaken}
-use Rattle.walk.specs.Walking.{noChunk, chunksIn, sizeOf, Keyed, Walkable, LoadedAt, Crossable, Crossed, AtPlace, coming, Moved, NextOf}
+use Rattle.walk.specs.Walking.{noChunk, chunksIn, sizeOf, Keyed, Walkable, LoadedAt, Crossable, Crossed, AtPlace, coming, PlaceOpened, NextOf}
 use Rattle.walk.proofs.Entries.{chunks-length, chunk-at, proper, records-good, size-small}
 use Rattle.walk.proofs.Places.{AllGood, crossable, place-ready, place-join, occurrences-same}
 
@@ -96,22 +96,22 @@ module _ (index : List ℕ) (count : ℕ) (tables : List (List (List ℕ))) (chu
   base-fits = omega (arith, f .small, size-next index count chunks n rows (getD here 3 0) more (f .ahead))
 
   module _ (rows′ : List (List ℕ)) (size′ : ℕ) (l′ : LoadedAt index count chunks (n + 1) rows′ size′) where
-    pub moved-crossable : Crossable (getD here 3 0) count rows rows′
-    moved-crossable = crossable index count tables chunks keyed good n rows rows′ (getD here 3 0) size′ more (f .ahead) l′
+    pub opened-crossable : Crossable (getD here 3 0) count rows rows′
+    opened-crossable = crossable index count tables chunks keyed good n rows rows′ (getD here 3 0) size′ more (f .ahead) l′
 
     module _ (crossed : List (List ℕ)) (c : Crossed (getD here 3 0) count tables rows rows′ crossed) where
-      pub moved-ready : Ready index 2 (getD here 3 0) count crossed
-      moved-ready = place-ready index count tables chunks keyed good n rows rows′ (getD here 3 0) size′ more (f .ahead) l′ crossed c
+      pub opened-ready : ReadableStreams index 2 (getD here 3 0) count crossed
+      opened-ready = place-ready index count tables chunks keyed good n rows rows′ (getD here 3 0) size′ more (f .ahead) l′ crossed c
 
-      pub moved-fresh : (many : ℕ) → many ≡ total crossed count → Fresh (getD here 3 0) count crossed many
-      moved-fresh many e = record { five = λ k u. ap length (c .each k u); heads = λ k u. ap (λ (s : List ℕ). getD s 0 0) (c .each k u); all = e }
+      pub opened-fresh : (many : ℕ) → many ≡ total crossed count → Fresh (getD here 3 0) count crossed many
+      opened-fresh many e = record { five = λ k u. ap length (c .each k u); heads = λ k u. ap (λ (s : List ℕ). getD s 0 0) (c .each k u); all = e }
 
       abbrev here′ : List ℕ
       here′ = set (set (set (set here 1 (getD here 1 0 + getD here 2 0)) 2 (getD here 3 0)) 0 (n + 1)) 3 size′
 
-      pub moved-on : (streams′ : List (List ℕ)) → Opened index 2 (getD here 3 0) count crossed streams′ → Moved index count chunks here here′ streams′ rows′
+      pub place-opened : (streams′ : List (List ℕ)) → Opened index 2 (getD here 3 0) count crossed streams′ → PlaceOpened index count chunks here here′ streams′ rows′
       unfolding coming
-      moved-on streams′ o =
+      place-opened streams′ o =
           let b : ℕ = getD here 1 0 + getD here 2 0 in
           let z : ℕ = getD here 3 0 in
           let keywords = foldedKeywords (listIn index) in
@@ -171,9 +171,9 @@ module _ (index : List ℕ) (count : ℕ) (chunks : List ChunkRecords) (here : L
         }
 
     -- after a move what is to come is still what was
-    pub next-moved : getD here 2 0 ≤ o → (here′ : List ℕ) (streams″ rows′ : List (List ℕ)) → Moved index count chunks here here′ streams″ rows′
+    pub next-place-opened : getD here 2 0 ≤ o → (here′ : List ℕ) (streams″ rows′ : List (List ℕ)) → PlaceOpened index count chunks here here′ streams″ rows′
         → (file : ℕ) → coming file index count chunks here₀ streams₀ ≡ coming file index count chunks here′ streams″
-    next-moved h here′ streams″ rows′ m file = inv file ∙ coming-none h file ∙ sym (m .same file)
+    next-place-opened h here′ streams″ rows′ m file = inv file ∙ coming-none h file ∙ sym (m .same file)
 
     pub next-none : getD here 2 0 ≤ o → length chunks ≤ getD here 0 0 → NextOf index count chunks here₀ streams₀ here streams′ rows count 0
     unfolding joinFrom

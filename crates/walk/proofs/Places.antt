@@ -16,10 +16,10 @@ use Rattle.spec.specs.Keywords.{foldedKeywords}
 use Rattle.spec.specs.Table.{inCell, setOf}
 use Rattle.spec.specs.Records.{ChunkRecords, recordAt, inRange, reach}
 use Rattle.spec.specs.Index.{listIn}
-use Rattle.spec.specs.Join.{Occurrence, keywordAt, hits, crosses, listed, joinFrom}
+use Rattle.spec.specs.Join.{Occurrence, keywordAt, occurrencesAt, crosses, listed, joinFrom}
 use Rattle.spec.proofs.Tests.{leb-true}
 use Rattle.spec.proofs.Each.{each-match, passing, member-passing}
-use Rattle.spec.proofs.Hits.{hits-same}
+use Rattle.spec.proofs.OccurrencesAt.{occurrencesAt-same}
 use Rattle.spec.proofs.Rising.{allBelow, below-prefix}
 use Rattle.spec.proofs.Sets.{set-lt}
 use Rattle.spec.proofs.Stream.{atPlace, stream, cell-no-suffix}
@@ -27,7 +27,7 @@ use Rattle.spec.proofs.RecordRanges.{passing-rises, passing-every}
 use Rattle.spec.proofs.RecordLaws.{prefix-in, suffix-in, offsets-rise, offsets-in, offsets-count}
 use Rattle.tables.specs.Tabled.{cellSet, cellAt}
 use Rattle.tables.proofs.Cells.{cell-at}
-use Rattle.listing.specs.Streams.{below, bits, unread, streamOf, unreadAt, occurrences, numbers, total, Ready}
+use Rattle.listing.specs.Streams.{below, bits, unread, streamOf, unreadAt, occurrences, numbers, total, ReadableStreams}
 use Rattle.listing.proofs.Digits.{bits-set}
 use Rattle.listing.proofs.Totals.{total-set}
 use Rattle.loader.specs.Loaded.{rowOf}
@@ -87,15 +87,15 @@ listed-is keywords here (next ∷ rest) p k h = refl
 pub occurrences-same : (file count base size : ℕ) (s t : ℕ → List ℕ) → ((k : ℕ) → k < count → s k ≡ t k)
     → occurrences file count base size s ≡ occurrences file count base size t
 unfolding occurrences
-occurrences-same file count base size s t h = each-match _ _ 0 0 size (λ p l. hits-same file count (base + (0 + p)) _ _ (λ k hk. rw (h k hk)))
+occurrences-same file count base size s t h = each-match _ _ 0 0 size (λ p l. occurrencesAt-same file count (base + (0 + p)) _ _ (λ k hk. rw (h k hk)))
 
 -- streams that are the numbers which pass tests give what passes them
 occurrences-are : (file count base size : ℕ) (s : ℕ → List ℕ) (t : ℕ → ℕ → Bool) → ((k : ℕ) → k < count → s k ≡ passing (t k) 0 size)
-    → occurrences file count base size s ≡ each (λ p. hits file count (λ k. t k p) (base + p)) 0 size
+    → occurrences file count base size s ≡ each (λ p. occurrencesAt file count (λ k. t k p) (base + p)) 0 size
 unfolding occurrences
 occurrences-are file count base size s t h =
     each-match _ _ 0 0 size (λ p l.
-    hits-same file count (base + (0 + p)) _ _ (λ k hk. rw (h k hk) (member-passing (t k) (0 + p) 0 size (omega arith) (omega arith))))
+    occurrencesAt-same file count (base + (0 + p)) _ _ (λ k hk. rw (h k hk) (member-passing (t k) (0 + p) 0 size (omega arith) (omega arith))))
 
 -- ---- a place
 
@@ -206,7 +206,7 @@ module _ (index : List ℕ) (count : ℕ) (tables : List (List (List ℕ))) (chu
         (stream-is (keywordAt keywords k) offsets i (firstSuffix rest k) size up
         (rw (l .sized h) inside) (rw (l .sized h) (prefix-short keywords chunks good n h k v)) (omega arith))
 
-    pub place-ready : Ready index 2 size count streams
+    pub place-ready : ReadableStreams index 2 size count streams
     place-ready =
         record {
           long = c .long;
@@ -219,11 +219,11 @@ module _ (index : List ℕ) (count : ℕ) (tables : List (List (List ℕ))) (chu
         }
 
     place-is : (file base : ℕ)
-        → occurrences file count base size (unreadAt index 2 streams) ≡ each (λ p. hits file (length keywords) (listed keywords here rest p) (base + p)) 0 size
+        → occurrences file count base size (unreadAt index 2 streams) ≡ each (λ p. occurrencesAt file (length keywords) (listed keywords here rest p) (base + p)) 0 size
     place-is file base =
         occurrences-are file count base size _ test unread-is
-        ∙ ap (λ (m : ℕ). each (λ p. hits file m (λ k. test k p) (base + p)) 0 size) (keyed .counts)
-        ∙ each-match _ _ 0 0 size (λ x u. hits-same file (length keywords) (base + (0 + x)) _ _ (λ k v.
+        ∙ ap (λ (m : ℕ). each (λ p. occurrencesAt file m (λ k. test k p) (base + p)) 0 size) (keyed .counts)
+        ∙ each-match _ _ 0 0 size (λ x u. occurrencesAt-same file (length keywords) (base + (0 + x)) _ _ (λ k v.
         sym (listed-is keywords here rest (0 + x) k (prefix-small keywords chunks good n h k v)
         ∙ ap (λ (z : ℕ). atPlace (keywordAt keywords k) (recordAt here k .offsets) (recordAt here k .prefix) (firstSuffix rest k) z (0 + x))
         (sym (l .sized h)))))
@@ -236,7 +236,7 @@ module _ (index : List ℕ) (count : ℕ) (tables : List (List (List ℕ))) (chu
     place-join file base =
         let e : drop (suc n) chunks ≡ drop (n + 1) chunks = ap (λ (m : ℕ). drop m chunks) (sym (add-one n)) in
         let from : List ChunkRecords → ℕ → List Occurrence = λ r z.
-        each (λ p. hits file (length keywords) (listed keywords here r p) (base + p)) 0 z ++ joinFrom file keywords (base + z) r in
+        each (λ p. occurrencesAt file (length keywords) (listed keywords here r p) (base + p)) 0 z ++ joinFrom file keywords (base + z) r in
         ap (joinFrom file keywords base) (drop-cons chunks n noChunk h)
         ∙ ap {B = List Occurrence} (λ (r : List ChunkRecords). from r (here .size)) e
         ∙ ap {B = List Occurrence} (from rest) (sym (l .sized h))

@@ -60,7 +60,7 @@ pub record File (index file slots : List ℕ) : Type 0 where
 -- The keywords, their number, and their tables.
 pub record Keyed (index : List ℕ) (count : ℕ) (tables : List (List (List ℕ))) : Type 0 where
   pub counts : count ≡ length (foldedKeywords (listIn index))
-  pub some : 0 < count
+  pub nonempty : 0 < count
   pub few : count ≤ 16
   pub tabled : tables ≡ tablesOf (foldedKeywords (listIn index))
 
@@ -112,7 +112,7 @@ coming file index count chunks here streams =
     ++ joinFrom file (foldedKeywords (listIn index)) (getD here 1 0 + getD here 2 0) (drop (getD here 0 0) chunks)
 
 -- The next place is open.
-pub record Moved (index : List ℕ) (count : ℕ) (chunks : List ChunkRecords) (here here′ : List ℕ) (streams′ rows′ : List (List ℕ)) : Type 0 where
+pub record PlaceOpened (index : List ℕ) (count : ℕ) (chunks : List ChunkRecords) (here here′ : List ℕ) (streams′ rows′ : List (List ℕ)) : Type 0 where
   pub at : AtPlace index count chunks here′ streams′ rows′
   pub more : getD here′ 0 0 ≡ getD here 0 0 + 1
   pub same : (file : ℕ) → coming file index count chunks here′ streams′ ≡ joinFrom file (foldedKeywords (listIn index)) (getD here 1 0 + getD here 2 0) (drop (getD here 0 0) chunks)

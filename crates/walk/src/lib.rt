@@ -7,7 +7,7 @@ ghost use Rattle.spec.specs.Bytes.{part, splice, positionOf};
 ghost use Rattle.spec.specs.Keywords.{foldedKeywords};
 ghost use Rattle.spec.specs.Index.{listIn, indexKeys};
 ghost use Rattle.spec.specs.Join.{listBytes};
-ghost use Rattle.walk.specs.Walking.{chunksIn, fileList, Directory, File, Keyed, Walkable, LoadedAt, Crossable, Filled, AtPlace, Moved, NextOf};
+ghost use Rattle.walk.specs.Walking.{chunksIn, fileList, Directory, File, Keyed, Walkable, LoadedAt, Crossable, Filled, AtPlace, PlaceOpened, NextOf};
 
 // Bytes of an offset.
 const WIDTH: usize = 2;
@@ -128,7 +128,7 @@ fn move_on(
     requires { ⌜ Walkable (now index) directory entries (now heads) (now chain) (now tables) (now file) (now slots) count ⌝ }
     requires { ⌜ AtPlace (now index) count (chunksIn (now index) (now file)) (now here) (now streams) (now rows) ⌝ }
     requires { ⌜ getD (now here) 0 0 < length (now file) / 20 ⌝ }
-    ensures { λ _. ⌜ Moved (now (index .entry)) count (chunksIn (now (index .entry)) (now (file .entry))) (now (here .entry)) (now (here .exit)) (now (streams .exit)) (now (rows .exit)) ⌝ }
+    ensures { λ _. ⌜ PlaceOpened (now (index .entry)) count (chunksIn (now (index .entry)) (now (file .entry))) (now (here .entry)) (now (here .exit)) (now (streams .exit)) (now (rows .exit)) ⌝ }
 {
     let n = here[0];
     let size = here[3];

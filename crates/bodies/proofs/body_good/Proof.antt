@@ -9,7 +9,7 @@ use borrow.Author.Tests.{not-true, not-false}
 use Rattle.bodies.proofs.Turns.{left-all, turn-absent, turn-start, turn-length, turn-bad, turn-good, turn-within, left-end}
 use lib.ListN.{take}
 use Rattle.spec.specs.Records.{form1, goodBody}
-use Rattle.spec.specs.Steps.{goodFrom}
+use Rattle.bodies.specs.Steps.{goodFrom}
 use Rattle.bodies.proofs.body_good.Statement.{statement}
 use Rattle.bodies.proofs.body_good.Tie as tie
 

@@ -6,7 +6,7 @@ use lib.ListN.{length, drop}
 use denote.Ref.{now}
 use borrow.Author.Needs.{needs}
 use Rattle.spec.specs.Bytes.{fieldsOf}
-use Rattle.bodies.specs.Check.{inOrder}
+use Rattle.bodies.specs.Check.{offsetsInRange}
 use Rattle.bodies.proofs.Orders.{orderFrom, order-all, order-low, order-out, order-on, order-done, mul-less}
 use Rattle.bodies.proofs.in_order.Statement.{statement}
 use Rattle.bodies.proofs.in_order.Tie as tie
@@ -14,7 +14,7 @@ use Rattle.bodies.proofs.in_order.Tie as tie
 abbrev Inv-loop : tie.InvT-loop
 Inv-loop bytes at width count n size place₀ left₀ least₀ place left least =
     (place + width * left ≤ length bytes)
-    × (orderFrom n size least (fieldsOf width left (drop place bytes)) ≡ inOrder n size (fieldsOf width count (drop at bytes)))
+    × (orderFrom n size least (fieldsOf width left (drop place bytes)) ≡ offsetsInRange n size (fieldsOf width count (drop at bytes)))
 
 abbrev μ-loop : tie.MeasureT-loop
 μ-loop bytes at width count n size place₀ left₀ least₀ place left least = left
@@ -31,9 +31,9 @@ returns : tie.Need-returns Inv-loop μ-loop
 returns c =
     let at = c .before .before .before in
     let a = at .before .before .args in
-    let some = c .before .before .loop-test .taken in
+    let nonempty = c .before .before .loop-test .taken in
     let got = c .before .read in
-    order-low (a .n) (a .size) (a .width) (at .loop .left) (at .loop .place) (at .loop .least) (now (a .bytes)) some
+    order-low (a .n) (a .size) (a .width) (at .loop .left) (at .loop .place) (at .loop .least) (now (a .bytes)) nonempty
     (got .result) (got .ensures) (c .if1 .taken)
     ∙ at .loop .inv .1
 
@@ -41,9 +41,9 @@ returns-2 : tie.Need-returns-2 Inv-loop μ-loop
 returns-2 c =
     let at = c .before .before .before .before in
     let a = at .before .before .args in
-    let some = c .before .before .before .loop-test .taken in
+    let nonempty = c .before .before .before .loop-test .taken in
     let got = c .before .before .read in
-    order-out (a .n) (a .size) (a .width) (at .loop .left) (at .loop .place) (at .loop .least) (now (a .bytes)) some
+    order-out (a .n) (a .size) (a .width) (at .loop .left) (at .loop .place) (at .loop .least) (now (a .bytes)) nonempty
     (got .result) (got .ensures) (omega arith) (omega arith)
     ∙ at .loop .inv .1
 
@@ -51,9 +51,9 @@ returns-3 : tie.Need-returns-3 Inv-loop μ-loop
 returns-3 c =
     let at = c .before .before .before .before .before in
     let a = at .before .before .args in
-    let some = c .before .before .before .before .loop-test .taken in
+    let nonempty = c .before .before .before .before .loop-test .taken in
     let got = c .before .before .before .read in
-    order-out (a .n) (a .size) (a .width) (at .loop .left) (at .loop .place) (at .loop .least) (now (a .bytes)) some
+    order-out (a .n) (a .size) (a .width) (at .loop .left) (at .loop .place) (at .loop .least) (now (a .bytes)) nonempty
     (got .result) (got .ensures) (omega arith) (omega arith)
     ∙ at .loop .inv .1
 
@@ -75,10 +75,10 @@ loop-again : tie.Need-loop-again Inv-loop μ-loop
 loop-again c =
     let at = c .before .before .before .before .before in
     let a = at .before .before .args in
-    let some = c .before .before .before .before .loop-test .taken in
+    let nonempty = c .before .before .before .before .loop-test .taken in
     let got = c .before .before .before .read in (
       omega (arith, mul-less (a .width) (at .loop .left) (omega arith)),
-      order-on (a .n) (a .size) (a .width) (at .loop .left) (at .loop .place) (at .loop .least) (now (a .bytes)) some
+      order-on (a .n) (a .size) (a .width) (at .loop .left) (at .loop .place) (at .loop .least) (now (a .bytes)) nonempty
           (got .result) (got .ensures) (omega arith) (omega arith)
           ∙ at .loop .inv .1,
     )

@@ -1,5 +1,5 @@
--- `build` meets its contract. The loop goes down: the entries from e on are in the index, `twin` is `twice` of their keys, and behind the keys
--- `next` is as it was. At the end that says every element of both arrays (ChainLists).
+-- `build` meets its contract. The loop goes down: the entries from e on are in the index, `duplicate` is `twice` of their keys, and behind the keys
+-- `chain` is as it was. At the end that says every element of both arrays (ChainLists).
 use borrow.Author.Needs.{needs}
 use mathlib.Core.Path.{_≡_, refl, ap, _∙_, subst}
 use Prim.Native.Nat.{ℕ, suc, _-_, _≤_}
@@ -14,13 +14,13 @@ use Rattle.directory.proofs.build.Statement.{statement}
 use Rattle.directory.proofs.build.Tie as tie
 
 abbrev Inv-loop : tie.InvT-loop
-Inv-loop bytes start stride count heads₀ next₀ twin₀ e₀ heads next twin e =
+Inv-loop bytes start stride count heads₀ chain₀ twin₀ e₀ heads chain duplicate e =
     let keys = keysFrom bytes start stride count in
-    (e ≤ count) × (length heads ≡ length heads₀) × (length next ≡ length next₀) × (twin ≡ twice (drop e keys)) × Chained keys e heads next
-    × (drop (length keys) next ≡ drop (length keys) next₀)
+    (e ≤ count) × (length heads ≡ length heads₀) × (length chain ≡ length chain₀) × (duplicate ≡ twice (drop e keys)) × Chained keys e heads chain
+    × (drop (length keys) chain ≡ drop (length keys) chain₀)
 
 abbrev μ-loop : tie.MeasureT-loop
-μ-loop bytes start stride count heads₀ next₀ twin₀ e₀ heads next twin e = e
+μ-loop bytes start stride count heads₀ chain₀ twin₀ e₀ heads chain duplicate e = e
 
 loop-holds : tie.Need-loop-holds Inv-loop μ-loop
 loop-holds c =
@@ -28,7 +28,7 @@ loop-holds c =
     let a = start .args in
     let keys = keysFrom (now (a .bytes)) (a .start) (a .stride) (a .count) in
     let q = length-from (now (a .bytes)) (a .start) (a .stride) (a .count) (start .pre .0) in
-    (omega arith, refl, refl, twice-none keys (a .count) q, empty keys (now (a .heads)) (now (a .next)) (a .count) q (start .pre .0 .few) (start .pre .1), refl)
+    (omega arith, refl, refl, twice-none keys (a .count) q, empty keys (now (a .heads)) (now (a .chain)) (a .count) q (start .pre .0 .few) (start .pre .1), refl)
 
 sub-e : tie.Need-sub-e Inv-loop μ-loop
 sub-e c = omega arith
@@ -40,7 +40,7 @@ insert-requires c κs =
     let a = start .args in
     let s : at .loop .e ≡ suc (at .loop .e - 1) = omega arith in
     let keys = keysFrom (now (a .bytes)) (a .start) (a .stride) (a .count) in
-    (start .pre .0, (subst (λ (e : ℕ). Chained keys e (at .loop .heads) (at .loop .next)) s (at .loop .inv .4), omega arith))
+    (start .pre .0, (subst (λ (e : ℕ). Chained keys e (at .loop .heads) (at .loop .chain)) s (at .loop .inv .4), omega arith))
 
 loop-less : tie.Need-loop-less Inv-loop μ-loop
 loop-less c = omega arith
@@ -57,7 +57,7 @@ loop-again c =
       omega arith,
       called .insert .kept .1 .1 .1 .1 .1 .0 ∙ at .loop .inv .1,
       called .insert .kept .1 .1 .1 .1 .1 .1 .0 ∙ at .loop .inv .2,
-      twice-step keys (at .loop .e - 1) (called .insert .result) (at .loop .twin) (omega (arith, q)) (called .insert .ensures .found)
+      twice-step keys (at .loop .e - 1) (called .insert .result) (at .loop .duplicate) (omega (arith, q)) (called .insert .ensures .found)
           (at .loop .inv .3 ∙ ap (λ (e : ℕ). twice (drop e keys)) s),
       called .insert .ensures .chains,
       called .insert .ensures .rest ∙ at .loop .inv .5,
@@ -75,10 +75,10 @@ returns c =
     let a = at .before .before .before .before .args in
     let keys = keysFrom (now (a .bytes)) (a .start) (a .stride) (a .count) in
     let z : at .loop .e ≡ 0 = omega arith in
-    let chains = subst (λ (e : ℕ). Chained keys e (at .loop .heads) (at .loop .next)) z (at .loop .inv .4) in (
+    let chains = subst (λ (e : ℕ). Chained keys e (at .loop .heads) (at .loop .chain)) z (at .loop .inv .4) in (
       at .loop .inv .3 ∙ ap (λ (e : ℕ). twice (drop e keys)) z,
-      heads-are keys (at .loop .heads) (at .loop .next) chains,
-      links-are keys (at .loop .heads) (at .loop .next) chains (now (a .next)) (at .loop .inv .5),
+      heads-are keys (at .loop .heads) (at .loop .chain) chains,
+      links-are keys (at .loop .heads) (at .loop .chain) chains (now (a .chain)) (at .loop .inv .5),
     )
 
 pub build-spec : {M : Type 1} → statement M

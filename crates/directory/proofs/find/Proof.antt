@@ -15,12 +15,12 @@ use Rattle.directory.proofs.find.Tie as tie
 -- where the key's chain begins
 at-head : (c : tie.After-shared-slice-known5)
     → let a = c .before .before .before .before .before .before .args in
-    Headed (now (a .probe)) (keysFrom (now (a .bytes)) (a .start) (a .stride) (a .count)) (now (a .next)) (a .count) 0
+    Headed (now (a .probe)) (keysFrom (now (a .bytes)) (a .start) (a .stride) (a .count)) (now (a .chain)) (a .count) 0
     (getD (now (a .heads)) (c .before .hash .result) 0)
 at-head c =
     let start = c .before .before .before .before .before .before in
     let a = start .args in
-    headed (now (a .probe)) (keysFrom (now (a .bytes)) (a .start) (a .stride) (a .count)) (now (a .heads)) (now (a .next)) 0
+    headed (now (a .probe)) (keysFrom (now (a .bytes)) (a .start) (a .stride) (a .count)) (now (a .heads)) (now (a .chain)) 0
     (getD (now (a .heads)) (c .before .hash .result) 0)
     (a .count) (length-from (now (a .bytes)) (a .start) (a .stride) (a .count) (start .pre .0)) (omega arith) (start .pre .1 .0)
     (ap (λ (h : ℕ). getD (now (a .heads)) h 0) (c .before .hash .ensures))

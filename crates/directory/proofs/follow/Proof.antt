@@ -12,12 +12,12 @@ use Rattle.directory.proofs.follow.Statement.{statement}
 use Rattle.directory.proofs.follow.Tie as tie
 
 abbrev Inv-loop : tie.InvT-loop
-Inv-loop bytes start stride count next from probe n₀ n =
+Inv-loop bytes start stride count chain from probe n₀ n =
     let keys = keysFrom bytes start stride count in
     (n ≤ from) × (from ≤ count) × Starts probe keys n × (placeFrom probe keys (count - n) ≡ placeFrom probe keys (count - from))
 
 abbrev μ-loop : tie.MeasureT-loop
-μ-loop bytes start stride count next from probe n₀ n = n
+μ-loop bytes start stride count chain from probe n₀ n = n
 
 -- what the comparison of the keys says
 compared : (c : tie.After-same-key Inv-loop μ-loop)
@@ -37,12 +37,12 @@ stepped : (c : tie.Else1 Inv-loop μ-loop)
     → let at = c .before .before .before .before in
     let a = at .before .before .before .before .args in
     Stepped (now (a .probe)) (keysFrom (now (a .bytes)) (a .start) (a .stride) (a .count)) (a .count) (at .loop .n)
-    (getD (now (a .next)) (a .count - at .loop .n) 0)
+    (getD (now (a .chain)) (a .count - at .loop .n) 0)
 stepped c =
     let at = c .before .before .before .before in
     let start = at .before .before .before .before in
     let a = start .args in
-    step (now (a .probe)) (keysFrom (now (a .bytes)) (a .start) (a .stride) (a .count)) (a .from) (at .loop .n) (now (a .next)) (a .count)
+    step (now (a .probe)) (keysFrom (now (a .bytes)) (a .start) (a .stride) (a .count)) (a .from) (at .loop .n) (now (a .chain)) (a .count)
     (length-from (now (a .bytes)) (a .start) (a .stride) (a .count) (start .pre .0)) (at .loop .inv .1) (at .loop .inv .0) (omega arith)
     (start .pre .1 .0) (at .loop .inv .2)
     (compared (c .before) ∙ c .if1 .left)

@@ -26,12 +26,12 @@ read-key c =
 -- where its chain begins
 at-head : (c : tie.After-hash)
     → let a = c .before .before .before .before .before .args in
-    Headed (now (c .before .key .result)) (keysFrom (now (a .bytes)) (a .start) (a .stride) (a .count)) (now (a .next)) (a .count) (suc (a .e))
+    Headed (now (c .before .key .result)) (keysFrom (now (a .bytes)) (a .start) (a .stride) (a .count)) (now (a .chain)) (a .count) (suc (a .e))
     (getD (now (a .heads)) (c .hash .result) 0)
 at-head c =
     let start = c .before .before .before .before .before in
     let a = start .args in
-    headed (now (c .before .key .result)) (keysFrom (now (a .bytes)) (a .start) (a .stride) (a .count)) (now (a .heads)) (now (a .next)) (suc (a .e))
+    headed (now (c .before .key .result)) (keysFrom (now (a .bytes)) (a .start) (a .stride) (a .count)) (now (a .heads)) (now (a .chain)) (suc (a .e))
     (getD (now (a .heads)) (c .hash .result) 0)
     (a .count) (length-from (now (a .bytes)) (a .start) (a .stride) (a .count) (start .pre .0)) (start .pre .1 .1) (start .pre .1 .0)
     (ap (λ (h : ℕ). getD (now (a .heads)) h 0) (c .hash .ensures))
@@ -70,17 +70,17 @@ follow-requires c κs =
     let h = at-head (c .before .before) in
     (c .before .before .before .before .before .before .before .pre .0, (h .links, (h .starts, key-long (c .before .before .before))))
 
-mul-next : tie.Need-mul-next
-mul-next c = omega (arith, small (c .before .before .before))
+mul-chain : tie.Need-mul-chain
+mul-chain c = omega (arith, small (c .before .before .before))
 
-slice-read-next : tie.Need-slice-read-next
-slice-read-next c = omega (arith, small (c .before .before .before .before))
+slice-read-chain : tie.Need-slice-read-chain
+slice-read-chain c = omega (arith, small (c .before .before .before .before))
 
-mul-next-2 : tie.Need-mul-next-2
-mul-next-2 c = search needs
+mul-chain-2 : tie.Need-mul-chain-2
+mul-chain-2 c = search needs
 
-slice-write-next : tie.Need-slice-write-next
-slice-write-next c =
+slice-write-chain : tie.Need-slice-write-chain
+slice-write-chain c =
     let start = c .before .before .before .before .before .before .before .before .before in
     let a = start .args in
     omega (arith, start .pre .1 .0 .links .long, length-from (now (a .bytes)) (a .start) (a .stride) (a .count) (start .pre .0), start .pre .1 .1)
@@ -115,9 +115,9 @@ returns c =
       found = ap (λ (r : ℕ). ltb r (a .count)) (c .before .follow .ensures ∙ at-head hashed .place)
           ∙ contained key keys (suc (a .e)) (a .count) q (start .pre .1 .1)
           ∙ ap (λ (k : List ℕ). contains k (drop (suc (a .e)) keys)) (read-key (hashed .before));
-      chains = inserted keys (now (a .heads)) (now (a .next)) (a .e) (hashed .hash .result) (a .count) q (start .pre .1 .1)
+      chains = inserted keys (now (a .heads)) (now (a .chain)) (a .e) (hashed .hash .result) (a .count) q (start .pre .1 .1)
           (hashed .hash .ensures ∙ ap hashOf (read-key (hashed .before))) (start .pre .1 .0);
-      rest = drop-set-lt (length keys) (now (a .next)) (a .e) (getD (now (a .heads)) (hashed .hash .result) 0) (omega (arith, q, start .pre .1 .1));
+      rest = drop-set-lt (length keys) (now (a .chain)) (a .e) (getD (now (a .heads)) (hashed .hash .result) 0) (omega (arith, q, start .pre .1 .1));
     }
 
 pub insert-spec : {M : Type 1} → statement M
@@ -130,10 +130,10 @@ insert-spec =
     slice-read-follow
     cast-follow
     follow-requires
-    mul-next
-    slice-read-next
-    mul-next-2
-    slice-write-next
+    mul-chain
+    slice-read-chain
+    mul-chain-2
+    slice-write-chain
     sub-heads
     cast-heads
     mul-heads

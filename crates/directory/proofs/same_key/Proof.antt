@@ -4,8 +4,8 @@ use Prim.Native.Nat.{ℕ, _+_, _*_, _-_, _≤_}
 use native.Mathlib.Omega.{arith}
 use lib.ListN.{take}
 use denote.Ref.{now}
+use Rattle.spec.specs.Bytes.{AllBytes}
 use Rattle.directory.proofs.KeyFields.{equal-more, other-field, all-fields}
-use Rattle.spec.proofs.FieldLists.{AllBytes}
 use borrow.Author.Needs.{needs}
 use Rattle.directory.proofs.same_key.Statement.{statement}
 use Rattle.directory.proofs.same_key.Tie as tie

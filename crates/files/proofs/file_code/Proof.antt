@@ -20,7 +20,7 @@ returns c =
     let m = c .before .before .before .before in
     let a = m .before .before .before .before .before .before .before .args in
     let r = m .measure-file in
-    tested (keysAt (now (a .index)) (a .start) (a .count)) (sizesAt (now (a .index)) (a .start)) (a .due) (named (now (a .file))) (now (a .slots))
+    tested (keysAt (now (a .index)) (a .start) (a .count)) (sizesAt (now (a .index)) (a .start)) (a .innerLeast) (named (now (a .file))) (now (a .slots))
     (r .last .1 .1 .1 .1 .1 .1 .1 .0) (r .result .missing) (r .result .total) (r .result .short)
     (c .first-of .result) (r .ensures) (c .first-of .ensures)
 

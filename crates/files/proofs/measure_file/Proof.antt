@@ -11,11 +11,11 @@ use Rattle.files.proofs.measure_file.Statement.{statement}
 use Rattle.files.proofs.measure_file.Tie as tie
 
 abbrev Inv-loop : tie.InvT-loop
-Inv-loop file index start count heads next due slots₀ n total₀ short₀ j₀ slots total short j =
-    (j ≤ length file / 20) × (n ≡ length file / 20) × (length slots ≡ length slots₀) × Before file index start count due slots₀ j total short slots
+Inv-loop file index start count heads chain innerLeast slots₀ n total₀ short₀ j₀ slots total short j =
+    (j ≤ length file / 20) × (n ≡ length file / 20) × (length slots ≡ length slots₀) × Before file index start count innerLeast slots₀ j total short slots
 
 abbrev μ-loop : tie.MeasureT-loop
-μ-loop file index start count heads next due slots₀ n total₀ short₀ j₀ slots total short j = n - j
+μ-loop file index start count heads chain innerLeast slots₀ n total₀ short₀ j₀ slots total short j = n - j
 
 loop-holds : tie.Need-loop-holds Inv-loop μ-loop
 loop-holds c =
@@ -24,7 +24,7 @@ loop-holds c =
       omega arith,
       refl,
       refl,
-      measuring-start (keysAt index (a .start) (a .count)) (sizesAt index (a .start)) (a .due) (named (now (a .file))) (now (a .slots)),
+      measuring-start (keysAt index (a .start) (a .count)) (sizesAt index (a .start)) (a .innerLeast) (named (now (a .file))) (now (a .slots)),
     )
 
 entry-of-requires : tie.Need-entry-of-requires Inv-loop μ-loop
@@ -41,7 +41,7 @@ returns c =
     let a = p .before .before .before .before .before .before .args in
     let l = p .loop in
     let e = c .before .entry-of in
-    place-missing (now (a .file)) (now (a .index)) (a .start) (a .count) (a .due) (now (a .slots))
+    place-missing (now (a .file)) (now (a .index)) (a .start) (a .count) (a .innerLeast) (now (a .slots))
     (l .j) (l .total) (l .short) (l .slots) (l .inv .3) (omega arith) (e .result) (e .ensures) (c .if1 .taken)
 
 keep-requires : tie.Need-keep-requires Inv-loop μ-loop
@@ -79,7 +79,7 @@ loop-again c =
       omega arith,
       l .inv .1,
       k .keep .kept .0 ∙ l .inv .2,
-      place-on (now (a .file)) (now (a .index)) (a .start) (a .count) (a .due) (now (a .slots))
+      place-on (now (a .file)) (now (a .index)) (a .start) (a .count) (a .innerLeast) (now (a .slots))
           (l .j) (l .total) (l .short) (l .slots) (l .inv .3) (omega arith)
           (f .result) (z .result) (f .ensures) (e .if1 .left) (z .ensures) (t .result) (t .ensures)
           (c .inner-short .result) (c .inner-short .ensures) (k .keep .last .0) (k .keep .ensures),
@@ -93,7 +93,7 @@ returns-2 c =
     let p = c .before in
     let a = p .before .before .before .before .before .before .args in
     let l = p .loop in
-    place-end (now (a .file)) (now (a .index)) (a .start) (a .count) (a .due) (now (a .slots)) (l .j) (l .total) (l .short) (l .slots) (l .inv .3) (omega arith)
+    place-end (now (a .file)) (now (a .index)) (a .start) (a .count) (a .innerLeast) (now (a .slots)) (l .j) (l .total) (l .short) (l .slots) (l .inv .3) (omega arith)
 
 pub measure-file-spec : {M : Type 1} → statement M
 measure-file-spec =

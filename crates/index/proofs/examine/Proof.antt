@@ -7,12 +7,13 @@ use denote.Ref.{now}
 use borrow.Author.Needs.{needs}
 use borrow.Author.Tests.{not-true, not-false}
 use Rattle.spec.specs.Keywords.{keywordFrontCode}
-use Rattle.spec.specs.Index.{listIn, indexKeys}
+use Rattle.spec.specs.Records.{form1}
+use Rattle.spec.specs.Index.{listIn, indexKeys, headerCode, directoryCode, laidCode}
 use Rattle.keywords.specs.Parsed.{Parsed}
 use Rattle.directory.proofs.ChainLists.{Built}
-use Rattle.index.specs.Stages.{headerCode, directoryCode, laidCode, Opened, Laid}
+use Rattle.index.specs.Stages.{Opened, Laid}
 use Rattle.index.proofs.StageLaws.{header-passed, laid, built-of}
-use Rattle.index.proofs.CheckLaws.{header-stops, list-stops, directory-stops, refused-early, twin-told, body-told, all-told}
+use Rattle.index.proofs.CheckLaws.{header-stops, list-stops, directory-stops, refused-early, duplicate-told, body-told, all-told}
 use Rattle.index.proofs.CheckLaws.{list-is, listed, opened, lens}
 use Rattle.index.proofs.examine.Statement.{statement}
 use Rattle.index.proofs.examine.Tie as tie
@@ -29,7 +30,7 @@ heads₀ c = now (c .before .before .before .before .before .args .heads)
 abbrev chain₀ : tie.Else1 → List ℕ
 chain₀ c = now (c .before .before .before .before .before .args .chain)
 
-header-good : (c : tie.Else1) → headerCode (lent c) ≡ 0
+header-good : (c : tie.Else1) → headerCode form1 (lent c) ≡ 0
 header-good c = sym (c .before .header .ensures) ∙ c .if1 .left
 
 -- the number of the keyword list
@@ -40,7 +41,7 @@ list-good : (c : tie.Else2) → keywordFrontCode (listIn (lent (c .before .befor
 list-good c = sym (front (c .before)) ∙ c .if2 .left
 
 -- the header's place, seen from behind the keyword list
-abbrev behind-list : tie.After-count → tie.Else2
+abbrev behind-list : tie.After-chunk-count → tie.Else2
 behind-list c = c .before .before .before .before
 
 -- what the list's struct says
@@ -49,22 +50,22 @@ read c =
     let l = c .before .before in
     listed (lent (l .before .before .before)) (c .parse .result) (list-good l) (c .parse .ensures)
 
-opens : (c : tie.After-count) → Opened (lent (behind-list c .before .before .before)) (8 + c .before .before .parse .result .size) (c .count .result)
+opens : (c : tie.After-chunk-count) → Opened (lent (behind-list c .before .before .before)) (8 + c .before .before .parse .result .size) (c .chunk-count .result)
 opens c =
     let l = behind-list c in
     let h = l .before .before .before in
     let w = c .before .before .parse in
-    opened (lent h) (w .result) (list-good l) (w .ensures) (c .count .result) (header-good h) (c .count .ensures)
+    opened (lent h) (w .result) (list-good l) (w .ensures) (c .chunk-count .result) (header-good h) (c .chunk-count .ensures)
 
-directory-good : (c : tie.Else3) → directoryCode (lent (behind-list (c .before .before) .before .before .before)) ≡ 0
+directory-good : (c : tie.Else3) → directoryCode form1 (lent (behind-list (c .before .before) .before .before .before)) ≡ 0
 directory-good c = sym (c .before .entries .ensures) ∙ c .if3 .left
 
 lies : (c : tie.Else3)
     → let n = c .before .before in
-    Laid (lent (behind-list n .before .before .before)) (8 + n .before .before .parse .result .size) (n .count .result)
+    Laid (lent (behind-list n .before .before .before)) (8 + n .before .before .parse .result .size) (n .chunk-count .result)
 lies c =
     let n = c .before .before in
-    laid (lent (behind-list n .before .before .before)) (8 + n .before .before .parse .result .size) (n .count .result) (opens n) (directory-good c)
+    laid (lent (behind-list n .before .before .before)) (8 + n .before .before .parse .result .size) (n .chunk-count .result) (opens n) (directory-good c)
 
 -- the header's place, seen from behind the chains
 abbrev behind-header : tie.After-build → tie.Else1
@@ -77,7 +78,7 @@ heads₁ c = c .build .last .1 .1 .1 .1 .0
 abbrev chain₁ : tie.After-build → List ℕ
 chain₁ c = c .build .last .1 .1 .1 .1 .1 .0
 
-whole-directory : (c : tie.After-build) → laidCode (lent (behind-header c)) ≡ 0
+whole-directory : (c : tie.After-build) → laidCode form1 (lent (behind-header c)) ≡ 0
 whole-directory c =
     let good = c .before .before .before in
     let l = behind-list (good .before .before) in
@@ -90,7 +91,7 @@ chains : (c : tie.After-build)
 chains c =
     let n = c .before .before .before .before .before in
     let h = behind-header c in
-    built-of (lent h) (8 + n .before .before .parse .result .size) (n .count .result) (opens n) (chain₀ h) (heads₁ c) (chain₁ c)
+    built-of (lent h) (8 + n .before .before .parse .result .size) (n .chunk-count .result) (opens n) (chain₀ h) (heads₁ c) (chain₁ c)
     (c .build .result) (c .build .ensures)
 
 -- ---- the needs
@@ -139,8 +140,8 @@ parse-requires c κs = search needs
 add-start : tie.Need-add-start
 add-start c = omega (arith, read (c .before) .short)
 
-count-requires : tie.Need-count-requires
-count-requires c κs = let h = c .before .before .before .before .before .before in header-passed (lent h) (header-good h) .0
+chunk-count-requires : tie.Need-chunk-count-requires
+chunk-count-requires c κs = let h = c .before .before .before .before .before .before in header-passed (lent h) (header-good h) .0
 
 entries-requires : tie.Need-entries-requires
 entries-requires c κs = opens c
@@ -169,7 +170,7 @@ returns-4 : tie.Need-returns-4
 returns-4 c =
     let built = c .before .before .before .before .before in
     let h = behind-header built in
-    twin-told (lent h) (whole-directory built) (heads₀ h) (chain₀ h) (heads₁ built) (chain₁ built) (built .build .result) (chains built)
+    duplicate-told (lent h) (whole-directory built) (heads₀ h) (chain₀ h) (heads₁ built) (chain₁ built) (built .build .result) (chains built)
     (c .if4 .taken)
 
 slice-aggregate-all-good : tie.Need-slice-aggregate-all-good
@@ -229,7 +230,7 @@ examine-spec =
     part-parse-end
     parse-requires
     add-start
-    count-requires
+    chunk-count-requires
     entries-requires
     returns-3
     build-requires

@@ -33,7 +33,7 @@ placed : (c : tie.After-find)
     → let a = behind-check c .before .before .before .before .before .before .before .before .args in
     c .find .result ≡ positionOf (now (a .fp)) (indexKeys (now (a .index)))
 placed c =
-    let n = c .before .before .before .count in
+    let n = c .before .before .before .chunk-count in
     let s = c .before .before .before .before .start-of in
     let a = behind-check c .before .before .before .before .before .before .before .before .args in
     let e = keys-in (now (a .index)) (passed (behind-check c)) (s .result) (n .result) (s .ensures) (n .ensures) in
@@ -71,8 +71,8 @@ returns-2 c =
 start-of-requires : tie.Need-start-of-requires
 start-of-requires c κs = passed (c .before)
 
-count-requires : tie.Need-count-requires
-count-requires c κs =
+chunk-count-requires : tie.Need-chunk-count-requires
+chunk-count-requires c κs =
     let checked = c .before .before in
     header-there (now (checked .before .before .before .before .before .before .before .before .args .index)) (passed checked)
 
@@ -89,10 +89,10 @@ find-requires c κs =
     let checked = begun .before .before in
     let called = checked .before .before .before in
     let index = now (called .before .before .before .before .before .args .index) in (
-      lies-in index (passed checked) (begun .start-of .result) (counted .count .result) (begun .start-of .ensures) (counted .count .ensures),
+      lies-in index (passed checked) (begun .start-of .result) (counted .chunk-count .result) (begun .start-of .ensures) (counted .chunk-count .ensures),
       (
         subst (λ (keys : List (List ℕ)). Chained keys 0 (called .examine .last .1 .0) (called .examine .last .1 .1 .0))
-            (sym (keys-in index (passed checked) (begun .start-of .result) (counted .count .result) (begun .start-of .ensures) (counted .count .ensures)))
+            (sym (keys-in index (passed checked) (begun .start-of .result) (counted .chunk-count .result) (begun .start-of .ensures) (counted .chunk-count .ensures)))
             (chains checked),
         begun .before .if2 .left,
       ),
@@ -103,7 +103,7 @@ returns-3 c =
     let checked = behind-check (c .before) in
     let a = checked .before .before .before .before .before .before .before .before .args in
     let counted = c .before .before .before .before in
-    refused-none (now (a .index)) (now (a .fp)) (passed checked) (counted .before .before .if2 .left) (counted .count .result) (counted .count .ensures)
+    refused-none (now (a .index)) (now (a .fp)) (passed checked) (counted .before .before .if2 .left) (counted .chunk-count .result) (counted .chunk-count .ensures)
     (c .before .find .result) (placed (c .before)) (c .if3 .taken)
 
 returns-4 : tie.Need-returns-4
@@ -111,7 +111,7 @@ returns-4 c =
     let checked = behind-check (c .before) in
     let a = checked .before .before .before .before .before .before .before .before .args in
     let counted = c .before .before .before .before in
-    found-at (now (a .index)) (now (a .fp)) (passed checked) (counted .before .before .if2 .left) (counted .count .result) (counted .count .ensures)
+    found-at (now (a .index)) (now (a .fp)) (passed checked) (counted .before .before .if2 .left) (counted .chunk-count .result) (counted .chunk-count .ensures)
     (c .before .find .result) (placed (c .before)) (c .if3 .left)
 
 pub locate-spec : {M : Type 1} → statement M
@@ -124,7 +124,7 @@ locate-spec =
     returns
     returns-2
     start-of-requires
-    count-requires
+    chunk-count-requires
     slice-aggregate-find
     slice-aggregate-find-2
     find-requires

@@ -46,7 +46,7 @@ slice-aggregate-list-files-2 : tie.Need-slice-aggregate-list-files-2
 slice-aggregate-list-files-2 c = sym (c .before .before .before .before .before .before .before .chain2 .given)
 
 slice-aggregate-list-files-3 : tie.Need-slice-aggregate-list-files-3
-slice-aggregate-list-files-3 c = sym (c .before .before .before .before .before .before .before .before .some2 .given)
+slice-aggregate-list-files-3 c = sym (c .before .before .before .before .before .before .before .before .marks2 .given)
 
 list-files-requires : tie.Need-list-files-requires
 list-files-requires c κs =

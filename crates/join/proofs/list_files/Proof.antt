@@ -17,11 +17,11 @@ use Rattle.join.proofs.list_files.Statement.{statement}
 use Rattle.join.proofs.list_files.Tie as tie
 
 abbrev Inv-loop : tie.InvT-loop
-Inv-loop index recipes directory entries heads chain count tables some out₀ files place₀ at₀ number₀ out place at number =
+Inv-loop index recipes directory entries heads chain count tables marks out₀ files place₀ at₀ number₀ out place at number =
     (files ≡ fileCount recipes) × Listing index recipes out₀ out number at place
 
 abbrev μ-loop : tie.MeasureT-loop
-μ-loop index recipes directory entries heads chain count tables some out₀ files place₀ at₀ number₀ out place at number = files - number
+μ-loop index recipes directory entries heads chain count tables marks out₀ files place₀ at₀ number₀ out place at number = files - number
 
 -- the file that the walk is at lies in the recipes
 room : (c : tie.After-file-at Inv-loop μ-loop) → let p = c .before .before in let s = p .before .before .before .before .before .before .before .before in

@@ -7,7 +7,7 @@ use denote.Ref.{now}
 use Rattle.spec.specs.Records.{form1}
 use Rattle.spec.specs.Index.{indexCode}
 use Rattle.join.specs.Joining.{Joinable}
-use Rattle.join.proofs.Stages.{header, list-good, reads, size-short, some-long, due-is, joinable, plan-refused, planned}
+use Rattle.join.proofs.Stages.{header, list-good, reads, size-short, some-long, innerLeast-is, joinable, plan-refused, planned}
 use Rattle.join.proofs.make_plan.Statement.{statement}
 use Rattle.join.proofs.make_plan.Tie as tie
 
@@ -58,7 +58,7 @@ returns c =
     let a = q .before .before .before .before .before .before .before .before .args in
     let r = q .prepare in
     plan-refused (now (a .index)) (now (a .recipes)) (r .last .1 .1 .0) (r .last .1 .1 .1 .0) (r .result) (r .ensures)
-    (now (a .tables)) (now (a .some)) 0 0 0 0 (c .if1 .taken)
+    (now (a .tables)) (now (a .marks)) 0 0 0 0 (c .if1 .taken)
 
 sub-list : tie.Need-sub-list
 sub-list c = header (lent c) (indexed c)
@@ -105,7 +105,7 @@ survey-files-requires c κs =
     let e = w .before .before in
     let s = e .before .before .before .before .before .before .before .before .before .before .before .before .before in
     let r = w .parse .result in
-    (walks d, (due-is (now (s .args .index)) (indexed e) r (w .parse .ensures), s .pre .1))
+    (walks d, (innerLeast-is (now (s .args .index)) (indexed e) r (w .parse .ensures), s .pre .1))
 
 same-length-3 : tie.Need-same-length-3
 same-length-3 c = let q = checked c in q .prepare .kept .1 .1 .0

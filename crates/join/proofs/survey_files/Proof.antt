@@ -9,7 +9,7 @@ use Rattle.spec.specs.Directory.{sizeAt}
 use Rattle.spec.specs.Records.{form1}
 use Rattle.spec.specs.Index.{listIn, indexLayout, indexKeys}
 use Rattle.spec.specs.Recipes.{fileCount, fileCode}
-use Rattle.spec.specs.Join.{due}
+use Rattle.spec.specs.Join.{innerLeast}
 use Rattle.recipes.proofs.Files.{walk-file, accepted}
 use Rattle.files.specs.Measures.{named, Slotted}
 use Rattle.walk.specs.Walking.{File}
@@ -21,11 +21,11 @@ use Rattle.join.proofs.survey_files.Statement.{statement}
 use Rattle.join.proofs.survey_files.Tie as tie
 
 abbrev Inv-loop : tie.InvT-loop
-Inv-loop index recipes directory entries heads chain count tables least slots₀ some₀ files total₀ at₀ k₀ slots some total at k =
-    (files ≡ fileCount recipes) × (length slots ≡ length slots₀) × (length some ≡ length some₀) × Surveying index recipes some k at total
+Inv-loop index recipes directory entries heads chain count tables least slots₀ some₀ files total₀ at₀ k₀ slots marks total at k =
+    (files ≡ fileCount recipes) × (length slots ≡ length slots₀) × (length marks ≡ length some₀) × Surveying index recipes marks k at total
 
 abbrev μ-loop : tie.MeasureT-loop
-μ-loop index recipes directory entries heads chain count tables least slots₀ some₀ files total₀ at₀ k₀ slots some total at k = files - k
+μ-loop index recipes directory entries heads chain count tables least slots₀ some₀ files total₀ at₀ k₀ slots marks total at k = files - k
 
 -- the file that the walk is at lies in the recipes
 room : (c : tie.After-file-at Inv-loop μ-loop) → let p = c .before .before in let s = p .before .before .before .before .before .before .before .before in
@@ -41,7 +41,7 @@ test : (c : tie.After-file-code Inv-loop μ-loop)
     → let f = c .before .before in
     let s = f .before .before .before .before .before .before .before .before .before .before in
     let index = now (s .args .index) in
-    c .file-code .result ≡ fileCode (indexKeys index) (sizeAt (indexLayout index) index) (due form1 (listIn index)) (named (now (f .file-at .result)))
+    c .file-code .result ≡ fileCode (indexKeys index) (sizeAt (indexLayout index) index) (innerLeast form1 (listIn index)) (named (now (f .file-at .result)))
 test c =
     let f = c .before .before in
     let s = f .before .before .before .before .before .before .before .before .before .before in
@@ -72,7 +72,7 @@ count-at-requires c κs =
 loop-holds : tie.Need-loop-holds Inv-loop μ-loop
 loop-holds c =
     let s = c .before .before .before .before .before .before .before in
-    (c .count-at .ensures, refl, refl, survey-start (now (s .args .index)) (now (s .args .recipes)) (s .pre .0 .named) (now (s .args .some)))
+    (c .count-at .ensures, refl, refl, survey-start (now (s .args .index)) (now (s .args .recipes)) (s .pre .0 .named) (now (s .args .marks)))
 
 file-at-requires : tie.Need-file-at-requires Inv-loop μ-loop
 file-at-requires c κs =
@@ -101,7 +101,7 @@ returns c =
     let a = p .before .before .before .before .before .before .before .before .args in
     let l = p .loop in
     survey-refused (now (a .index)) (now (a .recipes)) (l .k) (l .at) (omega arith) (now (f .file-at .result)) (f .file-at .ensures)
-    (l .some) (l .total) (l .inv .3) (t .file-code .result) (test t) (c .if1 .taken)
+    (l .marks) (l .total) (l .inv .3) (t .file-code .result) (test t) (c .if1 .taken)
 
 -- the file that passed can be walked
 walks : (e : tie.Else1 Inv-loop μ-loop) → let t = e .before .before .before in
@@ -126,8 +126,8 @@ count-file-requires c κs =
 mark-of-requires : tie.Need-mark-of-requires Inv-loop μ-loop
 mark-of-requires c κs = tt
 
-slice-write-some : tie.Need-slice-write-some Inv-loop μ-loop
-slice-write-some c =
+slice-write-marks : tie.Need-slice-write-marks Inv-loop μ-loop
+slice-write-marks c =
     let p = c .before .before .before .before .before .before .before .before .before .before in
     omega (arith, p .loop .inv .0, p .loop .inv .2, p .loop .inv .3 .few, p .before .before .before .before .before .before .before .before .pre .1 .1)
 
@@ -173,12 +173,12 @@ loop-again c =
     let s = p .before .before .before .before .before .before .before .before in
     let a = s .args in
     let l = p .loop in
-    let long : l .k < length (l .some) = omega (arith, l .inv .0, l .inv .2, l .inv .3 .few, s .pre .1 .1) in (
+    let long : l .k < length (l .marks) = omega (arith, l .inv .0, l .inv .2, l .inv .3 .few, s .pre .1 .1) in (
       l .inv .0,
       t .file-code .kept .1 .1 .1 .1 .1 .1 .1 .0 ∙ l .inv .1,
-      length-set (l .some) (l .k) (c .mark-of .result) ∙ l .inv .2,
+      length-set (l .marks) (l .k) (c .mark-of .result) ∙ l .inv .2,
       survey-on (now (a .index)) (now (a .recipes)) (l .k) (l .at) (omega arith) (now (f .file-at .result)) (f .file-at .ensures)
-          (l .some) (l .total) (l .inv .3) (t .file-code .result) (test t) (e .if1 .left)
+          (l .marks) (l .total) (l .inv .3) (t .file-code .result) (test t) (e .if1 .left)
           (n .result) (c .mark-of .result) (n .ensures) (small (c .before)) (c .mark-of .ensures) long,
     )
 
@@ -194,7 +194,7 @@ returns-2 c =
     let s = p .before .before .before .before .before .before .before .before in
     let a = s .args in
     let l = p .loop in
-    survey-end (now (a .index)) (now (a .recipes)) (l .some) (l .k) (l .at) (l .total) (l .inv .3) (omega arith) (omega (arith, l .inv .2, s .pre .1 .1))
+    survey-end (now (a .index)) (now (a .recipes)) (l .marks) (l .k) (l .at) (l .total) (l .inv .3) (omega arith) (omega (arith, l .inv .2, s .pre .1 .1))
 
 pub survey-files-spec : {M : Type 1} → statement M
 survey-files-spec =
@@ -211,7 +211,7 @@ survey-files-spec =
     returns
     count-file-requires
     mark-of-requires
-    slice-write-some
+    slice-write-marks
     add-total
     add-at
     add-at-2

@@ -3,7 +3,7 @@ use mathlib.Core.Path.{_≡_, refl, sym, ap, _∙_, subst}
 use mathlib.Core.List.{[]}
 use Prim.Native.Nat.{ℕ, _-_, _≤_}
 use native.Mathlib.Omega.{arith}
-use Rattle.listing.specs.Streams.{Readable, pulled, streamOf}
+use Rattle.listing.specs.Streams.{ReadableStream, pulled, streamOf}
 use Rattle.listing.proofs.Mapped.{mapped, mapped-next, mapped-on}
 use Rattle.listing.proofs.Totals.{open-none}
 use Rattle.listing.proofs.open.Statement.{statement}
@@ -40,7 +40,7 @@ pull-requires c κs = let p = c .before .before in
     let e : streamOf (p .loop .streams) (p .loop .k) ≡ streamOf (a .streams .now) (p .loop .k) =
     mapped-next (pulled (a .index .now) (a .width) (a .size)) [] (p .loop .k) (a .streams .now) (p .loop .streams)
     (omega (arith, t, s .pre .2 .long)) (p .loop .inv .1) in
-    (s .pre .1, subst (Readable (a .index .now) (a .width) (a .size)) (sym e) (s .pre .2 .each (p .loop .k) t))
+    (s .pre .1, subst (ReadableStream (a .index .now) (a .width) (a .size)) (sym e) (s .pre .2 .each (p .loop .k) t))
 
 mul-t11 : tie.Need-mul-t11 Inv-loop μ-loop
 mul-t11 c = omega arith

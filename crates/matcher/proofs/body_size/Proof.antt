@@ -68,7 +68,7 @@ record-size-requires c κs =
     let a = s .args in
     let t = c .before .loop-test .taken in
     let n = keyword-length (a .list .now) (a .words) (s .pre .reads) (p .loop .k) t in
-    (omega (arith, n, place (a .list .now) (a .words) (s .pre .reads) (p .loop .k) t .some), s .pre .short)
+    (omega (arith, n, place (a .list .now) (a .words) (s .pre .reads) (p .loop .k) t .nonempty), s .pre .short)
 
 -- the record measured is the first of what is left
 step : (c : tie.After-record-size Inv-loop μ-loop)

@@ -125,7 +125,7 @@ put-record-requires c κs =
     let q = place (a .list .now) (a .words) (s .pre .reads) (p .loop .k) t in
     let n = keyword-length (a .list .now) (a .words) (s .pre .reads) (p .loop .k) t in
     record {
-      some = omega (arith, n, q .some);
+      nonempty = omega (arith, n, q .nonempty);
       short = omega (arith, n, q .most);
       number = omega (arith, below i);
       room = part-room (p .loop .out) (p .loop .size) (length (here i)) (room i);

@@ -5,9 +5,9 @@ use Prim.Native.Nat.{ℕ, _+_, _≤_}
 use native.Mathlib.Omega.{arith}
 use lib.ListN.{length}
 use Rattle.spec.specs.Keywords.{folded}
-use Rattle.spec.specs.Records.{recordOf, form1}
+use Rattle.spec.specs.Records.{recordOf, form1, headBytes}
 use Rattle.spec.proofs.Folding.{folded-length}
-use Rattle.matcher.specs.Summaries.{headBytes, Wrote}
+use Rattle.matcher.specs.Summaries.{Wrote}
 use Rattle.matcher.proofs.Full.{room-head, room-two, room-three, put-one, put-two, put-three}
 use borrow.Author.Needs.{needs}
 use Rattle.matcher.proofs.put_full.Statement.{statement}
@@ -52,7 +52,7 @@ put-offsets-requires c κs =
     let s = h .before .before .before .before .before in
     let a = s .args in
     let r : length (h .put-head .last .0) ≡ length (a .out .now) = h .put-head .kept .0 in (
-      positive (a .flag) (a .keyword .now) (s .pre .some),
+      positive (a .flag) (a .keyword .now) (s .pre .nonempty),
       room-two (a .flag) (a .keyword .now) (a .chunk .now) (a .k) (a .s) (s .pre .summed) (h .put-head .result) (length (h .put-head .last .0))
           (head q) (omega arith) (c .before .if2 .taken) (omega (arith, s .pre .room)),
     )
@@ -98,7 +98,7 @@ put-offsets-requires-2 c κs =
     let a = s .args in
     let r : length (h .put-head .last .0) ≡ length (a .out .now) = h .put-head .kept .0 in
     let t : length (w .write .last .0) ≡ length (h .put-head .last .0) = w .write .kept .0 in (
-      positive (a .flag) (a .keyword .now) (s .pre .some),
+      positive (a .flag) (a .keyword .now) (s .pre .nonempty),
       room-three (a .flag) (a .keyword .now) (a .chunk .now) (a .k) (a .s) (s .pre .summed) (h .put-head .result) (length (w .write .last .0))
           (head q) (omega arith) (omega (arith, s .pre .room)),
     )

@@ -14,7 +14,7 @@ use Rattle.matcher.proofs.put_record.Statement.{statement}
 use Rattle.matcher.proofs.put_record.Tie as tie
 
 summary-of-requires : tie.Need-summary-of-requires
-summary-of-requires c κs = c .before .before .before .pre .some
+summary-of-requires c κs = c .before .before .before .pre .nonempty
 
 is-empty-requires : tie.Need-is-empty-requires
 is-empty-requires c κs = search needs
@@ -82,7 +82,7 @@ put-full-requires c κs =
     let a = s .before .before .before .before .args in
     let pre = s .before .before .before .before .pre in
     record {
-      some = omega (arith, folded-length (a .flag) (a .keyword .now), pre .some);
+      nonempty = omega (arith, folded-length (a .flag) (a .keyword .now), pre .nonempty);
       number = pre .number;
       prefixed = prefix-byte (a .flag) (a .keyword .now) (a .chunk .now) (s .summary-of .result) (s .summary-of .ensures) (pre .short);
       suffixed = suffix-byte (a .flag) (a .keyword .now) (a .chunk .now) (s .summary-of .result) (s .summary-of .ensures) (pre .short);

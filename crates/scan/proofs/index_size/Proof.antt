@@ -16,8 +16,8 @@ checks c = let s = c .before .before in passed-both (s .args .list .now) (s .arg
 parse-requires : tie.Need-parse-requires
 parse-requires c κs = keyword-front (c .before .before .args .list .now) (checks c .accepted)
 
-count-requires : tie.Need-count-requires
-count-requires c κs = store-good (c .before .before .before .args .store .now) (checks (c .before) .checked) .header
+chunk-count-requires : tie.Need-chunk-count-requires
+chunk-count-requires c κs = store-good (c .before .before .before .args .store .now) (checks (c .before) .checked) .header
 
 bodies-size-requires : tie.Need-bodies-size-requires
 bodies-size-requires c κs =
@@ -25,17 +25,17 @@ bodies-size-requires c κs =
     record {
       reads = record { accepted = keyword-front (s .before .before .args .list .now) (checks s .accepted); parsed = c .before .parse .ensures };
       checked = checks s .checked;
-      counted = c .count .ensures;
+      counted = c .chunk-count .ensures;
     }
 
 -- the sums are small
-few : (c : tie.After-bodies-size) → (c .before .count .result ≤ 65000) × (c .bodies-size .result ≤ 2097264 * 65000)
+few : (c : tie.After-bodies-size) → (c .before .chunk-count .result ≤ 65000) × (c .bodies-size .result ≤ 2097264 * 65000)
 few c =
     let s = c .before .before .before in
     let a = s .before .before .args in
     let n = store-good (a .store .now) (checks s .checked) .few in
     let most = bodies-most (a .list .now) (a .store .now) (checks s .checked) (keyword-front (a .list .now) (checks s .accepted)) in
-    (omega (arith, c .before .count .ensures, n), omega (arith, c .bodies-size .ensures, n, most))
+    (omega (arith, c .before .chunk-count .ensures, n), omega (arith, c .bodies-size .ensures, n, most))
 
 add-result : tie.Need-add-result
 add-result c = search needs
@@ -53,14 +53,14 @@ returns : tie.Need-returns
 returns c =
     let s = c .before .before .before in
     let a = s .before .before .args in
-    omega (arith, index-length (a .list .now) (a .store .now) (checks s .checked), c .before .count .ensures, c .bodies-size .ensures)
+    omega (arith, index-length (a .list .now) (a .store .now) (checks s .checked), c .before .chunk-count .ensures, c .bodies-size .ensures)
 
 pub index-size-spec : {M : Type 1} → statement M
 index-size-spec =
     tie.close
     (tie.spec
     parse-requires
-    count-requires
+    chunk-count-requires
     bodies-size-requires
     add-result
     mul-result

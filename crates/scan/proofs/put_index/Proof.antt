@@ -27,8 +27,8 @@ room c =
 parse-requires : tie.Need-parse-requires
 parse-requires c κs = keyword-front (c .before .before .before .args .list .now) (checks c .accepted)
 
-count-requires : tie.Need-count-requires
-count-requires c κs = store-good (c .before .before .before .before .args .store .now) (checks (c .before) .checked) .header
+chunk-count-requires : tie.Need-chunk-count-requires
+chunk-count-requires c κs = store-good (c .before .before .before .before .args .store .now) (checks (c .before) .checked) .header
 
 slice-aggregate-copy : tie.Need-slice-aggregate-copy
 slice-aggregate-copy c = search needs
@@ -56,9 +56,9 @@ put-entries-requires c κs =
       walks = record {
         reads = record { accepted = keyword-front (s .before .before .before .args .list .now) (checks s .accepted); parsed = n .before .parse .ensures };
         checked = checks s .checked;
-        counted = n .count .ensures;
+        counted = n .chunk-count .ensures;
       };
-      room = omega (arith, room s, w .copy2 .kept .0, v .write .kept .0, u .copy .kept .0, n .count .ensures);
+      room = omega (arith, room s, w .copy2 .kept .0, v .write .kept .0, u .copy .kept .0, n .chunk-count .ensures);
     }
 
 same-length : tie.Need-same-length
@@ -74,14 +74,14 @@ returns c =
     let a = n .before .before .before .before .before .args in
     index-put (a .list .now) (a .store .now) (a .out .now)
     (u .copy .last .0) (v .write .last .0) (w .copy2 .last .0) (e .put-entries .last .0)
-    (n .count .result) (n .count .ensures) (u .copy .ensures) (v .write .ensures) (w .copy2 .ensures) (e .put-entries .ensures)
+    (n .chunk-count .result) (n .chunk-count .ensures) (u .copy .ensures) (v .write .ensures) (w .copy2 .ensures) (e .put-entries .ensures)
 
 pub put-index-spec : {M : Type 1} → statement M
 put-index-spec =
     tie.close
     (tie.spec
     parse-requires
-    count-requires
+    chunk-count-requires
     slice-aggregate-copy
     copy-requires
     write-requires

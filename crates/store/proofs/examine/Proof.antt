@@ -8,7 +8,7 @@ use denote.Ref.{now}
 use Rattle.spec.specs.Bytes.{same}
 use Rattle.spec.specs.Store.{storeMark}
 use borrow.Author.Tests.{not-true, not-false}
-use Rattle.store.proofs.Answers.{refused-with, short, unmarked, many, cut, wrong, entered, twin-told, examined}
+use Rattle.store.proofs.Answers.{refused-with, short, unmarked, many, cut, wrong, entered, duplicate-told, examined}
 use borrow.Author.Needs.{needs}
 use Rattle.store.proofs.examine.Statement.{statement}
 use Rattle.store.proofs.examine.Tie as tie
@@ -33,15 +33,15 @@ returns-2 c =
     let none = sym (c .before .marked .ensures) ∙ not-true (c .before .marked .result) (c .if2 .taken) in
     refused-with store 5 (unmarked store (c .before .before .if1 .left) none) (omega arith)
 
-count-requires : tie.Need-count-requires
-count-requires c κs = search needs
+chunk-count-requires : tie.Need-chunk-count-requires
+chunk-count-requires c κs = search needs
 
 returns-3 : tie.Need-returns-3
 returns-3 c =
     let opened = c .before .before in
     let store = now (opened .before .before .before .before .before .before .args .store) in
     let h = header opened in
-    refused-with store 6 (many store (h .0) (h .1) (c .before .count .result) (c .before .count .ensures) (c .if3 .taken)) (omega arith)
+    refused-with store 6 (many store (h .0) (h .1) (c .before .chunk-count .result) (c .before .chunk-count .ensures) (c .if3 .taken)) (omega arith)
 
 mul-if4 : tie.Need-mul-if4
 mul-if4 c = search needs
@@ -55,7 +55,7 @@ returns-4 c =
     let opened = counted .before in
     let store = now (opened .before .before .before .before .before .before .args .store) in
     let h = header opened in
-    refused-with store 6 (cut store (h .0) (h .1) (counted .count .result) (counted .count .ensures) (c .before .if3 .left) (c .if4 .taken)) (omega arith)
+    refused-with store 6 (cut store (h .0) (h .1) (counted .chunk-count .result) (counted .chunk-count .ensures) (c .before .if3 .left) (c .if4 .taken)) (omega arith)
 
 entries-requires : tie.Need-entries-requires
 entries-requires c κs = search needs
@@ -67,7 +67,7 @@ returns-5 c =
     let store = now (opened .before .before .before .before .before .before .args .store) in
     let h = header opened in
     refused-with store (c .before .entries .result)
-    (wrong store (h .0) (h .1) (counted .count .result) (counted .count .ensures) (c .before .before .before .if3 .left) (c .before .before .if4 .left)
+    (wrong store (h .0) (h .1) (counted .chunk-count .result) (counted .chunk-count .ensures) (c .before .before .before .if3 .left) (c .before .before .if4 .left)
     (c .before .entries .result) (c .before .entries .ensures) (c .if5 .taken))
     (omega (arith, c .if5 .taken))
 
@@ -89,12 +89,12 @@ returns-6 c =
     let opened = counted .before in
     let store = now (opened .before .before .before .before .before .before .args .store) in
     let h = header opened in
-    let n = counted .count in
+    let n = counted .chunk-count in
     let e = good .before .entries in
     let z = entered store (h .0) (h .1) (n .result) (n .ensures) (e .result) (e .ensures) (good .if5 .left) in
     let b = built .build in
     refused-with store 8
-    (twin-told store (h .0) (h .1) (n .result) (n .ensures) (sized .before .if3 .left) (sized .if4 .left) z (b .result) (b .ensures .0) (c .if6 .taken))
+    (duplicate-told store (h .0) (h .1) (n .result) (n .ensures) (sized .before .if3 .left) (sized .if4 .left) z (b .result) (b .ensures .0) (c .if6 .taken))
     (omega arith)
 
 same-length-3 : tie.Need-same-length-3
@@ -113,12 +113,12 @@ returns-7 c =
     let start = opened .before .before .before .before .before .before in
     let store = now (start .args .store) in
     let h = header opened in
-    let n = counted .count in
+    let n = counted .chunk-count in
     let e = good .before .entries in
     let z = entered store (h .0) (h .1) (n .result) (n .ensures) (e .result) (e .ensures) (good .if5 .left) in
     let b = built .build in
     examined store (h .0) (h .1) (n .result) (n .ensures) (sized .before .if3 .left) (sized .if4 .left) z
-    (now (start .args .next)) (b .last .1 .1 .1 .1 .0) (b .last .1 .1 .1 .1 .1 .0) (b .result) (b .ensures) (start .pre .long) (c .if6 .left)
+    (now (start .args .chain)) (b .last .1 .1 .1 .1 .0) (b .last .1 .1 .1 .1 .1 .0) (b .result) (b .ensures) (start .pre .long) (c .if6 .left)
 
 pub examine-spec : {M : Type 1} → statement M
 examine-spec =
@@ -127,7 +127,7 @@ examine-spec =
     returns
     marked-requires
     returns-2
-    count-requires
+    chunk-count-requires
     returns-3
     mul-if4
     add-if4

@@ -36,7 +36,7 @@ placed : (c : tie.After-find)
 placed c =
     let counted = c .before .before .before in
     let a = counted .before .before .before .before .before .before .before .before .before .before .args in
-    found-at (now (a .store)) (now (a .fp)) (counted .count .result) (counted .count .ensures) (c .find .result) (c .find .ensures)
+    found-at (now (a .store)) (now (a .fp)) (counted .chunk-count .result) (counted .chunk-count .ensures) (c .find .result) (c .find .ensures)
 
 returns : tie.Need-returns
 unfolding findChunk
@@ -54,8 +54,8 @@ returns-2 c =
     refuses 19 (findChunk (now (a .store)) (now (a .fp))) (positionOf (now (a .fp)) (storeKeys (now (a .store))))
     (lookup-length (storeCode (now (a .store))) (storeKeys (now (a .store))) (now (a .fp)) (passed (c .before)) (c .if2 .taken)) (λ z. omega arith)
 
-count-requires : tie.Need-count-requires
-count-requires c κs = store-good (now (c .before .before .before .before .before .before .before .before .before .args .store)) (passed (c .before)) .header
+chunk-count-requires : tie.Need-chunk-count-requires
+chunk-count-requires c κs = store-good (now (c .before .before .before .before .before .before .before .before .before .args .store)) (passed (c .before)) .header
 
 slice-aggregate-find : tie.Need-slice-aggregate-find
 slice-aggregate-find c = search needs
@@ -69,10 +69,10 @@ find-requires c κs =
     let called = counted .before .before .before .before .before in
     let a = called .before .before .before .before .before .args in
     let z = passed (counted .before .before) in (
-      lies (now (a .store)) (counted .count .result) z (counted .count .ensures),
+      lies (now (a .store)) (counted .chunk-count .result) z (counted .chunk-count .ensures),
       (
         subst (λ (keys : List (List ℕ)). Chained keys 0 (called .examine .last .1 .0) (called .examine .last .1 .1 .0))
-            (sym (keys-from (now (a .store)) (counted .count .result) (counted .count .ensures))) (called .examine .ensures .chains z),
+            (sym (keys-from (now (a .store)) (counted .chunk-count .result) (counted .chunk-count .ensures))) (called .examine .ensures .chains z),
         counted .before .if2 .left,
       ),
     )
@@ -84,7 +84,7 @@ returns-3 c =
     let a = counted .before .before .before .before .before .before .before .before .before .before .args in
     refuses 15 (findChunk (now (a .store)) (now (a .fp))) (positionOf (now (a .fp)) (storeKeys (now (a .store))))
     (lookup-none (storeCode (now (a .store))) (storeKeys (now (a .store))) (now (a .fp)) (passed (counted .before .before)) (counted .before .if2 .left)
-    (counted .count .result) (counted .count .ensures ∙ sym (length-storeKeys (now (a .store))))
+    (counted .chunk-count .result) (counted .chunk-count .ensures ∙ sym (length-storeKeys (now (a .store))))
     (c .before .find .result) (placed (c .before)) (c .if3 .taken))
     (λ z. omega arith)
 
@@ -95,7 +95,7 @@ returns-4 c =
     let a = counted .before .before .before .before .before .before .before .before .before .before .args in
     finds (c .before .find .result) (findChunk (now (a .store)) (now (a .fp))) (positionOf (now (a .fp)) (storeKeys (now (a .store))))
     (lookup-found (storeCode (now (a .store))) (storeKeys (now (a .store))) (now (a .fp)) (passed (counted .before .before)) (counted .before .if2 .left)
-    (counted .count .result) (counted .count .ensures ∙ sym (length-storeKeys (now (a .store))))
+    (counted .chunk-count .result) (counted .chunk-count .ensures ∙ sym (length-storeKeys (now (a .store))))
     (c .before .find .result) (placed (c .before)) (c .if3 .left))
     (placed (c .before))
 
@@ -108,7 +108,7 @@ locate-spec =
     examine-requires
     returns
     returns-2
-    count-requires
+    chunk-count-requires
     slice-aggregate-find
     slice-aggregate-find-2
     find-requires

@@ -1,4 +1,5 @@
 -- `vault_count` meets its contract: the answer of `count`, case by case. Assumes nothing.
+use denote.Ref.{now}
 use Rattle.spec.specs.declared.Outcome.the-variants.{Done, Refused}
 use borrow.Author.Needs.{needs}
 use Rattle.vault_c.proofs.Answers.{told}
@@ -18,11 +19,13 @@ returns : tie.Need-returns
 returns c =
     let called = c .before .before .before in
     told (Done (c .before .counted .given .0 .0)) (called .count .result) (c .before .counted .given .1) (called .count .ensures)
+    (now (called .before .before .before .args .count))
 
 returns-2 : tie.Need-returns-2
 returns-2 c =
     let called = c .before .before .before in
     told (Refused (c .before .code .given .0 .0)) (called .count .result) (c .before .code .given .1) (called .count .ensures)
+    (now (called .before .before .before .args .count))
 
 pub vault-count-spec : {M : Type 1} → statement M
 vault-count-spec =

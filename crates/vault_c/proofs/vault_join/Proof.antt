@@ -1,4 +1,5 @@
 -- `vault_join` meets its contract: the answer of `join`, case by case. Assumes nothing.
+use denote.Ref.{now}
 use Rattle.spec.specs.declared.Outcome.the-variants.{Done, Refused}
 use borrow.Author.Needs.{needs}
 use Rattle.vault_c.proofs.Answers.{told-buffer}
@@ -20,7 +21,8 @@ same-length c = search needs
 returns : tie.Need-returns
 returns c =
     let called = c .before .before .before .before .before in
-    told-buffer (Done (c .before .listed .given .0 .0)) (called .join .result) (c .before .listed .given .1) (called .join .ensures .0) (called .join .ensures .1)
+    told-buffer (Done (c .before .listed .given .0 .0)) (called .join .result) (c .before .listed .given .1) (called .join .ensures .0)
+    (now (called .before .before .before .before .before .args .count)) (called .join .ensures .1)
 
 same-length-2 : tie.Need-same-length-2
 same-length-2 c = search needs
@@ -28,7 +30,8 @@ same-length-2 c = search needs
 returns-2 : tie.Need-returns-2
 returns-2 c =
     let called = c .before .before .before .before .before in
-    told-buffer (Refused (c .before .code .given .0 .0)) (called .join .result) (c .before .code .given .1) (called .join .ensures .0) (called .join .ensures .1)
+    told-buffer (Refused (c .before .code .given .0 .0)) (called .join .result) (c .before .code .given .1) (called .join .ensures .0)
+    (now (called .before .before .before .before .before .args .count)) (called .join .ensures .1)
 
 pub vault-join-spec : {M : Type 1} → statement M
 vault-join-spec =

@@ -1,4 +1,5 @@
 -- `vault_scan_size` meets its contract: the answer of `size`, case by case. Assumes nothing.
+use denote.Ref.{now}
 use Rattle.spec.specs.declared.Outcome.the-variants.{Done, Refused}
 use borrow.Author.Needs.{needs}
 use Rattle.vault_c.proofs.Answers.{told}
@@ -18,11 +19,13 @@ returns : tie.Need-returns
 returns c =
     let called = c .before .before .before in
     told (Done (c .before .needed .given .0 .0)) (called .size .result) (c .before .needed .given .1) (called .size .ensures)
+    (now (called .before .before .before .args .size))
 
 returns-2 : tie.Need-returns-2
 returns-2 c =
     let called = c .before .before .before in
     told (Refused (c .before .code .given .0 .0)) (called .size .result) (c .before .code .given .1) (called .size .ensures)
+    (now (called .before .before .before .args .size))
 
 pub vault-scan-size-spec : {M : Type 1} → statement M
 vault-scan-size-spec =

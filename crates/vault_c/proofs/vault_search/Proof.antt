@@ -30,7 +30,8 @@ returns c =
     let a = called .before .before .before .before .before .before .before .before .args in
     told-search (now (a .list)) (now (a .store)) (now (a .recipes)) (now (a .index)) (now (a .out))
     (called .search .last .1 .1 .1 .0) (called .search .last .1 .1 .1 .1 .0)
-    (ScanRefused (c .before .code .given .0 .0)) (called .search .result) (c .before .code .given .1) (called .search .ensures .0)
+    (ScanRefused (c .before .code .given .0 .0)) (called .search .result) (now (a .index-length)) (now (a .count))
+    (c .before .code .given .1) (called .search .ensures .0)
     (called .search .ensures .1) (called .search .ensures .2)
 
 same-length-3 : tie.Need-same-length-3
@@ -45,7 +46,8 @@ returns-2 c =
     let a = called .before .before .before .before .before .before .before .before .args in
     told-search (now (a .list)) (now (a .store)) (now (a .recipes)) (now (a .index)) (now (a .out))
     (called .search .last .1 .1 .1 .0) (called .search .last .1 .1 .1 .1 .0)
-    (JoinRefused (c .before .written .given .0 .0) (c .before .written .given .0 .1 .0)) (called .search .result) (c .before .written .given .1) (called .search .ensures .0)
+    (JoinRefused (c .before .written .given .0 .0) (c .before .written .given .0 .1 .0)) (called .search .result) (now (a .index-length)) (now (a .count))
+    (c .before .written .given .1) (called .search .ensures .0)
     (called .search .ensures .1) (called .search .ensures .2)
 
 same-length-5 : tie.Need-same-length-5
@@ -60,7 +62,8 @@ returns-3 c =
     let a = called .before .before .before .before .before .before .before .before .args in
     told-search (now (a .list)) (now (a .store)) (now (a .recipes)) (now (a .index)) (now (a .out))
     (called .search .last .1 .1 .1 .0) (called .search .last .1 .1 .1 .1 .0)
-    (Found (c .before .size .given .0 .0) (c .before .size .given .0 .1 .0)) (called .search .result) (c .before .size .given .1) (called .search .ensures .0)
+    (Found (c .before .size .given .0 .0) (c .before .size .given .0 .1 .0)) (called .search .result) (now (a .index-length)) (now (a .count))
+    (c .before .size .given .1) (called .search .ensures .0)
     (called .search .ensures .1) (called .search .ensures .2)
 
 pub vault-search-spec : {M : Type 1} → statement M

@@ -4,12 +4,12 @@ use Prim.Native.Nat.{_<_}
 use lib.ListN.{length, getD}
 use Rattle.spec.specs.Keywords.{foldedKeywords}
 use Rattle.spec.specs.Index.{listIn}
-use Rattle.listing.specs.Streams.{Ready}
+use Rattle.listing.specs.Streams.{ReadableStreams}
 use Rattle.listing.proofs.Stepping.{opened}
 use Rattle.walk.specs.Walking.{chunksIn}
 use Rattle.walk.proofs.Entries.{in-chunks}
 use Rattle.walk.proofs.Places.{AllGood}
-use Rattle.walk.proofs.Moves.{all-good, base-fits, moved-crossable, moved-ready, moved-fresh, moved-on}
+use Rattle.walk.proofs.Moves.{all-good, base-fits, opened-crossable, opened-ready, opened-fresh, place-opened}
 use Rattle.walk.proofs.move_on.Statement.{statement}
 use Rattle.walk.proofs.move_on.Tie as tie
 use Rattle.walk.proofs.move_on.Reads as reads
@@ -31,7 +31,7 @@ more s = let a = s .args in in-chunks (a .index .now) (a .file .now) (getD (a .h
 -- its streams can be opened
 ready : (c : tie.After-cross) → let r = c .before .before .before .before in
     let a = r .before .before .before .before .before .before .before .before .before .before .before .before .args in
-    Ready (a .index .now) 2 (getD (a .here .now) 3 0) (a .count) (c .cross .last .1 .1 .1 .1 .1 .0)
+    ReadableStreams (a .index .now) 2 (getD (a .here .now) 3 0) (a .count) (c .cross .last .1 .1 .1 .1 .1 .0)
 ready c =
     let r = c .before .before .before .before in
     let s = r .before .before .before .before .before .before .before .before .before .before .before .before in
@@ -39,7 +39,7 @@ ready c =
     let chunks = chunksIn (a .index .now) (a .file .now) in
     let t = r .load in
     let x = c .cross in
-    moved-ready (a .index .now) (a .count) (a .tables .now) chunks (s .pre .0 .keyed) (ranges s) (a .here .now) (a .streams .now) (a .rows .now)
+    opened-ready (a .index .now) (a .count) (a .tables .now) chunks (s .pre .0 .keyed) (ranges s) (a .here .now) (a .streams .now) (a .rows .now)
     (s .pre .1 .0) (more s) (t .last .1 .1 .1 .1 .1 .1 .1 .1 .1 .0) (t .result) (t .ensures) (x .last .1 .1 .1 .1 .1 .0) (x .ensures .crossed)
 
 element-copy-out-n : tie.Need-element-copy-out-n
@@ -100,7 +100,7 @@ cross-requires c κs =
     let t = r .load in (
       s .pre .0 .keyed .few,
       s .pre .1 .0 .held .long,
-      moved-crossable (a .index .now) (a .count) (a .tables .now) chunks (s .pre .0 .keyed) (ranges s) (a .here .now) (a .streams .now) (a .rows .now)
+      opened-crossable (a .index .now) (a .count) (a .tables .now) chunks (s .pre .0 .keyed) (ranges s) (a .here .now) (a .streams .now) (a .rows .now)
           (s .pre .1 .0) (more s) (t .last .1 .1 .1 .1 .1 .1 .1 .1 .1 .0) (t .result) (t .ensures),
     )
 
@@ -115,7 +115,7 @@ open-requires c κs =
       s .pre .0 .keyed .few,
       omega arith,
       ready (c .before),
-      moved-fresh (a .index .now) (a .count) (a .tables .now) chunks (s .pre .0 .keyed) (ranges s) (a .here .now) (a .streams .now) (a .rows .now)
+      opened-fresh (a .index .now) (a .count) (a .tables .now) chunks (s .pre .0 .keyed) (ranges s) (a .here .now) (a .streams .now) (a .rows .now)
           (s .pre .1 .0) (more s) (t .last .1 .1 .1 .1 .1 .1 .1 .1 .1 .0) (t .result) (t .ensures)
           (x .last .1 .1 .1 .1 .1 .0) (x .ensures .crossed) (x .result) (x .ensures .all),
     )
@@ -129,7 +129,7 @@ returns c =
     let t = r .load in
     let x = c .before .before .cross in
     let streams = c .«open» .last .1 .1 .1 .1 .1 .0 in
-    moved-on (a .index .now) (a .count) (a .tables .now) chunks (s .pre .0 .keyed) (ranges s) (a .here .now) (a .streams .now) (a .rows .now)
+    place-opened (a .index .now) (a .count) (a .tables .now) chunks (s .pre .0 .keyed) (ranges s) (a .here .now) (a .streams .now) (a .rows .now)
     (s .pre .1 .0) (more s) (t .last .1 .1 .1 .1 .1 .1 .1 .1 .1 .0) (t .result) (t .ensures) (x .last .1 .1 .1 .1 .1 .0) (x .ensures .crossed) streams
     (opened (a .index .now) 2 (getD (a .here .now) 3 0) (a .count) (x .last .1 .1 .1 .1 .1 .0) streams (ready (c .before .before)) (c .«open» .ensures))
 

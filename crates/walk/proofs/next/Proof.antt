@@ -6,7 +6,7 @@ use lib.ListN.{length, getD}
 use Rattle.listing.proofs.Stepping.{NextTaken, next-taken as listing-taken}
 use Rattle.walk.specs.Walking.{chunksIn, AtPlace, coming}
 use Rattle.walk.proofs.Entries.{out-chunks}
-use Rattle.walk.proofs.Moves.{still, next-taken, next-moved, next-none}
+use Rattle.walk.proofs.Moves.{still, next-taken, next-place-opened, next-none}
 use Rattle.walk.proofs.next.Statement.{statement}
 use Rattle.walk.proofs.next.Tie as tie
 use Rattle.walk.proofs.next.Reads as reads
@@ -32,7 +32,7 @@ taken c =
     let p = c .before .before .before in
     let s = p .before .before .before .before .before .before in
     let a = s .args in
-    listing-taken (a .index .now) 2 (getD (p .loop .here) 2 0) (a .count) (p .loop .streams) (p .loop .inv .0 .held) (s .pre .0 .keyed .some)
+    listing-taken (a .index .now) 2 (getD (p .loop .here) 2 0) (a .count) (p .loop .streams) (p .loop .inv .0 .held) (s .pre .0 .keyed .nonempty)
     (c .next .last .1 .1 .1 .1 .0) (c .next .result .keyword) (c .next .result .offset) (c .next .ensures)
 
 loop-holds : tie.Need-loop-holds Inv-loop μ-loop
@@ -44,7 +44,7 @@ element-copy-out-size c = omega arith
 next-requires : tie.Need-next-requires Inv-loop μ-loop
 next-requires c κs = let p = c .before .before in
     let s = p .before .before .before .before .before .before in
-    (s .pre .0 .keyed .some, s .pre .0 .keyed .few, omega arith, p .loop .inv .0 .held)
+    (s .pre .0 .keyed .nonempty, s .pre .0 .keyed .few, omega arith, p .loop .inv .0 .held)
 
 element-copy-out-t22 : tie.Need-element-copy-out-t22 Inv-loop μ-loop
 element-copy-out-t22 c = omega arith
@@ -97,7 +97,7 @@ loop-again c = let p = c .before .before .before .before .before .before .before
     let t = c .before .before .before .before .before .before .before .before .next in
     let m = c .move-on in (
       m .ensures .at,
-      next-moved (a .index .now) (a .count) chunks (p .loop .here) (p .loop .streams) (p .loop .rows) (p .loop .inv .0)
+      next-place-opened (a .index .now) (a .count) chunks (p .loop .here) (p .loop .streams) (p .loop .rows) (p .loop .inv .0)
           (t .last .1 .1 .1 .1 .0) (t .result .keyword) (t .result .offset) (taken (c .before .before .before .before .before .before .before .before))
           (a .here .now) (a .streams .now) (p .loop .inv .1) (c .before .before .before .before .before .before .if1 .left)
           (m .last .1 .1 .1 .1 .1 .1 .1 .1 .1 .0) (m .last .1 .1 .1 .1 .1 .1 .1 .1 .1 .1 .0) (m .last .1 .1 .1 .1 .1 .1 .1 .1 .1 .1 .1 .0) (m .ensures),

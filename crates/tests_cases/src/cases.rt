@@ -1,0 +1,84 @@
+// The cases: generated vaults scanned, joined and searched; joins of made-up records; torn stores.
+use tests_plain::bytes::next;
+use tests_plain::case;
+use tests_plain::case::check_code;
+use tests_plain::records::note_all;
+use tests_report::kinds::see;
+use tests_report::tally;
+use tests_report::tally::bump;
+use tests_report::tally::torn_place;
+use tests_runs::lookups::lookups;
+use tests_runs::runs::checks;
+use tests_runs::runs::join_runs;
+use tests_runs::runs::scan_runs;
+use tests_runs::runs::search_runs;
+use tests_vaults::encode::encode;
+use tests_vaults::fill::put_invented;
+use tests_vaults::fill::put_scanned;
+use tests_vaults::fill::put_torn;
+use tests_vaults::make::make;
+
+// Every operation on a case.
+fn run_all(counts: &mut [u64], f: &[u8], n: usize, buffer: &mut [u8]) {
+    checks(counts, f);
+    lookups(counts, f, n);
+    scan_runs(counts, f, buffer);
+    join_runs(counts, f, buffer);
+    search_runs(counts, f, buffer);
+}
+
+// The vault in the model, searched, as case number n.
+pub(crate) fn run_scanned(
+    counts: &mut [u64],
+    n: usize,
+    m: &mut [u8],
+    f: &mut [u8],
+    buffer: &mut [u8],
+) {
+    put_scanned(f, m, buffer);
+    run_all(counts, f, n, buffer);
+    see(counts, m, f);
+    bump(counts, tally::CASES);
+}
+
+// Vault number n, searched.
+pub(crate) fn scanned(counts: &mut [u64], n: usize, f: &mut [u8], buffer: &mut [u8]) {
+    let mut m = case::room();
+    make(&mut m, n);
+    run_scanned(counts, n, &mut m, f, buffer);
+}
+
+fn run_index(counts: &mut [u64], f: &[u8], n: usize, buffer: &mut [u8]) {
+    checks(counts, f);
+    lookups(counts, f, n);
+    join_runs(counts, f, buffer);
+}
+
+// Vault number n with made-up records, joined; the plain join gives the list.
+pub(crate) fn invented(counts: &mut [u64], n: usize, f: &mut [u8], buffer: &mut [u8]) {
+    let mut m = case::room();
+    make(&mut m, n);
+    put_invented(f, &mut m, n);
+    run_index(counts, f, n, buffer);
+    see(counts, &m, f);
+    bump(counts, tally::CASES);
+}
+
+// A store, torn: checked, searched for chunks and, where it is refused, scanned.
+fn run_torn(counts: &mut [u64], f: &[u8], n: usize, buffer: &mut [u8]) {
+    checks(counts, f);
+    lookups(counts, f, n);
+    scan_runs(counts, f, buffer);
+    bump(counts, torn_place(check_code(f, 1)));
+    bump(counts, tally::CASES);
+}
+
+// The store of vault number n, torn.
+pub(crate) fn torn(counts: &mut [u64], n: usize, f: &mut [u8], buffer: &mut [u8]) {
+    let mut m = case::room();
+    make(&mut m, n);
+    note_all(&mut m);
+    encode(f, &m);
+    put_torn(f, next((n % 1000000) as u64 + 5));
+    run_torn(counts, f, n, buffer);
+}

@@ -1,0 +1,87 @@
+// The cases of vaults, all of them: generated ones, torn stores, the small vault, pairs of faults in it.
+use crate::cases;
+use crate::damaged;
+use tests_plain::case;
+use tests_report::report;
+use tests_report::report::report_cases;
+use tests_report::report::report_kinds;
+use tests_vaults::small;
+
+const SCANNED: usize = 2400;
+
+const INVENTED: usize = 1200;
+
+const PAIRS: usize = 3600;
+
+// Vault number i, scanned, joined and searched.
+fn run_scanned(counts: &mut [u64], f: &mut [u8], buffer: &mut [u8]) {
+    let n = SCANNED;
+    for i in 0..n {
+        cases::scanned(counts, i, f, buffer);
+    }
+}
+
+// Indexes of made-up records, joined.
+fn run_invented(counts: &mut [u64], f: &mut [u8], buffer: &mut [u8]) {
+    let n = INVENTED;
+    for i in 0..n {
+        cases::invented(counts, i, f, buffer);
+    }
+}
+
+// Stores of vaults, torn.
+fn run_torn(counts: &mut [u64], f: &mut [u8], buffer: &mut [u8]) {
+    let n = SCANNED;
+    for i in 0..n {
+        cases::torn(counts, i, f, buffer);
+    }
+}
+
+// Every two faults, and every fault alone: pair number t is of faults t / 60 and t % 60.
+fn run_faults(counts: &mut [u64], m: &[u8], f: &mut [u8], buffer: &mut [u8]) {
+    let n = PAIRS;
+    for t in 0..n {
+        damaged::pair(counts, t / 60, t % 60, m, f, buffer);
+    }
+}
+
+fn generated(counts: &mut [u64], f: &mut [u8], buffer: &mut [u8]) {
+    run_scanned(counts, f, buffer);
+    report_cases(b"vaults scanned, joined and searched", counts);
+    report_kinds(counts);
+    run_invented(counts, f, buffer);
+    report_cases(b"indexes of made-up records joined", counts);
+    report_kinds(counts);
+}
+
+fn torn(counts: &mut [u64], f: &mut [u8], buffer: &mut [u8]) {
+    run_torn(counts, f, buffer);
+    report_cases(b"torn stores checked and scanned", counts);
+    report::torn(counts);
+}
+
+// The small vault; m is left with it.
+fn small(counts: &mut [u64], m: &mut [u8], f: &mut [u8], buffer: &mut [u8]) {
+    small::small(m);
+    cases::run_scanned(counts, 0, m, f, buffer);
+    report_cases(b"the small vault", counts);
+}
+
+fn faulty(counts: &mut [u64], f: &mut [u8], buffer: &mut [u8]) {
+    let mut m = case::room();
+    small(counts, &mut m, f, buffer);
+    run_faults(counts, &m, f, buffer);
+    report_cases(b"pairs of faults in it", counts);
+}
+
+fn all(counts: &mut [u64], f: &mut [u8], buffer: &mut [u8]) {
+    generated(counts, f, buffer);
+    torn(counts, f, buffer);
+    faulty(counts, f, buffer);
+}
+
+pub fn all_vaults(counts: &mut [u64]) {
+    let mut f = case::room();
+    let mut buffer = case::room();
+    all(counts, &mut f, &mut buffer);
+}

@@ -1,0 +1,4 @@
+// The search program's output, run and compared with the text that is due.
+// Test support: proved safe and ending.
+mod outputs;
+pub mod printed;

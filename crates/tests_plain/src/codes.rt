@@ -1,0 +1,158 @@
+// Refusals, plainly computed: of keywords, recipes and stores, good and torn.
+use crate::bytes::get_4;
+use crate::bytes::less;
+use crate::bytes::part;
+use crate::bytes::plus;
+use crate::bytes::same;
+use crate::model::chunk_of;
+use crate::model::chunk_size;
+use crate::model::chunks;
+use crate::model::file_size;
+use crate::model::files;
+use crate::model::keyword_size;
+use crate::model::keywords;
+use crate::records::any_alike;
+
+// ---- refusals
+
+fn longest(m: &[u8]) -> usize {
+    let n = keywords(m);
+    let mut most: usize = 0;
+    for k in 0..n {
+        let size = keyword_size(m, k);
+        if most < size {
+            most = size;
+        }
+    }
+    most
+}
+
+// A place neither first nor last of the file has a chunk shorter than `due`.
+fn short_inside(m: &[u8], f: usize, due: usize) -> bool {
+    let n = less(file_size(m, f), 1);
+    for i in 0..n {
+        if 0 < i {
+            if chunk_size(m, chunk_of(m, f, i)) < due {
+                return true;
+            }
+        }
+    }
+    false
+}
+
+// A file names a chunk that the store does not have.
+fn names_stranger(m: &[u8], f: usize) -> bool {
+    let n = file_size(m, f);
+    for i in 0..n {
+        if chunks(m) <= chunk_of(m, f, i) {
+            return true;
+        }
+    }
+    false
+}
+
+// A file's number: 15, 17 or 0.
+fn file_code(m: &[u8], f: usize, due: usize) -> u8 {
+    if names_stranger(m, f) {
+        return 15;
+    }
+    if short_inside(m, f, due) { 17 } else { 0 }
+}
+
+// The join's number behind the index check: that of the first file that has one.
+pub fn recipes_code(m: &[u8]) -> u8 {
+    let n = files(m);
+    let due = less(longest(m), 1);
+    for f in 0..n {
+        let code = file_code(m, f, due);
+        if code != 0 {
+            return code;
+        }
+    }
+    0
+}
+
+// The keyword check's number: 4 or 0.
+pub fn alike_code(m: &[u8]) -> u8 {
+    if any_alike(m) { 4 } else { 0 }
+}
+
+// ---- stores, good and torn
+
+// The place of the first entry of a directory that has the fingerprint, 0 where none has. The directory has n entries of `width` bytes from
+// `start` on.
+pub fn entry_of(bytes: &[u8], start: usize, width: usize, n: usize, key: &[u8]) -> usize {
+    let mut at = start;
+    for e in 0..n {
+        if same(bytes, at, key, 0, 20) {
+            return at;
+        }
+        at = plus(at, width);
+    }
+    0
+}
+
+// Where a chunk that starts at `at` ends, by its entry; 0 where the entry is wrong, or one before it was.
+fn entry_end(s: &[u8], at: usize, entry: usize) -> usize {
+    let size = get_4(s, plus(entry, 24));
+    if at == 0 {
+        return 0;
+    }
+    if size == 0 {
+        return 0;
+    }
+    if 65535 < size {
+        return 0;
+    }
+    if get_4(s, plus(entry, 20)) != at {
+        return 0;
+    }
+    plus(at, size)
+}
+
+fn last_end(s: &[u8], n: usize) -> usize {
+    let mut at = 8 + 28 * (n % 65536);
+    for e in 0..n {
+        at = entry_end(s, at, 8 + 28 * (e % 65536));
+    }
+    at
+}
+
+fn entry_at(e: usize) -> usize {
+    8 + 28 * (e % 65536)
+}
+
+fn any_twice(s: &[u8], n: usize) -> bool {
+    for e in 0..n {
+        let at = entry_at(e);
+        if entry_of(s, 8, 28, n, part(s, at, 20)) != at {
+            return true;
+        }
+    }
+    false
+}
+
+// The number of a store behind its mark.
+fn directory_code(s: &[u8], n: usize) -> u8 {
+    if 65000 < n {
+        return 6;
+    }
+    if s.len() < 8 + 28 * (n % 65536) {
+        return 6;
+    }
+    if last_end(s, n) != s.len() {
+        return 7;
+    }
+    if any_twice(s, n) { 8 } else { 0 }
+}
+
+// The store check's number.
+pub fn store_code(s: &[u8]) -> u8 {
+    if s.len() < 8 {
+        return 5;
+    }
+    if !same(s, 0, b"DV1\n", 0, 4) {
+        return 5;
+    }
+    directory_code(s, get_4(s, 4))
+}

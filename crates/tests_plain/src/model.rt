@@ -1,0 +1,73 @@
+// A vault, apart from the formats, in one array of 66,600 bytes: counts, keywords, chunks, match records and files at fixed places.
+use crate::bytes::get_2;
+use crate::bytes::num;
+use crate::bytes::plus;
+
+pub fn count_of(m: &[u8], c: usize, k: usize, size: usize) -> usize {
+    let mut n: usize = 0;
+    for p in 0..size {
+        n = plus(n, num(m, mark_at(c, k, p)));
+    }
+    n
+}
+
+// Keyword count, fold flag, chunk count, file count: a byte each.
+pub fn keywords(m: &[u8]) -> usize {
+    num(m, 0)
+}
+
+pub fn flag(m: &[u8]) -> usize {
+    num(m, 1)
+}
+
+pub fn chunks(m: &[u8]) -> usize {
+    num(m, 2)
+}
+
+pub fn files(m: &[u8]) -> usize {
+    num(m, 3)
+}
+
+// Keyword k: a length byte, and its bytes behind.
+pub fn keyword_at(k: usize) -> usize {
+    8 + 33 * (k % 16)
+}
+
+pub fn keyword_size(m: &[u8], k: usize) -> usize {
+    num(m, keyword_at(k))
+}
+
+// Chunk c: its length, 2 bytes; its bytes apart.
+pub fn size_at(c: usize) -> usize {
+    540 + 2 * (c % 12)
+}
+
+pub fn chunk_size(m: &[u8], c: usize) -> usize {
+    get_2(m, size_at(c))
+}
+
+pub fn chunk_at(c: usize) -> usize {
+    600 + 320 * (c % 12)
+}
+
+// The record of chunk c and keyword k: prefix and suffix, a byte each; apart from that a byte for each offset p, 1 where it is recorded.
+pub fn partial_at(c: usize, k: usize) -> usize {
+    4440 + 2 * (16 * (c % 12) + k % 16)
+}
+
+pub fn mark_at(c: usize, k: usize, p: usize) -> usize {
+    5100 + 320 * (16 * (c % 12) + k % 16) + p % 320
+}
+
+// File f: its chunk count, and its chunk numbers behind, a byte each.
+pub fn file_at(f: usize) -> usize {
+    4830 + 20 * (f % 12)
+}
+
+pub fn file_size(m: &[u8], f: usize) -> usize {
+    num(m, file_at(f))
+}
+
+pub fn chunk_of(m: &[u8], f: usize, i: usize) -> usize {
+    num(m, plus(file_at(f), plus(i, 1)))
+}

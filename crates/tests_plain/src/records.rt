@@ -1,0 +1,152 @@
+// Comparison and match records, plainly computed.
+use crate::bytes::get;
+use crate::bytes::least;
+use crate::bytes::less;
+use crate::bytes::plus;
+use crate::bytes::put;
+use crate::model::chunk_at;
+use crate::model::chunk_size;
+use crate::model::chunks;
+use crate::model::flag;
+use crate::model::keyword_at;
+use crate::model::keyword_size;
+use crate::model::keywords;
+use crate::model::mark_at;
+use crate::model::partial_at;
+
+pub(crate) fn folded(flag: usize, b: u8) -> u8 {
+    if flag == 1 {
+        if 0x41 <= b {
+            if b <= 0x5A {
+                return b + 0x20;
+            }
+        }
+    }
+    b
+}
+
+// n bytes of a from `at` on compare alike with those of b from `bt` on.
+pub fn alike(flag: usize, a: &[u8], at: usize, b: &[u8], bt: usize, n: usize) -> bool {
+    for i in 0..n {
+        if folded(flag, get(a, plus(at, i))) != folded(flag, get(b, plus(bt, i))) {
+            return false;
+        }
+    }
+    true
+}
+
+fn two_alike(m: &[u8], j: usize, k: usize) -> bool {
+    if keyword_size(m, j) != keyword_size(m, k) {
+        return false;
+    }
+    alike(
+        flag(m),
+        m,
+        plus(keyword_at(j), 1),
+        m,
+        plus(keyword_at(k), 1),
+        keyword_size(m, k),
+    )
+}
+
+fn alike_before(m: &[u8], k: usize) -> bool {
+    for j in 0..k {
+        if two_alike(m, j, k) {
+            return true;
+        }
+    }
+    false
+}
+
+// Some two keywords compare alike.
+pub(crate) fn any_alike(m: &[u8]) -> bool {
+    let n = keywords(m);
+    for k in 0..n {
+        if alike_before(m, k) {
+            return true;
+        }
+    }
+    false
+}
+
+// Keyword k stands at an offset of the `size` bytes of the text from `base` on.
+pub fn stands(m: &[u8], k: usize, text: &[u8], base: usize, size: usize, at: usize) -> bool {
+    let n = keyword_size(m, k);
+    if size < plus(at, n) {
+        return false;
+    }
+    alike(flag(m), m, plus(keyword_at(k), 1), text, plus(base, at), n)
+}
+
+// ---- records
+
+fn prefix(m: &[u8], c: usize, k: usize) -> usize {
+    let size = chunk_size(m, c);
+    let reach = least(less(keyword_size(m, k), 1), size);
+    let mut best: usize = 0;
+    for i in 0..reach {
+        let j = plus(i, 1);
+        if alike(
+            flag(m),
+            m,
+            plus(keyword_at(k), 1),
+            m,
+            plus(chunk_at(c), less(size, j)),
+            j,
+        ) {
+            best = j;
+        }
+    }
+    best
+}
+
+fn suffix(m: &[u8], c: usize, k: usize) -> usize {
+    let n = keyword_size(m, k);
+    let reach = least(less(n, 1), chunk_size(m, c));
+    let mut best: usize = 0;
+    for i in 0..reach {
+        let j = plus(i, 1);
+        if alike(
+            flag(m),
+            m,
+            plus(keyword_at(k), plus(less(n, j), 1)),
+            m,
+            chunk_at(c),
+            j,
+        ) {
+            best = j;
+        }
+    }
+    best
+}
+
+fn mark(m: &mut [u8], c: usize, k: usize, size: usize) {
+    for p in 0..size {
+        let b = stands(m, k, m, chunk_at(c), size, p) as u8;
+        put(m, mark_at(c, k, p), b);
+    }
+}
+
+// The record of chunk c and keyword k.
+fn note(m: &mut [u8], c: usize, k: usize) {
+    let i = prefix(m, c, k);
+    let j = suffix(m, c, k);
+    put(m, partial_at(c, k), (i % 256) as u8);
+    put(m, plus(partial_at(c, k), 1), (j % 256) as u8);
+    mark(m, c, k, chunk_size(m, c));
+}
+
+fn note_chunk(m: &mut [u8], c: usize, n: usize) {
+    for k in 0..n {
+        note(m, c, k);
+    }
+}
+
+// The records of every chunk and keyword.
+pub fn note_all(m: &mut [u8]) {
+    let n = chunks(m);
+    let words = keywords(m);
+    for c in 0..n {
+        note_chunk(m, c, words);
+    }
+}

@@ -1,0 +1,340 @@
+// The kinds of a case, by what is found in its model and its list, whatever it was made for.
+use crate::tally::KINDS;
+use crate::tally::saw;
+use tests_plain::bytes::get;
+use tests_plain::bytes::get_4;
+use tests_plain::bytes::less;
+use tests_plain::bytes::num;
+use tests_plain::bytes::plus;
+use tests_plain::bytes::same;
+use tests_plain::case;
+use tests_plain::case::row_at;
+use tests_plain::model::chunk_at;
+use tests_plain::model::chunk_of;
+use tests_plain::model::chunk_size;
+use tests_plain::model::chunks;
+use tests_plain::model::count_of;
+use tests_plain::model::file_size;
+use tests_plain::model::files;
+use tests_plain::model::flag;
+use tests_plain::model::keyword_at;
+use tests_plain::model::keyword_size;
+use tests_plain::model::keywords;
+use tests_plain::records::alike;
+use tests_plain::records::stands;
+
+pub(crate) const ALL: usize = 24;
+
+// For each kind, how many witnesses there are to try, in units of 64.
+const WITNESSES: [u8; 24] = [
+    1,
+    1,
+    1,
+    57,
+    1,
+    1,
+    1,
+    1,
+    8,
+    128,
+    1,
+    1,
+    60,
+    60,
+    1,
+    1,
+    3,
+    3,
+    3,
+    3,
+    3,
+    112,
+    112,
+    112,
+];
+
+// ---- files and chunks
+
+fn is_empty_file(m: &[u8], f: usize) -> bool {
+    if f < files(m) {
+        return file_size(m, f) == 0;
+    }
+    false
+}
+
+// The chunk named at a place of a file, 100 where there is none.
+fn named(m: &[u8], f: usize, i: usize) -> usize {
+    if f < files(m) {
+        if i < file_size(m, f) {
+            return chunk_of(m, f, i);
+        }
+    }
+    100
+}
+
+// Two places name one chunk.
+fn is_repeated(m: &[u8], a: usize, b: usize) -> bool {
+    if a <= b {
+        return false;
+    }
+    let c = named(m, a / 10, a % 10);
+    if c == 100 {
+        return false;
+    }
+    named(m, b / 10, b % 10) == c
+}
+
+fn is_chunk_of(m: &[u8], c: usize, size: usize) -> bool {
+    if c < chunks(m) {
+        return chunk_size(m, c) == size;
+    }
+    false
+}
+
+// One of the bytes beside the letters is in a chunk.
+fn is_border(m: &[u8], c: usize, p: usize, fold: usize) -> bool {
+    if flag(m) != fold {
+        return false;
+    }
+    if chunks(m) <= c {
+        return false;
+    }
+    if chunk_size(m, c) <= p {
+        return false;
+    }
+    is_border_byte(get(m, plus(chunk_at(c), p)))
+}
+
+fn is_border_byte(b: u8) -> bool {
+    if b == 0x40 {
+        return true;
+    }
+    if b == 0x5B {
+        return true;
+    }
+    if b == 0x60 {
+        return true;
+    }
+    b == 0x7B
+}
+
+fn has_occurrences(m: &[u8], c: usize, k: usize, n: usize) -> bool {
+    if chunks(m) <= c {
+        return false;
+    }
+    if keywords(m) <= k {
+        return false;
+    }
+    if chunk_size(m, c) < n {
+        return false;
+    }
+    count_of(m, c, k, chunk_size(m, c)) == n
+}
+
+// ---- keywords
+
+fn is_keyword_of(m: &[u8], k: usize, size: usize) -> bool {
+    if k < keywords(m) {
+        return keyword_size(m, k) == size;
+    }
+    false
+}
+
+// A keyword's first j bytes are its last, and it is longer.
+fn is_overlap(m: &[u8], k: usize, j: usize) -> bool {
+    if keywords(m) <= k {
+        return false;
+    }
+    if j == 0 {
+        return false;
+    }
+    let n = keyword_size(m, k);
+    if n <= j {
+        return false;
+    }
+    let at = plus(keyword_at(k), 1);
+    alike(flag(m), m, at, m, plus(at, less(n, j)), j)
+}
+
+// Keyword j stands in keyword k.
+fn is_nested(m: &[u8], j: usize, k: usize, p: usize) -> bool {
+    if keywords(m) <= j {
+        return false;
+    }
+    if keywords(m) <= k {
+        return false;
+    }
+    if j == k {
+        return false;
+    }
+    stands(m, j, m, plus(keyword_at(k), 1), keyword_size(m, k), p)
+}
+
+// ---- the list
+
+// Row r and the one behind it have one file and one offset.
+fn is_tie(f: &[u8], r: usize) -> bool {
+    if case::count(f) <= plus(r, 1) {
+        return false;
+    }
+    same(f, row_at(r), f, row_at(plus(r, 1)), 8)
+}
+
+// Where the place of a file that has the byte at `offset` ends.
+fn end_behind(m: &[u8], file: usize, offset: usize) -> usize {
+    let n = file_size(m, file);
+    let mut end: usize = 0;
+    for i in 0..n {
+        if end <= offset {
+            end = plus(end, chunk_size(m, chunk_of(m, file, i)));
+        }
+    }
+    end
+}
+
+fn row_end(m: &[u8], f: &[u8], r: usize) -> usize {
+    end_behind(m, get_4(f, row_at(r)), get_4(f, plus(row_at(r), 4)))
+}
+
+fn row_keyword(f: &[u8], r: usize) -> usize {
+    num(f, plus(row_at(r), 8))
+}
+
+// Row r is an occurrence that ends behind the chunk in which it starts.
+fn is_crossing(m: &[u8], f: &[u8], r: usize) -> bool {
+    if case::count(f) <= r {
+        return false;
+    }
+    let start = get_4(f, plus(row_at(r), 4));
+    row_end(m, f, r) < plus(start, keyword_size(m, row_keyword(f, r)))
+}
+
+// Rows r and r + 2 are occurrences of one keyword inside a chunk, and the row between them is one of another that crosses its end.
+fn is_between(m: &[u8], f: &[u8], r: usize) -> bool {
+    if case::count(f) <= plus(r, 2) {
+        return false;
+    }
+    if !is_crossing(m, f, plus(r, 1)) {
+        return false;
+    }
+    if is_crossing(m, f, r) {
+        return false;
+    }
+    if is_crossing(m, f, plus(r, 2)) {
+        return false;
+    }
+    is_around(m, f, r)
+}
+
+// Rows r and r + 2 have one keyword, another than the row between, and start in the chunk in which that starts.
+fn is_around(m: &[u8], f: &[u8], r: usize) -> bool {
+    if row_keyword(f, r) != row_keyword(f, plus(r, 2)) {
+        return false;
+    }
+    if !same(f, row_at(r), f, row_at(plus(r, 2)), 4) {
+        return false;
+    }
+    if row_end(m, f, r) != row_end(m, f, plus(r, 1)) {
+        return false;
+    }
+    row_end(m, f, r) == row_end(m, f, plus(r, 2))
+}
+
+// ---- all of them
+
+fn of_files(m: &[u8], kind: usize, t: usize) -> bool {
+    if kind == 0 {
+        return chunks(m) == 0;
+    }
+    if kind == 1 {
+        return files(m) == 0;
+    }
+    if kind == 2 {
+        return is_empty_file(m, t);
+    }
+    is_repeated(m, t / 60, t % 60)
+}
+
+fn of_keywords(m: &[u8], kind: usize, t: usize) -> bool {
+    if kind == 4 {
+        return keywords(m) == 16;
+    }
+    if kind == 5 {
+        return is_keyword_of(m, t, 1);
+    }
+    if kind == 6 {
+        return is_keyword_of(m, t, 2);
+    }
+    if kind == 7 {
+        return is_keyword_of(m, t, 32);
+    }
+    if kind == 8 {
+        return is_overlap(m, t / 32, t % 32);
+    }
+    is_nested(m, t / 512, t / 32 % 16, t % 32)
+}
+
+fn of_chunks(m: &[u8], kind: usize, t: usize) -> bool {
+    if kind < 12 {
+        return flag(m) == less(kind, 10);
+    }
+    if kind < 14 {
+        return is_border(m, t / 320, t % 320, less(kind, 12));
+    }
+    if kind == 14 {
+        return is_chunk_of(m, t, 1);
+    }
+    if kind == 15 {
+        return is_chunk_of(m, t, 40);
+    }
+    has_occurrences(m, t / 16, t % 16, plus(253, less(kind, 16)))
+}
+
+fn of_rows(m: &[u8], f: &[u8], kind: usize, t: usize) -> bool {
+    if case::join_code(f) != 0 {
+        return false;
+    }
+    if kind == 21 {
+        return is_tie(f, t);
+    }
+    if kind == 22 {
+        return is_crossing(m, f, t);
+    }
+    is_between(m, f, t)
+}
+
+// Whether t is a witness that the case is of the kind.
+fn shows(m: &[u8], f: &[u8], kind: usize, t: usize) -> bool {
+    if kind < 4 {
+        return of_files(m, kind, t);
+    }
+    if kind < 10 {
+        return of_keywords(m, kind, t);
+    }
+    if kind < 21 {
+        return of_chunks(m, kind, t);
+    }
+    of_rows(m, f, kind, t)
+}
+
+fn witnesses(kind: usize) -> usize {
+    64 * (num(&WITNESSES, kind) % 256)
+}
+
+fn is_of(m: &[u8], f: &[u8], kind: usize) -> bool {
+    let n = witnesses(kind);
+    for t in 0..n {
+        if shows(m, f, kind, t) {
+            return true;
+        }
+    }
+    false
+}
+
+// Counts the kinds of a case.
+pub fn see(counts: &mut [u64], m: &[u8], f: &[u8]) {
+    let n = ALL;
+    for kind in 0..n {
+        saw(counts, plus(KINDS, kind), is_of(m, f, kind));
+    }
+}

@@ -1,0 +1,6 @@
+// What the tests count and print, and the comparison of what an operation answered with what was due.
+// Test support: proved safe and ending.
+pub mod due;
+pub mod kinds;
+pub mod report;
+pub mod tally;

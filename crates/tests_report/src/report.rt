@@ -1,0 +1,157 @@
+// Lines of the report.
+use crate::kinds;
+use crate::tally;
+use tests_plain::bytes::part;
+use tests_plain::bytes::plus;
+
+const OUT: i32 = 1;
+
+// A line: a name, a space, a number.
+fn line(name: &[u8], n: u64) {
+    io::write_all(OUT, name);
+    io::write_all(OUT, b" ");
+    io::print_decimal(OUT, n);
+    io::write_all(OUT, b"\n");
+}
+
+fn count_at(counts: &[u64], i: usize) -> u64 {
+    if i < counts.len() { counts[i] } else { 0 }
+}
+
+// Names of 40 bytes each, a line for each of the first n counters.
+fn lines(names: &[u8], counts: &[u64], from: usize, n: usize) {
+    for i in 0..n {
+        line(
+            part(names, 40 * (i % 64), 40),
+            count_at(counts, plus(from, i)),
+        );
+    }
+}
+
+// The number of cases since the last line, under a name.
+pub fn report_cases(name: &[u8], counts: &mut [u64]) {
+    if tally::CASES < counts.len() {
+        line(name, counts[tally::CASES]);
+        counts[tally::CASES] = 0;
+    }
+}
+
+// The kinds of the cases since the last such report.
+pub fn report_kinds(counts: &mut [u64]) {
+    kinds(counts);
+    tally::clear(counts, tally::KINDS, kinds::ALL);
+}
+
+// Names, 40 bytes each.
+const KIND_NAMES: [u8; 960] = *b"\
+    - without chunks                        \
+    - without files                         \
+    - with an empty file                    \
+    - with a chunk named twice              \
+    - with 16 keywords                      \
+    - with a keyword of 1 byte              \
+    - with a keyword of 2 bytes             \
+    - with a keyword of 32 bytes            \
+    - with a keyword that overlaps itself   \
+    - with a keyword inside another         \
+    - with fold flag 0                      \
+    - with fold flag 1                      \
+    - with flag 0 and a byte of @ [ ` {     \
+    - with flag 1 and a byte of @ [ ` {     \
+    - with a chunk of 1 byte                \
+    - with a chunk of 40 bytes              \
+    - with 253 occurrences in a chunk       \
+    - with 254 occurrences in a chunk       \
+    - with 255 occurrences in a chunk       \
+    - with 256 occurrences in a chunk       \
+    - with 257 occurrences in a chunk       \
+    - with a tie of keywords at an offset   \
+    - with an occurrence across a cut       \
+    - with one between own ones of another  ";
+
+const OPERATION_NAMES: [u8; 400] = *b"\
+    keyword checks                          \
+    store checks                            \
+    scan sizes                              \
+    scans                                   \
+    index checks                            \
+    counts                                  \
+    joins                                   \
+    chunk lookups                           \
+    body lookups                            \
+    searches                                ";
+
+const BUFFER_NAMES: [u8; 320] = *b"\
+    exact buffers, scan                     \
+    exact buffers, join                     \
+    exact buffers, list of a search         \
+    exact buffers, index of a search        \
+    a byte short, scan                      \
+    a byte short, join                      \
+    a byte short, list of a search          \
+    a byte short, index of a search         ";
+
+const TORN_NAMES: [u8; 200] = *b"\
+    - accepted                              \
+    - refused with 5                        \
+    - refused with 6                        \
+    - refused with 7                        \
+    - refused with 8                        ";
+
+const NUMBER_NAMES: [u8; 800] = *b"\
+    answered 0                              \
+    answered 1                              \
+    answered 2                              \
+    answered 3                              \
+    answered 4                              \
+    answered 5                              \
+    answered 6                              \
+    answered 7                              \
+    answered 8                              \
+    answered 9                              \
+    answered 10                             \
+    answered 11                             \
+    answered 12                             \
+    answered 13                             \
+    answered 14                             \
+    answered 15                             \
+    answered 16                             \
+    answered 17                             \
+    answered 18                             \
+    answered 19                             ";
+
+fn kinds(counts: &[u64]) {
+    lines(&KIND_NAMES, counts, tally::KINDS, kinds::ALL);
+}
+
+pub fn torn(counts: &[u64]) {
+    lines(&TORN_NAMES, counts, tally::TORN, 5);
+}
+
+const OUTPUT_NAMES: [u8; 160] = *b"\
+    - that list occurrences                 \
+    - that list none                        \
+    - that tell a refusal                   \
+    - that name a file as too long          ";
+
+const OUTPUT_BUFFER_NAMES: [u8; 120] = *b"\
+    outputs into longer buffers             \
+    outputs into exact buffers              \
+    outputs into buffers a byte short       ";
+
+// The outputs since the last such report.
+pub fn outputs(counts: &mut [u64]) {
+    lines(&OUTPUT_NAMES, counts, tally::OUTPUTS, 4);
+    tally::clear(counts, tally::OUTPUTS, 4);
+}
+
+pub fn output_buffers(counts: &[u64]) {
+    lines(&OUTPUT_BUFFER_NAMES, counts, tally::OUTPUT_BUFFERS, 3);
+}
+
+pub fn totals(counts: &[u64]) {
+    lines(&BUFFER_NAMES, counts, tally::BUFFERS, 8);
+    lines(&OPERATION_NAMES, counts, tally::OPERATIONS, 10);
+    lines(&NUMBER_NAMES, counts, 0, 20);
+    line(b"not as expected", count_at(counts, tally::DIFFERENCES));
+}

@@ -1,0 +1,95 @@
+// What was counted: calls of the library by operation and by the number that was answered, cases by kind. A call counts at the place where
+// its answer is compared with what is expected.
+use tests_plain::bytes::less;
+use tests_plain::bytes::plus;
+
+pub fn torn_place(code: u8) -> usize {
+    plus(TORN, less(code as usize, 4))
+}
+
+// Places of the counters: numbers 0 to 19, operations, differences, cases since the last line, kinds of cases, kinds of buffers.
+pub(crate) const OPERATIONS: usize = 20;
+
+pub(crate) const DIFFERENCES: usize = 30;
+
+pub const CASES: usize = 31;
+
+pub(crate) const KINDS: usize = 32;
+
+pub(crate) const BUFFERS: usize = 64;
+
+// Torn stores that gave 0, 5, 6, 7, 8.
+pub(crate) const TORN: usize = 72;
+
+// Outputs of the search program: those that list occurrences, list none, tell a refusal, name a file; then by their buffers: long, exact, a
+// byte short.
+pub const OUTPUTS: usize = 80;
+
+pub const OUTPUT_BUFFERS: usize = 84;
+
+// Room for the counters.
+pub const ALL: usize = 96;
+
+// The operations.
+pub const KEYWORD_CHECK: usize = 0;
+
+pub const STORE_CHECK: usize = 1;
+
+pub const SIZE: usize = 2;
+
+pub const SCAN: usize = 3;
+
+pub const INDEX_CHECK: usize = 4;
+
+pub const COUNT: usize = 5;
+
+pub const JOIN: usize = 6;
+
+pub const CHUNK_LOOKUP: usize = 7;
+
+pub const BODY_LOOKUP: usize = 8;
+
+pub const SEARCH: usize = 9;
+
+pub fn bump(counts: &mut [u64], i: usize) {
+    if i < counts.len() {
+        counts[i] = std::num::wrapping_add_u64(counts[i], 1);
+    }
+}
+
+// Counts at place i, if `seen`.
+pub fn saw(counts: &mut [u64], i: usize, seen: bool) {
+    if seen {
+        bump(counts, i);
+    }
+}
+
+fn answer(got: u8, expected: u8, rest: bool) -> usize {
+    if got != expected {
+        return DIFFERENCES;
+    }
+    if rest {
+        return got as usize;
+    }
+    DIFFERENCES
+}
+
+// A call of an operation: `got` is the number that it answered, `expected` the one that is due, and `rest` says whether its value and its
+// bytes are the ones due.
+pub fn compared(counts: &mut [u64], operation: usize, got: u8, expected: u8, rest: bool) {
+    bump(counts, OPERATIONS + operation % 10);
+    bump(counts, answer(got, expected, rest));
+}
+
+// Sets n counters to 0.
+pub(crate) fn clear(counts: &mut [u64], from: usize, n: usize) {
+    for i in 0..n {
+        clear_at(counts, plus(from, i));
+    }
+}
+
+fn clear_at(counts: &mut [u64], i: usize) {
+    if i < counts.len() {
+        counts[i] = 0;
+    }
+}

@@ -1,0 +1,4 @@
+// The library's operations run on a case and compared with what was due.
+// Test support: proved safe and ending.
+pub mod lookups;
+pub mod runs;

@@ -1,0 +1,218 @@
+// Runs of the library's operations on a case, each compared with what the plain computations expect: the number, the value, every byte of
+// the buffer. Buffers are filled with a pattern first; long ones, exact ones and ones a byte short are tried.
+use spec::Outcome;
+use spec::Searched;
+use tests_plain::bytes::fill;
+use tests_plain::bytes::less;
+use tests_plain::bytes::plus;
+use tests_plain::case;
+use tests_plain::case::check_code;
+use tests_plain::case::is_run;
+use tests_report::due::PATTERN;
+use tests_report::due::SEARCH_INDEX;
+use tests_report::due::as_due;
+use tests_report::due::due_length;
+use tests_report::due::early_code;
+use tests_report::due::fill_both;
+use tests_report::due::late;
+use tests_report::due::saw_buffer;
+use tests_report::due::saw_search;
+use tests_report::due::scan_late;
+use tests_report::due::search_late;
+use tests_report::due::value_as_due;
+use tests_report::tally;
+use tests_report::tally::compared;
+
+pub fn code_of(o: Outcome) -> u8 {
+    match o {
+        Outcome::Done(_) => 0,
+        Outcome::Refused(code) => code,
+    }
+}
+
+fn value_of(o: Outcome) -> usize {
+    match o {
+        Outcome::Done(n) => n,
+        Outcome::Refused(_) => 0,
+    }
+}
+
+// ---- checks and sizes
+
+pub fn checks(counts: &mut [u64], f: &[u8]) {
+    let list = keywords::check(case::list(f));
+    compared(counts, tally::KEYWORD_CHECK, list, check_code(f, 0), true);
+    let store = store::check(case::store(f));
+    compared(counts, tally::STORE_CHECK, store, check_code(f, 1), true);
+    let index = index::check(case::index(f));
+    compared(counts, tally::INDEX_CHECK, index, check_code(f, 2), true);
+}
+
+fn size_run(counts: &mut [u64], f: &[u8]) {
+    let c = case::scan_code(f);
+    if is_run(f, c) {
+        let o = scan::size(case::list(f), case::store(f));
+        let ok = value_as_due(value_of(o), c, case::length_of(f, 2));
+        compared(counts, tally::SIZE, code_of(o), c, ok);
+    }
+}
+
+fn count_run(counts: &mut [u64], f: &[u8]) {
+    let c = case::join_code(f);
+    if is_run(f, c) {
+        let o = join::count(case::index(f), case::recipes(f));
+        let ok = value_as_due(value_of(o), c, case::count(f));
+        compared(counts, tally::COUNT, code_of(o), c, ok);
+    }
+}
+
+fn scan_into(counts: &mut [u64], f: &[u8], buffer: &mut [u8]) {
+    let due = case::index(f);
+    fill(buffer, PATTERN);
+    let c = scan_late(f, buffer.len());
+    let o = scan::scan(case::list(f), case::store(f), buffer);
+    let ok = as_due(value_of(o), c, due.len(), buffer, due);
+    compared(counts, tally::SCAN, code_of(o), c, ok);
+    saw_buffer(counts, 0, c, due.len(), buffer.len());
+}
+
+fn join_into(counts: &mut [u64], f: &[u8], buffer: &mut [u8]) {
+    let due = case::rows(f);
+    fill(buffer, PATTERN);
+    let c = late(case::join_code(f), due.len(), buffer.len(), 18);
+    let o = join::join(case::index(f), case::recipes(f), buffer);
+    let ok = as_due(value_of(o), c, case::count(f), buffer, due);
+    compared(counts, tally::JOIN, code_of(o), c, ok);
+    saw_buffer(counts, 1, c, due.len(), buffer.len());
+}
+
+// ---- the search whole
+
+fn searched_code(s: Searched) -> u8 {
+    match s {
+        Searched::ScanRefused(code) => code,
+        Searched::JoinRefused(_, code) => code,
+        Searched::Found(_, _) => 0,
+    }
+}
+
+fn searched_index(s: Searched) -> usize {
+    match s {
+        Searched::ScanRefused(_) => 0,
+        Searched::JoinRefused(n, _) => n,
+        Searched::Found(n, _) => n,
+    }
+}
+
+fn searched_count(s: Searched) -> usize {
+    match s {
+        Searched::ScanRefused(_) => 0,
+        Searched::JoinRefused(_, _) => 0,
+        Searched::Found(_, count) => count,
+    }
+}
+
+// A search's index and list, where its scan must answer `scan` and it itself `code`.
+fn both_as_due(s: Searched, scan: u8, code: u8, f: &[u8], index: &[u8], buffer: &[u8]) -> bool {
+    let due = case::index(f);
+    if as_due(searched_index(s), scan, due.len(), index, due) {
+        return as_due(
+            searched_count(s),
+            code,
+            case::count(f),
+            buffer,
+            case::rows(f),
+        );
+    }
+    false
+}
+
+// One search, where its scan must answer `scan` and it itself `code`.
+fn search_as(
+    counts: &mut [u64],
+    f: &[u8],
+    index: &mut [u8],
+    buffer: &mut [u8],
+    scan: u8,
+    code: u8,
+) {
+    let s = search::search(
+        case::list(f),
+        case::store(f),
+        case::recipes(f),
+        index,
+        buffer,
+    );
+    let ok = both_as_due(s, scan, code, f, index, buffer);
+    compared(counts, tally::SEARCH, searched_code(s), code, ok);
+}
+
+fn search_into(counts: &mut [u64], f: &[u8], index: &mut [u8], buffer: &mut [u8]) {
+    fill_both(index, buffer);
+    let scan = scan_late(f, index.len());
+    let c = search_late(scan, f, buffer.len());
+    search_as(counts, f, index, buffer, scan, c);
+    saw_search(counts, f, scan, c, index.len(), buffer.len());
+}
+
+// A search whose list goes to the buffer that is tried.
+fn search_list(counts: &mut [u64], f: &[u8], buffer: &mut [u8]) {
+    let mut index = [0u8; 6000];
+    search_into(counts, f, &mut index, buffer);
+}
+
+// A search whose index goes to the buffer that is tried; a list that is longer than the other one is refused.
+fn search_index(counts: &mut [u64], f: &[u8], buffer: &mut [u8]) {
+    let mut list = [0u8; 6000];
+    search_into(counts, f, buffer, &mut list);
+}
+
+fn run_into(counts: &mut [u64], operation: usize, f: &[u8], buffer: &mut [u8]) {
+    if operation == tally::SCAN {
+        return scan_into(counts, f, buffer);
+    }
+    if operation == tally::JOIN {
+        return join_into(counts, f, buffer);
+    }
+    if operation == tally::SEARCH {
+        return search_list(counts, f, buffer);
+    }
+    search_index(counts, f, buffer);
+}
+
+// Into the first `room` bytes of the buffer.
+fn run_front(counts: &mut [u64], operation: usize, f: &[u8], buffer: &mut [u8], room: usize) {
+    if room <= buffer.len() {
+        run_into(counts, operation, f, &mut buffer[..room]);
+    }
+}
+
+// Into a long buffer, an exact one, and one a byte short.
+fn run_rooms(counts: &mut [u64], operation: usize, f: &[u8], buffer: &mut [u8], n: usize) {
+    run_front(counts, operation, f, buffer, plus(n, 40));
+    run_front(counts, operation, f, buffer, n);
+    run_front(counts, operation, f, buffer, less(n, 1));
+}
+
+fn run(counts: &mut [u64], operation: usize, f: &[u8], buffer: &mut [u8]) {
+    if is_run(f, early_code(f, operation)) {
+        run_rooms(counts, operation, f, buffer, due_length(f, operation));
+    }
+}
+
+// The join of a case, and its count.
+pub fn join_runs(counts: &mut [u64], f: &[u8], buffer: &mut [u8]) {
+    count_run(counts, f);
+    run(counts, tally::JOIN, f, buffer);
+}
+
+// The scan of a case, and its size.
+pub fn scan_runs(counts: &mut [u64], f: &[u8], buffer: &mut [u8]) {
+    size_run(counts, f);
+    run(counts, tally::SCAN, f, buffer);
+}
+
+pub fn search_runs(counts: &mut [u64], f: &[u8], buffer: &mut [u8]) {
+    run(counts, tally::SEARCH, f, buffer);
+    run(counts, SEARCH_INDEX, f, buffer);
+}

@@ -1,0 +1,175 @@
+// Damaged inputs: the small vault of document 01 with one or two faults, and the number that each must give. A fault is a row of nine
+// numbers: the input (0 keyword list, 1 store, 2 index, 3 recipes); two bytes to store, each as place and value (place 255: none); the place
+// to which the first chunk's fingerprint goes (255: none); the input's length behind; the number; and where its test stands in the order of
+// the input's tests, so that of two faults of an input the one that is tested first counts.
+use crate::encode::put_key;
+use tests_plain::bytes::least;
+use tests_plain::bytes::put;
+use tests_plain::case::place_of;
+use tests_plain::case::put_length;
+
+const ALL: usize = 60;
+
+const INPUT: usize = 0;
+
+const KEY: usize = 5;
+
+const LENGTH: usize = 6;
+
+const CODE: usize = 7;
+
+const RANK: usize = 8;
+
+const FAULTS: [[u8; 9]; 60] = [
+    // Keyword list: 9 bytes.
+    [0, 255, 0, 255, 0, 255, 1, 1, 0],
+    [0, 255, 0, 255, 0, 255, 0, 1, 0],
+    [0, 0, 0, 255, 0, 255, 9, 2, 1],
+    [0, 0, 17, 255, 0, 255, 9, 2, 1],
+    [0, 1, 2, 255, 0, 255, 9, 2, 1],
+    [0, 255, 0, 255, 0, 255, 2, 1, 2],
+    [0, 2, 0, 255, 0, 255, 9, 3, 3],
+    [0, 2, 33, 255, 0, 255, 9, 3, 3],
+    [0, 6, 0, 255, 0, 255, 9, 3, 4],
+    [0, 255, 0, 255, 0, 255, 8, 1, 5],
+    [0, 255, 0, 255, 0, 255, 10, 1, 6],
+    // A length that makes the rest of the list another one.
+    [0, 2, 2, 255, 0, 255, 9, 3, 4],
+    // Store: 100 bytes.
+    [1, 255, 0, 255, 0, 255, 7, 5, 0],
+    [1, 0, 69, 255, 0, 255, 100, 5, 0],
+    [1, 3, 11, 255, 0, 255, 100, 5, 0],
+    [1, 4, 233, 5, 253, 255, 100, 6, 1],
+    [1, 7, 64, 255, 0, 255, 100, 6, 1],
+    [1, 255, 0, 255, 0, 255, 91, 6, 1],
+    [1, 32, 0, 255, 0, 255, 100, 7, 2],
+    [1, 28, 93, 255, 0, 255, 100, 7, 2],
+    [1, 34, 1, 255, 0, 255, 100, 7, 2],
+    [1, 60, 5, 255, 0, 255, 100, 7, 3],
+    [1, 255, 0, 255, 0, 255, 101, 7, 4],
+    [1, 255, 0, 255, 0, 255, 99, 7, 4],
+    // A fingerprint twice: of neighbours, and of the first and the last entry.
+    [1, 255, 0, 255, 0, 36, 100, 8, 5],
+    [1, 255, 0, 255, 0, 64, 100, 8, 5],
+    // Index: 136 bytes.
+    [2, 255, 0, 255, 0, 255, 7, 10, 0],
+    [2, 1, 86, 255, 0, 255, 136, 10, 0],
+    [2, 4, 233, 5, 253, 255, 136, 10, 0],
+    [2, 255, 0, 255, 0, 255, 9, 1, 1],
+    [2, 255, 0, 255, 0, 255, 8, 1, 1],
+    [2, 8, 0, 255, 0, 255, 136, 2, 2],
+    [2, 10, 33, 255, 0, 255, 136, 3, 3],
+    [2, 255, 0, 255, 0, 255, 112, 11, 4],
+    [2, 37, 0, 255, 0, 255, 136, 11, 5],
+    [2, 39, 1, 255, 0, 255, 136, 11, 5],
+    [2, 41, 114, 255, 0, 255, 136, 11, 5],
+    [2, 45, 8, 255, 0, 255, 136, 11, 6],
+    [2, 255, 0, 255, 0, 255, 137, 11, 7],
+    [2, 255, 0, 255, 0, 255, 135, 11, 7],
+    [2, 255, 0, 255, 0, 49, 136, 12, 8],
+    [2, 255, 0, 255, 0, 81, 136, 12, 8],
+    // Bodies: a tiny record where a full one is due, a count that lies, a prefix out of reach, a first offset where there is none.
+    [2, 114, 0, 255, 0, 255, 136, 13, 9],
+    [2, 117, 2, 255, 0, 255, 136, 13, 9],
+    [2, 115, 3, 255, 0, 255, 136, 13, 9],
+    [2, 118, 1, 255, 0, 255, 136, 13, 9],
+    // Kind 2 with one offset, kind 1 with two, an offset past the end, a keyword twice, tiny bytes out of range.
+    [2, 121, 2, 255, 0, 255, 136, 13, 9],
+    [2, 124, 2, 255, 0, 255, 136, 13, 9],
+    [2, 125, 2, 255, 0, 255, 136, 13, 9],
+    [2, 127, 0, 255, 0, 255, 136, 13, 9],
+    [2, 127, 2, 255, 0, 255, 136, 13, 9],
+    [2, 132, 4, 255, 0, 255, 136, 13, 9],
+    [2, 132, 0, 255, 0, 255, 136, 13, 9],
+    // Recipes: 96 bytes.
+    [3, 255, 0, 255, 0, 255, 3, 14, 0],
+    [3, 2, 1, 255, 0, 255, 96, 14, 1],
+    [3, 7, 64, 255, 0, 255, 96, 14, 2],
+    [3, 255, 0, 255, 0, 255, 95, 14, 2],
+    [3, 255, 0, 255, 0, 255, 97, 14, 3],
+    [3, 8, 9, 255, 0, 255, 96, 15, 4],
+    [3, 91, 9, 255, 0, 255, 96, 15, 5],
+];
+
+fn wide(b: u8) -> usize {
+    b as usize
+}
+
+// Number j of fault i.
+fn fault(i: usize, j: usize) -> usize {
+    if ALL <= i {
+        return 0;
+    }
+    if 9 <= j {
+        return 0;
+    }
+    wide(FAULTS[i][j])
+}
+
+// Stores a byte of an input, if the place is one.
+fn put_at(f: &mut [u8], input: usize, place: usize, value: usize) {
+    if place < 255 {
+        put(f, place_of(input, place), (value % 256) as u8);
+    }
+}
+
+fn put_key_at(f: &mut [u8], input: usize, place: usize) {
+    if place < 255 {
+        put_key(f, place_of(input, place), 0);
+    }
+}
+
+// Stores fault i's bytes.
+pub(crate) fn damage(f: &mut [u8], i: usize) {
+    let input = fault(i, INPUT);
+    put_at(f, input, fault(i, 1), fault(i, 2));
+    put_at(f, input, fault(i, 3), fault(i, 4));
+    put_key_at(f, input, fault(i, KEY));
+}
+
+// The length of an input of `whole` bytes behind fault i.
+fn cut(input: usize, whole: usize, i: usize) -> usize {
+    if fault(i, INPUT) == input {
+        return fault(i, LENGTH);
+    }
+    whole
+}
+
+fn shorter(whole: usize, a: usize, b: usize) -> usize {
+    if a == whole {
+        return b;
+    }
+    if b == whole { a } else { least(a, b) }
+}
+
+// The number that an input with fault i gives, and 0 where the fault is another input's.
+fn code_of(input: usize, i: usize) -> u8 {
+    if fault(i, INPUT) == input {
+        return (fault(i, CODE) % 256) as u8;
+    }
+    0
+}
+
+// The number that an input with faults i and j gives.
+fn first_code(input: usize, i: usize, j: usize) -> u8 {
+    let a = code_of(input, i);
+    let b = code_of(input, j);
+    if a == 0 {
+        return b;
+    }
+    if b == 0 {
+        return a;
+    }
+    if fault(j, RANK) < fault(i, RANK) {
+        b
+    } else {
+        a
+    }
+}
+
+// Length and number of an input of `whole` bytes with faults i and j.
+pub(crate) fn settle(f: &mut [u8], input: usize, whole: usize, i: usize, j: usize) {
+    let n = shorter(whole, cut(input, whole, i), cut(input, whole, j));
+    put_length(f, input, place_of(input, n));
+    put(f, input % 4, first_code(input, i, j));
+}

@@ -1,0 +1,86 @@
+// Models made into cases: with plain records, with made-up ones, with a torn store, with a pair of faults.
+use crate::encode::encode;
+use crate::encode::put_key;
+use crate::faults::damage;
+use crate::faults::settle;
+use crate::make::invent;
+use tests_plain::bytes::next;
+use tests_plain::bytes::pick;
+use tests_plain::bytes::plus;
+use tests_plain::bytes::put;
+use tests_plain::bytes::put_4;
+use tests_plain::case;
+use tests_plain::case::ONLY_REFUSALS;
+use tests_plain::codes::store_code;
+use tests_plain::lists::join_files;
+use tests_plain::lists::search_files;
+use tests_plain::records::note_all;
+
+// The end of a case's making: its row count, and that all is to be run.
+fn put_count(f: &mut [u8], n: usize) {
+    put_4(f, case::COUNT_AT, n);
+    put(f, case::ONLY_REFUSALS, 0);
+}
+
+// The case of a model with its plain records; the direct search of the restored files gives the list. `buffer` takes them.
+pub fn put_scanned(f: &mut [u8], m: &mut [u8], buffer: &mut [u8]) {
+    note_all(m);
+    encode(f, m);
+    let n = search_files(m, buffer, f);
+    put_count(f, n);
+}
+
+// ---- made-up records
+
+pub fn put_invented(f: &mut [u8], m: &mut [u8], n: usize) {
+    invent(m, (n % 1000000) as u64 + 77);
+    encode(f, m);
+    let rows = join_files(m, f);
+    put_count(f, rows);
+}
+
+// ---- torn stores
+
+// A length or an offset, a fingerprint, the mark or the count, the length of the whole: one is changed.
+fn tear(f: &mut [u8], way: usize, a: u64, b: u64) {
+    let size = case::length_of(f, 1);
+    if way == 0 {
+        return case::put_length(f, 1, case::place_of(1, pick(a, plus(size, 2))));
+    }
+    if way == 1 {
+        return put(f, case::place_of(1, pick(a, 8)), (pick(b, 4) % 256) as u8);
+    }
+    if way == 2 {
+        return put_key(f, case::store_entry(pick(a, 8)), pick(b, 9));
+    }
+    put(
+        f,
+        plus(case::store_entry(pick(a, 8)), plus(20, pick(b, 8))),
+        (pick(next(b), 41) % 256) as u8,
+    )
+}
+
+pub fn put_torn(f: &mut [u8], seed: u64) {
+    let a = next(seed);
+    tear(f, pick(seed, 4), a, next(a));
+    let code = store_code(case::store(f));
+    put(f, 1, code);
+    put(f, case::ONLY_REFUSALS, 1);
+}
+
+// ---- a pair of faults
+
+// Faults i and j in the small vault; what fault i stores stays.
+pub fn put_damaged(f: &mut [u8], m: &[u8], i: usize, j: usize) {
+    encode(f, m);
+    damage(f, j);
+    damage(f, i);
+    put(f, ONLY_REFUSALS, 1);
+}
+
+pub fn settle_all(f: &mut [u8], i: usize, j: usize) {
+    settle(f, 0, 9, i, j);
+    settle(f, 1, 100, i, j);
+    settle(f, 2, 136, i, j);
+    settle(f, 3, 96, i, j);
+}

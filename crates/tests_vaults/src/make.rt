@@ -1,0 +1,239 @@
+// A vault's model, filled from a seed.
+use tests_plain::bytes::get;
+use tests_plain::bytes::least;
+use tests_plain::bytes::less;
+use tests_plain::bytes::next;
+use tests_plain::bytes::pick;
+use tests_plain::bytes::plus;
+use tests_plain::bytes::put;
+use tests_plain::bytes::put_2;
+use tests_plain::model::chunk_at;
+use tests_plain::model::chunk_size;
+use tests_plain::model::chunks;
+use tests_plain::model::file_at;
+use tests_plain::model::files;
+use tests_plain::model::keyword_at;
+use tests_plain::model::keyword_size;
+use tests_plain::model::keywords;
+use tests_plain::model::mark_at;
+use tests_plain::model::partial_at;
+use tests_plain::model::size_at;
+
+// ---- from a seed
+
+// The n-th letter of an alphabet: two letters; one letter; the bytes at the fold's borders; four letters.
+fn letter(alphabet: usize, n: usize) -> u8 {
+    if alphabet == 0 {
+        return get(b"AB", n % 2);
+    }
+    if alphabet == 1 {
+        return get(b"A", 0);
+    }
+    if alphabet == 2 {
+        return get(b"@AZ[`az{", n % 8);
+    }
+    get(b"aABb", n % 4)
+}
+
+// Fills n bytes with letters.
+fn spell(m: &mut [u8], at: usize, n: usize, alphabet: usize, seed: u64) -> u64 {
+    let mut s = seed;
+    for i in 0..n {
+        s = next(s);
+        put(m, plus(at, i), letter(alphabet, pick(s, 64)));
+    }
+    s
+}
+
+// A keyword's length: 1 to 4; in some vaults 2 only, 31 or 32, 3 to 5, or its number and one.
+fn keyword_length(kind: usize, k: usize, seed: u64) -> usize {
+    if kind % 6 == 1 {
+        return k % 16 + 1;
+    }
+    if kind == 3 {
+        return less(32, pick(seed, 2));
+    }
+    if kind == 4 {
+        return k % 3 + 3;
+    }
+    if kind == 5 {
+        return 2;
+    }
+    plus(pick(seed, 4), 1)
+}
+
+fn make_keywords(m: &mut [u8], n: usize, kind: usize, alphabet: usize, seed: u64) -> u64 {
+    let mut s = seed;
+    for k in 0..n {
+        s = next(s);
+        let size = keyword_length(kind, k, s);
+        put(m, keyword_at(k), (size % 256) as u8);
+        s = spell(m, plus(keyword_at(k), 1), size, alphabet, s);
+    }
+    s
+}
+
+// A chunk's length: 1 to 40; in some vaults 1 to 3, or one long chunk of 253 to 257 bytes.
+fn chunk_length(kind: usize, c: usize, seed: u64) -> usize {
+    if kind == 5 {
+        return plus(pick(seed, 3), 1);
+    }
+    if kind == 7 {
+        if c == 0 {
+            return plus(253, pick(seed, 5));
+        }
+    }
+    plus(pick(seed, 40), 1)
+}
+
+fn make_chunks(m: &mut [u8], n: usize, kind: usize, alphabet: usize, seed: u64) -> u64 {
+    let mut s = seed;
+    for c in 0..n {
+        s = next(s);
+        let size = chunk_length(kind, c, s);
+        put_2(m, size_at(c), size);
+        s = spell(m, chunk_at(c), size, alphabet, s);
+    }
+    s
+}
+
+// The chunk numbers of a file.
+fn make_file(m: &mut [u8], f: usize, n: usize, chunks: usize, seed: u64) -> u64 {
+    put(m, file_at(f), (n % 256) as u8);
+    let mut s = seed;
+    for i in 0..n {
+        s = next(s);
+        put(
+            m,
+            plus(file_at(f), plus(i, 1)),
+            (pick(s, chunks) % 256) as u8,
+        );
+    }
+    s
+}
+
+// Files of less than `most` chunks, some of them empty.
+fn make_files(m: &mut [u8], n: usize, most: usize, chunks: usize, seed: u64) -> u64 {
+    let mut s = seed;
+    for f in 0..n {
+        s = next(s);
+        s = make_file(m, f, pick(s, most), chunks, s);
+    }
+    s
+}
+
+// A file has at most 9 chunks, at most 3 where one is long, and none where there is none to name.
+fn most_of(kind: usize, chunks: usize) -> usize {
+    if chunks == 0 {
+        return 1;
+    }
+    if kind == 7 { 4 } else { 10 }
+}
+
+// How many chunks the files name: in some vaults one more than the store has.
+fn named(n: usize, chunks: usize) -> usize {
+    if n % 13 == 5 {
+        return plus(chunks, 1);
+    }
+    chunks
+}
+
+fn alphabet_of(kind: usize, seed: u64) -> usize {
+    if kind % 6 == 1 {
+        return 1;
+    }
+    if kind == 2 {
+        return 2;
+    }
+    if kind == 4 {
+        return 3;
+    }
+    3 * (pick(seed, 2) % 2)
+}
+
+// The four counts; the seed behind.
+fn make_counts(m: &mut [u8], kind: usize, seed: u64) -> u64 {
+    let a = next(seed);
+    let b = next(a);
+    let c = next(b);
+    let d = next(c);
+    let n = if kind == 4 { 16 } else { plus(pick(a, 4), 1) };
+    put(m, 0, (n % 256) as u8);
+    put(m, 1, (pick(b, 2) % 256) as u8);
+    put(m, 2, (pick(c, 9) % 256) as u8);
+    put(m, 3, (pick(d, 6) % 256) as u8);
+    d
+}
+
+// Vault number n, of one of eight kinds: counts, keywords, chunks, files.
+pub fn make(m: &mut [u8], n: usize) {
+    let kind = n % 8;
+    let a = make_counts(m, kind, next(next((n % 1000000) as u64 + 1)));
+    let alphabet = alphabet_of(kind, next(a));
+    let b = make_keywords(m, keywords(m), kind, alphabet, a);
+    let c = make_chunks(m, chunks(m), kind, alphabet, b);
+    make_files(
+        m,
+        files(m),
+        most_of(kind, chunks(m)),
+        named(n, chunks(m)),
+        c,
+    );
+}
+
+// ---- made-up records
+
+// 1 for an offset at which a keyword of length n fits, in `often` of 4 cases, always where `often` is 4.
+fn fits_often(p: usize, n: usize, size: usize, often: usize, seed: u64) -> u8 {
+    if size < plus(p, n) {
+        return 0;
+    }
+    (pick(seed, 4) < often) as u8
+}
+
+fn invent_marks(
+    m: &mut [u8],
+    c: usize,
+    k: usize,
+    n: usize,
+    size: usize,
+    often: usize,
+    seed: u64,
+) -> u64 {
+    let mut s = seed;
+    for p in 0..size {
+        s = next(s);
+        put(m, mark_at(c, k, p), fits_often(p, n, size, often, s));
+    }
+    s
+}
+
+// A record in range: no chunk need give it.
+fn invent_record(m: &mut [u8], c: usize, k: usize, seed: u64) -> u64 {
+    let n = keyword_size(m, k);
+    let size = chunk_size(m, c);
+    let a = next(seed);
+    let b = next(a);
+    let reach = plus(least(less(n, 1), size), 1);
+    put(m, partial_at(c, k), (pick(a, reach) % 256) as u8);
+    put(m, plus(partial_at(c, k), 1), (pick(b, reach) % 256) as u8);
+    invent_marks(m, c, k, n, size, pick(next(b), 5), b)
+}
+
+fn invent_chunk(m: &mut [u8], c: usize, n: usize, seed: u64) -> u64 {
+    let mut s = seed;
+    for k in 0..n {
+        s = invent_record(m, c, k, s);
+    }
+    s
+}
+
+// Records for every chunk and keyword.
+pub(crate) fn invent(m: &mut [u8], seed: u64) {
+    let n = chunks(m);
+    let words = keywords(m);
+    let mut s = seed;
+    for c in 0..n {
+        s = invent_chunk(m, c, words, s);
+    }
+}

@@ -1,0 +1,233 @@
+-- Demands 1, 2 and 3. Demand 1 goes by the two cases of an answer; demand 2 gathers what is proved of records and index files; demand 3 is
+-- `scan-and-join` said of two calls, with "stands at" byte by byte. Assumes nothing.
+use mathlib.Core.Path.{_≡_, refl, sym, ap, ap₂, _∙_}
+use mathlib.Core.Logic.{_↔_, _≢_, _⊎_, inl, inr}
+use mathlib.Core.Bool.{Bool, true, false, _&&_, cond}
+use mathlib.Core.List.{List, [], _∷_, map}
+use Prim.Native.Nat.{ℕ, zero, suc, _+_, _≤_, _<_}
+use native.Mathlib.Omega.{arith}
+use lib.Dec.{eqb, ltb}
+use lib.ListN.{length, take, getD, length-map}
+use borrow.Author.Tests.{ltb-true, lt-ltb, ne-eqb}
+use Rattle.spec.specs.declared.Outcome.{Outcome}
+use Rattle.spec.specs.declared.Outcome.the-variants.{Done, Refused}
+use Rattle.spec.specs.declared.Searched.the-variants.{ScanRefused, JoinRefused, Found}
+use Rattle.spec.specs.Bytes.{part, written, occursAt}
+use Rattle.spec.specs.Outcome.{firstOf, whole, codeOf, valueOf, answer, unlessRefused}
+use Rattle.spec.specs.Keywords.{flagOf, folded, keywordsOf, foldedKeywords, keywordCode}
+use Rattle.spec.specs.Directory.{Layout, offsetAt, lengthAt}
+use Rattle.spec.specs.Store.{storeLayout, storeKeys, storeCode}
+use Rattle.spec.specs.Records.{form1}
+use Rattle.spec.specs.Recipes.{filesOf}
+use Rattle.spec.specs.Index.{indexLayout, indexKeys, indexCode}
+use Rattle.spec.specs.Join.{Occurrence, keywordAt, joinList, listBytes, readList, joinCode, joinOutcome, joinBuffer}
+use Rattle.spec.specs.Lookup.{lookupCode, lookupStart, lookupLength, findChunk, chunkStart, chunkLength, chunkOf, findBody, bodyStart, bodyLength, bodyOf}
+use Rattle.spec.specs.Scan.{scanIndex, scanCode, scanOutcome, scanBuffer}
+use Rattle.spec.specs.Search.{restored, directSearch, searchJoinCode, searchCode, searchOutcome, searchBuffer, searchedCode}
+use Rattle.spec.proofs.Codes.{answer-done, answer-refused, buffer-done, buffer-refused}
+use Rattle.spec.proofs.Tests.{and-left, and-right}
+use Rattle.spec.proofs.Folding.{folded-length}
+use Rattle.spec.proofs.JoinIsSearch.{getD-map}
+use Rattle.spec.proofs.ScanLaws.{form1-scans}
+use Rattle.theory.specs.SearchList.{isIn, inOrder, occursIn}
+use Rattle.theory.specs.RecordSets.{Says, scannedRecords}
+use Rattle.theory.specs.Demand3.{restoredFiles, scanned}
+use Rattle.theory.specs.Demands.{Answered, SearchAnswered, LookupAnswered, Demand1, Demand2, StandsAt, StandsIn, Calls, Claim, Demand3}
+use Rattle.theory.proofs.Demand3.{code-of-answer, value-of-answer, scan-done, scanned-is, scan-and-join}
+use Rattle.theory.proofs.SearchList.{order-once}
+use Rattle.theory.proofs.IndexTheorems.{scan-says}
+use Rattle.theory.proofs.WrittenBytes.{written-once}
+use Rattle.theory.proofs.Demand2.{scan-published, keyword-bytes}
+use Rattle.theory.proofs.OccursText.{occurs-text}
+use Rattle.theory.proofs.Numbers.{numbers}
+
+-- ---- demand 1
+
+answered : (code value : ℕ) (worked buffer : List ℕ) → Answered code value worked buffer (answer code value) (unlessRefused code worked buffer)
+answered code value worked buffer =
+    record {
+      done = λ e. (sym (answer-done code value e), sym (buffer-done code worked buffer e));
+      refused = λ d. (sym (answer-refused code value d), sym (buffer-refused code worked buffer d));
+    }
+
+not-zero : (n : ℕ) → suc n ≢ 0
+not-zero n z = let y : ⊥ = omega arith in absurd y
+
+by-cases : (s j size count : ℕ)
+    → searchedCode (cond (eqb s 0) (cond (eqb j 0) (Found size count) (JoinRefused size j)) (ScanRefused s)) ≡ firstOf (whole s ∷ whole j ∷ [])
+by-cases zero zero size count = refl
+by-cases zero (suc j) size count = rw (ne-eqb (suc j) 0 (not-zero j), lt-ltb 0 (suc j) (omega arith))
+by-cases (suc s) j size count = rw (ne-eqb (suc s) 0 (not-zero s), lt-ltb 0 (suc s) (omega arith))
+
+-- the number of a search is the scan's, or where that is 0 the join's
+pub searched-code : (list store recipes : List ℕ) (indexRoom room : ℕ)
+    → searchedCode (searchOutcome form1 list store recipes indexRoom room) ≡ searchCode form1 list store recipes indexRoom room
+unfolding searchOutcome searchCode
+searched-code list store recipes indexRoom room =
+    by-cases (scanCode form1 list store indexRoom) (searchJoinCode form1 list store recipes room) (length (scanIndex form1 list store))
+    (length (directSearch list store recipes))
+
+lookup-answered : (code : ℕ) (layout : Layout) (bytes : List ℕ) (keys : List (List ℕ)) (key : List ℕ)
+    → LookupAnswered (lookupCode code keys key) (lookupStart code layout bytes keys key)
+    (part bytes (lookupStart code layout bytes keys key) (lookupLength code layout bytes keys key))
+lookup-answered code layout bytes keys key =
+    record { empty = λ d. (rw (ne-eqb (lookupCode code keys key) 0 d), rw (ne-eqb (lookupCode code keys key) 0 d)) }
+
+pub demand-1 : Demand1
+unfolding scanOutcome scanBuffer joinOutcome joinBuffer searchBuffer findChunk chunkStart chunkLength chunkOf findBody bodyStart bodyLength bodyOf
+demand-1 =
+    record {
+      scan = λ list store buffer.
+          answered (scanCode form1 list store (length buffer)) (length (scanIndex form1 list store)) (written buffer (scanIndex form1 list store)) buffer;
+      join = λ index recipes buffer.
+          answered (joinCode form1 index recipes (length buffer)) (length (joinList form1 index recipes))
+          (written buffer (listBytes (joinList form1 index recipes))) buffer;
+      search = λ list store recipes index out. record {
+        number = searched-code list store recipes (length index) (length out);
+        listKept = λ d.
+            sym (buffer-refused (searchCode form1 list store recipes (length index) (length out))
+            (written out (listBytes (directSearch list store recipes))) out d);
+        indexKept = λ d. sym (buffer-refused (scanCode form1 list store (length index)) (written index (scanIndex form1 list store)) index d);
+      };
+      chunk = λ store key. lookup-answered (storeCode store) storeLayout store (storeKeys store) key;
+      body = λ index key. lookup-answered (indexCode form1 index) (indexLayout index) index (indexKeys index) key;
+      numbers = numbers;
+    }
+
+-- ---- demand 2
+
+pub demand-2 : Demand2
+unfolding scanOutcome
+demand-2 = record { published = scan-published; says = scan-says-it; once = written-once }
+  where
+    scan-says-it : (list store buffer : List ℕ) → codeOf (answer (scanCode form1 list store (length buffer)) (length (scanIndex form1 list store))) ≡ 0
+        → Says form1 list (scannedRecords list store) (scanned list store buffer)
+    scan-says-it list store buffer e =
+        let c : scanCode form1 list store (length buffer) ≡ 0 =
+        sym (code-of-answer (scanCode form1 list store (length buffer)) (length (scanIndex form1 list store))) ∙ e in
+        rw (scanned-is list store buffer c) (scan-says form1 form1-scans list store (length buffer) c)
+
+-- ---- demand 3
+
+-- an occurrence in the restored files as they compare is one that stands in them, for a keyword list that is accepted
+module _ (list store recipes : List ℕ) (accept : keywordCode list ≡ 0) (o : Occurrence) where
+  abbrev flag : ℕ
+  flag = flagOf list
+
+  abbrev word : List ℕ
+  word = keywordAt (keywordsOf list) (o .keyword)
+
+  abbrev text : List ℕ
+  text = restored store (getD (filesOf recipes) (o .file) [])
+
+  counted : length (foldedKeywords list) ≡ length (keywordsOf list)
+  unfolding foldedKeywords
+  counted = length-map (keywordsOf list) (folded flag)
+
+  word-is : o .keyword < length (keywordsOf list) → keywordAt (foldedKeywords list) (o .keyword) ≡ folded flag word
+  unfolding foldedKeywords
+  word-is l = getD-map (folded flag) (keywordsOf list) (o .keyword) [] [] l
+
+  files-counted : length (restoredFiles list store recipes) ≡ length (filesOf recipes)
+  files-counted = length-map (filesOf recipes) (λ file. folded flag (restored store file))
+
+  text-is : o .file < length (filesOf recipes) → getD (restoredFiles list store recipes) (o .file) [] ≡ folded flag text
+  text-is l = getD-map (λ file. folded flag (restored store file)) (filesOf recipes) (o .file) [] [] l
+
+  nonempty : o .keyword < length (keywordsOf list) → 1 ≤ length word
+  nonempty l = omega (arith, keyword-bytes list accept (o .keyword) (omega (arith, counted)), ap length (word-is l), folded-length flag word)
+
+  abbrev a : Bool
+  a = ltb (o .file) (length (restoredFiles list store recipes))
+
+  abbrev b : Bool
+  b = ltb (o .offset) (length (getD (restoredFiles list store recipes) (o .file) []))
+
+  abbrev c : Bool
+  c = ltb (o .keyword) (length (foldedKeywords list))
+
+  abbrev d : Bool
+  d = occursAt (keywordAt (foldedKeywords list) (o .keyword)) (getD (restoredFiles list store recipes) (o .file) []) (o .offset)
+
+  stands-there : occursIn (foldedKeywords list) (restoredFiles list store recipes) o ≡ true → StandsIn list store recipes o
+  stands-there e =
+      let abc : (a && b && c) ≡ true = and-left (a && b && c) d e in
+      let f : o .file < length (filesOf recipes) =
+      omega (arith, files-counted, ltb-true (o .file) (length (restoredFiles list store recipes)) (and-left a b (and-left (a && b) c abc))) in
+      let k : o .keyword < length (keywordsOf list) = omega (arith, counted, ltb-true (o .keyword) (length (foldedKeywords list)) (and-right (a && b) c abc)) in
+      let s : occursAt (folded flag word) (folded flag text) (o .offset) ≡ true =
+      sym (ap₂ (λ (w t : List ℕ). occursAt w t (o .offset)) (word-is k) (text-is f)) ∙ and-right (a && b && c) d e in
+      let t = occurs-text flag word text (o .offset) (nonempty k) .0 s in
+      record { file = f; keyword = k; stands = record { within = t .0; alike = t .1 } }
+
+  stands-back : StandsIn list store recipes o → occursIn (foldedKeywords list) (restoredFiles list store recipes) o ≡ true
+  stands-back s =
+      let t : occursAt (folded flag word) (folded flag text) (o .offset) ≡ true =
+      occurs-text flag word text (o .offset) (nonempty (s .keyword)) .1 (s .stands .within, s .stands .alike) in
+      let n : length (getD (restoredFiles list store recipes) (o .file) []) ≡ length text = ap length (text-is (s .file)) ∙ folded-length flag text in
+      rw (
+        lt-ltb (o .file) (length (restoredFiles list store recipes)) (omega (arith, files-counted, s .file)),
+        lt-ltb (o .offset) (length (getD (restoredFiles list store recipes) (o .file) [])) (omega (arith, n, s .stands .within, nonempty (s .keyword))),
+        lt-ltb (o .keyword) (length (foldedKeywords list)) (omega (arith, counted, s .keyword)),
+        word-is (s .keyword),
+        text-is (s .file),
+        t,
+      )
+
+module _ (list store recipes buffer out : List ℕ) where
+  abbrev scan : Outcome
+  scan = scanOutcome form1 list store (length buffer)
+
+  abbrev join : Outcome
+  join = joinOutcome form1 (scanned list store buffer) recipes (length out)
+
+  abbrev after : List ℕ
+  after = joinBuffer form1 (scanned list store buffer) recipes out
+
+  claim-found : codeOf scan ≡ 0 → codeOf join ≡ 0 → readList (valueOf join) after ≡ directSearch list store recipes
+  claim-found s j = scan-and-join list store recipes buffer out .join s .listed j
+
+  claim-count : codeOf scan ≡ 0 → codeOf join ≡ 0 → valueOf join ≡ length (directSearch list store recipes)
+  claim-count s j =
+      let o = scan-and-join list store recipes buffer out .join s .outcome in
+      ap valueOf o
+      ∙ value-of-answer (searchJoinCode form1 list store recipes (length out)) (length (directSearch list store recipes))
+      (sym (ap codeOf o ∙ code-of-answer (searchJoinCode form1 list store recipes (length out)) (length (directSearch list store recipes))) ∙ j)
+
+  claim-ordered : codeOf scan ≡ 0 → codeOf join ≡ 0 → inOrder (readList (valueOf join) after) ≡ true
+  claim-ordered s j = ap inOrder (claim-found s j) ∙ scan-and-join list store recipes buffer out .search .ordered
+
+  claim-at : Claim list store recipes buffer out scan join after
+  claim-at =
+      let w = scan-and-join list store recipes buffer out in
+      record {
+        both = (
+          λ e. (w .scan .0 (e .0), w .join (e .0) .done .0 (e .1)),
+          λ n. let s = w .scan .1 (n .0) in (s, w .join s .done .1 (n .1)),
+        );
+        exactly = λ s j o.
+            let q : isIn o (readList (valueOf join) after) ≡ occursIn (foldedKeywords list) (restoredFiles list store recipes) o =
+            ap (isIn o) (claim-found s j) ∙ w .search .exactly o in
+            let accept : keywordCode list ≡ 0 = w .scan .0 s .0 in (
+              λ e. stands-there list store recipes accept o (sym q ∙ e),
+              λ e. q ∙ stands-back list store recipes accept o e,
+            );
+        ordered = claim-ordered;
+        once = λ s j m n none l h.
+            order-once (readList (valueOf join) after) (claim-ordered s j) m n none l
+            (omega (arith, h, claim-count s j, ap length (claim-found s j)));
+        count = claim-count;
+        found = claim-found;
+      }
+
+pub demand-3 : Demand3
+demand-3 = record { calls = of-calls }
+  where
+    of-calls : (list store recipes buffer out : List ℕ) (scan join : Outcome) (buffer′ index out′ : List ℕ)
+        → Calls list store recipes buffer out scan join buffer′ index out′ → Claim list store recipes buffer out scan join out′
+    of-calls list store recipes buffer out scan join buffer′ index out′ c =
+        let i : index ≡ scanned list store buffer = c .handed ∙ ap₂ (λ (a : Outcome) (b : List ℕ). take (valueOf a) b) (c .scanned) (c .wrote) in
+        let j : join ≡ joinOutcome form1 (scanned list store buffer) recipes (length out) =
+        c .joined ∙ ap (λ (x : List ℕ). joinOutcome form1 x recipes (length out)) i in
+        let o : out′ ≡ joinBuffer form1 (scanned list store buffer) recipes out = c .listed ∙ ap (λ (x : List ℕ). joinBuffer form1 x recipes out) i in
+        rw (c .scanned, j, o) (claim-at list store recipes buffer out)

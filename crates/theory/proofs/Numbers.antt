@@ -1,0 +1,222 @@
+-- Every check and operation answers 0 or one of the numbers that document 01 gives it (demand 1). A chain of tests answers one of its tests'
+-- numbers, so each law goes along the tests of its definition. Assumes nothing.
+use mathlib.Core.Path.{_≡_, refl, sym, ap, _∙_}
+use mathlib.Core.Logic.{_⊎_, inl, inr}
+use mathlib.Core.Bool.{Bool, true, false, _||_, not, cond, or-true, false≢true}
+use mathlib.Core.List.{List, [], _∷_}
+use Prim.Native.Nat.{ℕ, zero, suc, _+_, _*_}
+use lib.Dec.{eqb, ltb}
+use lib.ListN.{length, take, drop}
+use borrow.Author.Tests.{eqb-true}
+use Rattle.spec.specs.Bytes.{same, contains, twice, member, every, sum}
+use Rattle.spec.specs.Keywords.{countOf, listSize, foldedKeywords, readCode, headerWrong, keywordCode, keywordFrontCode}
+use Rattle.spec.specs.Directory.{Layout, directoryEnd, sizeAt, offsetAt, lengthAt, entriesCode}
+use Rattle.spec.specs.Store.{storeMark, storeLayout, chunkCount, mostChunks, storeKeys, storeCode}
+use Rattle.spec.specs.Records.{form1, newest}
+use Rattle.spec.specs.Index.{listIn, indexLayout, indexKeys, allGood, headerCode, directoryCode, laidCode, indexCode}
+use Rattle.spec.specs.Recipes.{largest32, mostFiles, fileCount, filesWhole, innerLong, sizesIn, filesOf, recipesCode, fileCode, filesCode}
+use Rattle.spec.specs.Join.{joinList, innerLeast, joinableCode, joinCode}
+use Rattle.spec.specs.Lookup.{lookupCode, findChunk, findBody}
+use Rattle.spec.specs.Scan.{scanIndex, scannableCode, scanCode}
+use Rattle.spec.specs.Search.{directSearch, searchJoinCode, searchCode}
+use Rattle.spec.proofs.Tests.{bool-cases, and-left, and-right}
+use Rattle.theory.specs.Demands.{Numbers}
+
+-- ---- chains of tests
+
+test-in : (numbers : List ℕ) (b : Bool) (code rest : ℕ) → member code numbers ≡ true → member rest numbers ≡ true → member (cond b code rest) numbers ≡ true
+test-in numbers true code rest p q = p
+test-in numbers false code rest p q = q
+
+whole-in : (numbers : List ℕ) (code rest : ℕ) → member code numbers ≡ true → member rest numbers ≡ true
+    → member (cond (ltb 0 code) code rest) numbers ≡ true
+whole-in numbers code rest p q = test-in numbers (ltb 0 code) code rest p q
+
+-- a number of some numbers that are all among others
+wider : (x : ℕ) (some others : List ℕ) → every (λ y. member y others) some ≡ true → member x some ≡ true → member x others ≡ true
+wider x [] others e m = absurd (false≢true m)
+wider x (y ∷ some) others e m =
+    go (bool-cases (eqb x y)) (λ q. wider x some others (and-right (member y others) (every (λ z. member z others) some) e) q)
+  where
+    go : (eqb x y ≡ true) ⊎ (eqb x y ≡ false) → (member x some ≡ true → member x others ≡ true) → member x others ≡ true
+    go (inl t) ih = ap (λ (z : ℕ). member z others) (eqb-true x y t) ∙ and-left (member y others) (every (λ z. member z others) some) e
+    go (inr f) ih = ih (sym (ap (λ (b : Bool). b || member x some) f) ∙ m)
+
+-- ---- the checks
+
+abbrev ofKeywords : List ℕ
+ofKeywords = 0 ∷ 1 ∷ 2 ∷ 3 ∷ 4 ∷ []
+
+read-number : (count : ℕ) (bytes : List ℕ) → member (readCode count bytes) ofKeywords ≡ true
+read-number zero bytes = refl
+read-number (suc count) [] = refl
+read-number (suc count) (n ∷ bytes) =
+    test-in ofKeywords (eqb n 0 || ltb 32 n) 3 _ refl
+    (test-in ofKeywords (ltb (length bytes) n) 1 _ refl
+    (whole-in ofKeywords (readCode count (drop n bytes)) 0 (read-number count (drop n bytes)) refl))
+
+keyword-number : (list : List ℕ) → member (keywordCode list) ofKeywords ≡ true
+unfolding keywordCode
+keyword-number list =
+    test-in ofKeywords (ltb (length list) 2) 1 _ refl
+    (test-in ofKeywords (headerWrong list) 2 _ refl
+    (whole-in ofKeywords (readCode (countOf list) (drop 2 list)) _ (read-number (countOf list) (drop 2 list))
+    (test-in ofKeywords (ltb (listSize list) (length list)) 1 _ refl (test-in ofKeywords (twice (foldedKeywords list)) 4 0 refl refl))))
+
+front-number : (list : List ℕ) → member (keywordFrontCode list) ofKeywords ≡ true
+unfolding keywordFrontCode
+front-number list =
+    test-in ofKeywords (ltb (length list) 2) 1 _ refl
+    (test-in ofKeywords (headerWrong list) 2 _ refl
+    (whole-in ofKeywords (readCode (countOf list) (drop 2 list)) _ (read-number (countOf list) (drop 2 list))
+    (test-in ofKeywords (twice (foldedKeywords list)) 4 0 refl refl)))
+
+module _ (numbers : List ℕ) (code : ℕ) (p : member code numbers ≡ true) (q : member 0 numbers ≡ true) (layout : Layout) (bytes : List ℕ) (most : ℕ) where
+  entries-number : (n k at : ℕ) → member (entriesCode layout bytes most code n k at) numbers ≡ true
+  entries-number zero k at = test-in numbers (not (eqb at (length bytes))) code 0 p q
+  entries-number (suc n) k at =
+      test-in numbers (eqb (sizeAt layout bytes k) 0 || ltb most (sizeAt layout bytes k)) code _ p
+      (test-in numbers (not (eqb (offsetAt layout bytes k) at)) code _ p
+      (whole-in numbers (entriesCode layout bytes most code n (suc k) (at + lengthAt layout bytes k)) 0
+      (entries-number n (suc k) (at + lengthAt layout bytes k)) q))
+
+abbrev ofStore : List ℕ
+ofStore = 0 ∷ 5 ∷ 6 ∷ 7 ∷ 8 ∷ []
+
+store-number : (store : List ℕ) → member (storeCode store) ofStore ≡ true
+unfolding storeCode
+store-number store =
+    let c = chunkCount store in
+    let end = directoryEnd storeLayout c in
+    test-in ofStore (ltb (length store) 8 || not (same (take 4 store) storeMark)) 5 _ refl
+    (test-in ofStore (ltb mostChunks c || ltb (length store) end) 6 _ refl
+    (whole-in ofStore (entriesCode storeLayout store (newest .longestChunk) 7 c 0 end) _
+    (entries-number ofStore 7 refl refl storeLayout store (newest .longestChunk) c 0 end)
+    (test-in ofStore (twice (storeKeys store)) 8 0 refl refl)))
+
+abbrev ofIndex : List ℕ
+ofIndex = 0 ∷ 1 ∷ 2 ∷ 3 ∷ 4 ∷ 10 ∷ 11 ∷ 12 ∷ 13 ∷ []
+
+laid-number : (index : List ℕ) → member (laidCode form1 index) ofIndex ≡ true
+unfolding laidCode headerCode directoryCode
+laid-number index =
+    let c = chunkCount index in
+    let end = directoryEnd (indexLayout index) c in
+    whole-in ofIndex (headerCode form1 index) _
+    (test-in ofIndex (ltb (length index) 8 || not (same (take 4 index) (form1 .mark)) || ltb mostChunks c) 10 0 refl refl)
+    (whole-in ofIndex (keywordFrontCode (listIn index)) _ (wider (keywordFrontCode (listIn index)) ofKeywords ofIndex refl (front-number (listIn index)))
+    (whole-in ofIndex (directoryCode form1 index) 0
+    (test-in ofIndex (ltb (length index) end) 11 _ refl
+    (whole-in ofIndex (entriesCode (indexLayout index) index (form1 .longestChunk) 11 c 0 end) 0
+    (entries-number ofIndex 11 refl refl (indexLayout index) index (form1 .longestChunk) c 0 end) refl)) refl))
+
+index-number : (index : List ℕ) → member (indexCode form1 index) ofIndex ≡ true
+unfolding indexCode
+index-number index =
+    whole-in ofIndex (laidCode form1 index) _ (laid-number index)
+    (test-in ofIndex (twice (indexKeys index)) 12 _ refl (test-in ofIndex (not (allGood form1 index)) 13 0 refl refl))
+
+-- ---- recipes and files
+
+abbrev ofFiles : List ℕ
+ofFiles = 0 ∷ 14 ∷ 15 ∷ 16 ∷ 17 ∷ 18 ∷ []
+
+recipes-number : (recipes : List ℕ) → member (recipesCode recipes) ofFiles ≡ true
+unfolding recipesCode
+recipes-number recipes =
+    test-in ofFiles (ltb (length recipes) 4) 14 _ refl
+    (test-in ofFiles (ltb mostFiles (fileCount recipes)) 14 _ refl
+    (test-in ofFiles (not (filesWhole (fileCount recipes) (drop 4 recipes))) 14 0 refl refl))
+
+module _ (keys : List (List ℕ)) (sizeOf : ℕ → ℕ) (least : ℕ) where
+  file-number : (file : List (List ℕ)) → member (fileCode keys sizeOf least file) ofFiles ≡ true
+  unfolding fileCode
+  file-number file =
+      test-in ofFiles (not (every (λ key. contains key keys) file)) 15 _ refl
+      (test-in ofFiles (ltb largest32 (sum (sizesIn keys sizeOf file))) 16 _ refl
+      (test-in ofFiles (not (innerLong least (sizesIn keys sizeOf file))) 17 0 refl refl))
+
+  files-number : (files : List (List (List ℕ))) → member (filesCode keys sizeOf least files) ofFiles ≡ true
+  unfolding filesCode
+  files-number [] = refl
+  files-number (file ∷ files) = whole-in ofFiles (fileCode keys sizeOf least file) _ (file-number file) (files-number files)
+
+-- ---- the operations
+
+abbrev ofScan : List ℕ
+ofScan = 0 ∷ 1 ∷ 2 ∷ 3 ∷ 4 ∷ 5 ∷ 6 ∷ 7 ∷ 8 ∷ 9 ∷ []
+
+scan-number : (list store : List ℕ) (room : ℕ) → member (scanCode form1 list store room) ofScan ≡ true
+unfolding scanCode scannableCode
+scan-number list store room =
+    let n = length (scanIndex form1 list store) in
+    whole-in ofScan (scannableCode list store) _
+    (whole-in ofScan (keywordCode list) _ (wider (keywordCode list) ofKeywords ofScan refl (keyword-number list))
+    (whole-in ofScan (storeCode store) 0 (wider (storeCode store) ofStore ofScan refl (store-number store)) refl))
+    (test-in ofScan (ltb room n || ltb largest32 n) 9 0 refl refl)
+
+abbrev ofJoin : List ℕ
+ofJoin = 0 ∷ 1 ∷ 2 ∷ 3 ∷ 4 ∷ 10 ∷ 11 ∷ 12 ∷ 13 ∷ 14 ∷ 15 ∷ 16 ∷ 17 ∷ 18 ∷ []
+
+join-number : (index recipes : List ℕ) (room : ℕ) → member (joinCode form1 index recipes room) ofJoin ≡ true
+unfolding joinCode joinableCode
+join-number index recipes room =
+    let files = filesCode (indexKeys index) (sizeAt (indexLayout index) index) (innerLeast form1 (listIn index)) (filesOf recipes) in
+    whole-in ofJoin (joinableCode form1 index recipes) _
+    (whole-in ofJoin (indexCode form1 index) _ (wider (indexCode form1 index) ofIndex ofJoin refl (index-number index))
+    (whole-in ofJoin (recipesCode recipes) _ (wider (recipesCode recipes) ofFiles ofJoin refl (recipes-number recipes))
+    (whole-in ofJoin files 0
+    (wider files ofFiles ofJoin refl
+    (files-number (indexKeys index) (sizeAt (indexLayout index) index) (innerLeast form1 (listIn index)) (filesOf recipes))) refl)))
+    (test-in ofJoin (ltb room (9 * length (joinList form1 index recipes))) 18 0 refl refl)
+
+abbrev pub ofSearch : List ℕ
+ofSearch = 0 ∷ 1 ∷ 2 ∷ 3 ∷ 4 ∷ 5 ∷ 6 ∷ 7 ∷ 8 ∷ 9 ∷ 14 ∷ 15 ∷ 16 ∷ 17 ∷ 18 ∷ []
+
+search-number : (list store recipes : List ℕ) (indexRoom room : ℕ) → member (searchCode form1 list store recipes indexRoom room) ofSearch ≡ true
+unfolding searchCode searchJoinCode
+search-number list store recipes indexRoom room =
+    let files = filesCode (storeKeys store) (sizeAt storeLayout store) (innerLeast form1 list) (filesOf recipes) in
+    whole-in ofSearch (scanCode form1 list store indexRoom) _
+    (wider (scanCode form1 list store indexRoom) ofScan ofSearch refl (scan-number list store indexRoom))
+    (whole-in ofSearch (searchJoinCode form1 list store recipes room) 0
+    (whole-in ofSearch (recipesCode recipes) _ (wider (recipesCode recipes) ofFiles ofSearch refl (recipes-number recipes))
+    (whole-in ofSearch files _
+    (wider files ofFiles ofSearch refl (files-number (storeKeys store) (sizeAt storeLayout store) (innerLeast form1 list) (filesOf recipes)))
+    (test-in ofSearch (ltb room (9 * length (directSearch list store recipes))) 18 0 refl refl))) refl)
+
+-- ---- the lookups
+
+lookup-number : (numbers : List ℕ) (code : ℕ) (keys : List (List ℕ)) (key : List ℕ) → member code numbers ≡ true → member 19 numbers ≡ true
+    → member 15 numbers ≡ true → member 0 numbers ≡ true → member (lookupCode code keys key) numbers ≡ true
+lookup-number numbers code keys key p q r z =
+    whole-in numbers code _ p
+    (test-in numbers (not (eqb (length key) 20)) 19 _ q (test-in numbers (not (contains key keys)) 15 0 r z))
+
+abbrev ofChunk : List ℕ
+ofChunk = 0 ∷ 5 ∷ 6 ∷ 7 ∷ 8 ∷ 15 ∷ 19 ∷ []
+
+chunk-number : (store key : List ℕ) → member (findChunk store key) ofChunk ≡ true
+unfolding findChunk
+chunk-number store key =
+    lookup-number ofChunk (storeCode store) (storeKeys store) key (wider (storeCode store) ofStore ofChunk refl (store-number store)) refl refl refl
+
+abbrev ofBody : List ℕ
+ofBody = 0 ∷ 1 ∷ 2 ∷ 3 ∷ 4 ∷ 10 ∷ 11 ∷ 12 ∷ 13 ∷ 15 ∷ 19 ∷ []
+
+body-number : (index key : List ℕ) → member (findBody form1 index key) ofBody ≡ true
+unfolding findBody
+body-number index key =
+    lookup-number ofBody (indexCode form1 index) (indexKeys index) key (wider (indexCode form1 index) ofIndex ofBody refl (index-number index)) refl refl refl
+
+pub numbers : Numbers
+numbers = record {
+  keywords = keyword-number;
+  store = store-number;
+  scan = scan-number;
+  index = index-number;
+  join = join-number;
+  search = search-number;
+  chunk = chunk-number;
+  body = body-number;
+}

@@ -1,0 +1,448 @@
+-- Request #101: two accepted stores with the same chunks, in any two orders, answer the same. No fingerprint is twice, so each stands for the same
+-- bytes in both, and lookups, bodies, tests 15 to 17 and the direct search go by fingerprint; lengths are sums (AnyOrder). Assumes nothing.
+use mathlib.Core.Path.{_≡_, refl, sym, ap, ap₂, _∙_}
+use mathlib.Core.Logic.{⊎-elim}
+use mathlib.Core.Bool.{Bool, true, false, cond, _&&_, false≢true}
+use mathlib.Core.List.{List, [], _∷_, map}
+use Prim.Native.Nat.{ℕ, zero, suc, _+_, _*_, _<_}
+use native.Mathlib.Nat.{zero-add}
+use native.Mathlib.Omega.{arith}
+use borrow.Author.Tests.{lt-ltb, ne-eqb}
+use lib.Dec.{eqb, ltb}
+use lib.ListN.{length, getD, length-append}
+use Rattle.spec.specs.declared.Searched.the-variants.{ScanRefused, JoinRefused, Found}
+use Rattle.spec.specs.Bytes.{written, part, same, contains, positionOf, every, sum, joined}
+use Rattle.spec.specs.Outcome.{firstOf, firstCode, whole, codeOf, valueOf, answer, unlessRefused}
+use Rattle.spec.specs.Keywords.{flagOf, folded, foldedKeywords}
+use Rattle.spec.specs.Directory.{Layout, pointedAt, sizeAt}
+use Rattle.spec.specs.Store.{Chunk, storeLayout, chunkCount, storeKeys, chunkAt, storeCode}
+use Rattle.spec.specs.Records.{Form, form1}
+use Rattle.spec.specs.Index.{Entry, indexBytes, indexLayout, indexKeys, bodyAt, indexCode}
+use Rattle.spec.specs.Recipes.{sizesIn, fileCode, filesCode, filesOf, recipesCode}
+use Rattle.spec.specs.Join.{Occurrence, listBytes, innerLeast, joinOutcome, joinBuffer, readList}
+use Rattle.spec.specs.Lookup.{lookupCode, lookupStart, lookupLength, findChunk, chunkStart, chunkLength, chunkOf, findBody, bodyStart, bodyLength, bodyOf}
+use Rattle.spec.specs.Scan.{scanBody, scanEntry, scanIndex, scannableCode, scanCode, scanOutcome}
+use Rattle.spec.specs.Search.{chunkNamed, restored, directSearch, occurrencesInAll, searchJoinCode, searchCode, searchOutcome, searchBuffer}
+use Rattle.spec.proofs.Tests.{bool-cases, and-left, and-right}
+use Rattle.spec.proofs.Codes.{passed-whole}
+use Rattle.spec.proofs.Same.{same-eq}
+use Rattle.spec.proofs.Fields.{length-leBytes}
+use Rattle.spec.proofs.EntryLaws.{contains-position, position-of, contains-at, position-at}
+use Rattle.spec.proofs.LookupLaws.{lookup-passed}
+use Rattle.spec.proofs.FileLaws.{every-at, file-accepted, files-cons}
+use Rattle.spec.proofs.StoreLaws.{StoreGood, store-good, length-storeKeys, store-key-length, store-size-most, chunk-length}
+use Rattle.spec.proofs.WrittenEntries.{bodiesOf, Fits, noEntry, Every, length-directory}
+use Rattle.spec.proofs.ScanLaws.{ScanReads, form1-scans, scan-done-reads}
+use Rattle.spec.proofs.Tabulated.{tabulated, length-tabulated, tabulated-at, tabulated-getD, tabulated-same, map-tabulated}
+use Rattle.theory.specs.Cases.{store as vault, fingerprint, oneChunk}
+use Rattle.theory.specs.Demand3.{scanned}
+use Rattle.theory.specs.SameChunks.{among, heldBy, sameChunks, smallReordered, AnswerAlike, SameChunks}
+use Rattle.theory.specs.WrittenInputs.{storedChunk, storedChunks}
+use Rattle.theory.proofs.AnyOrder.{weigh, weigh-le, weigh-same, weigh-one}
+use Rattle.theory.proofs.ScanThenJoin.{map-same, position-in, answer-same, buffer-same}
+use Rattle.theory.proofs.Cases.{definitions}
+use Rattle.theory.proofs.Demand3.{code-of-answer, join-outcome, join-buffer, scanned-is, join-of-scan}
+
+-- ---- a fingerprint stands for the same bytes in both stores
+
+-- A store has the fingerprint; the entry that does.
+abbrev knows : List ℕ → List ℕ → Bool
+knows store key = contains key (storeKeys store)
+
+abbrev placeOf : List ℕ → List ℕ → ℕ
+placeOf store key = positionOf key (storeKeys store)
+
+place-in : (store key : List ℕ) → knows store key ≡ true → placeOf store key < chunkCount store
+place-in store key c = omega (arith, position-in (storeKeys store) key c, length-storeKeys store)
+
+bool-same : (a b : Bool) → (a ≡ true → b ≡ true) → (b ≡ true → a ≡ true) → a ≡ b
+bool-same true b f g = sym (f refl)
+bool-same false true f g = g refl
+bool-same false false f g = refl
+
+-- what is in a tabulated list is at one of its places
+among-at : (P : Type 0) (c : Chunk) (f : ℕ → Chunk) (at n : ℕ) → among c (tabulated f at n) ≡ true
+    → ((k : ℕ) → k < at + n → c .key ≡ f k .key → c .bytes ≡ f k .bytes → P) → P
+among-at P c f at zero e h = absurd (false≢true e)
+among-at P c f at (suc n) e h =
+    ⊎-elim
+    (λ t. h at (omega arith) (same-eq (c .key) (f at .key) (and-left _ _ t)) (same-eq (c .bytes) (f at .bytes) (and-right (same (c .key) (f at .key)) _ t)))
+    (λ t. among-at P c f (suc at) n (rw t at e) (λ k l p q. h k (omega arith) p q))
+    (bool-cases (same (c .key) (f at .key) && same (c .bytes) (f at .bytes)))
+
+module _ (store : List ℕ) (good : StoreGood store) where
+  -- a chunk that the store holds is the one that its fingerprint names
+  named-by : (c : Chunk) → among c (storedChunks store) ≡ true → (knows store (c .key) ≡ true) × (chunkNamed store (c .key) ≡ c .bytes)
+  unfolding storedChunks
+  named-by c e = among-at _ c (storedChunk store) 0 (chunkCount store) e (λ k l p q.
+      let m : k < length (storeKeys store) = omega (arith, length-storeKeys store) in
+      let place : placeOf store (c .key) ≡ k = ap (placeOf store) p ∙ position-at (storeKeys store) k (good .differ) m in
+      (ap (knows store) p ∙ contains-at (storeKeys store) k m, ap (chunkAt store) place ∙ sym q))
+
+  -- the chunk that a fingerprint names, under it
+  abbrev under : List ℕ → Chunk
+  under key = record { key = key; bytes = chunkNamed store key }
+
+  -- what holds of every chunk holds of the one that a known fingerprint names
+  every-named : (test : Chunk → Bool) → every test (storedChunks store) ≡ true → (key : List ℕ) → knows store key ≡ true
+      → test (under key) ≡ true
+  unfolding storedChunks
+  every-named test e key c =
+      let k = placeOf store key in
+      let none : Chunk = record { key = []; bytes = [] } in
+      let all : List Chunk = tabulated (storedChunk store) 0 (chunkCount store) in
+      let at : getD all k none ≡ storedChunk store k = tabulated-at (storedChunk store) 0 (chunkCount store) k none (place-in store key c) ∙ rw zero-add in
+      ap (λ (x : List ℕ). test (record { key = x; bytes = chunkNamed store key }))
+      (sym (position-of key (storeKeys store) (position-in (storeKeys store) key c)))
+      ∙ ap test (sym at)
+      ∙ every-at test all k none e (omega (arith, length-tabulated (storedChunk store) 0 (chunkCount store), place-in store key c))
+
+-- Two accepted stores in which the same fingerprints stand for the same bytes.
+pub record Alike (store other : List ℕ) : Type 0 where
+  pub stored : StoreGood store
+  pub storedOther : StoreGood other
+  pub code : storeCode store ≡ 0
+  pub codeOther : storeCode other ≡ 0
+  pub known : (key : List ℕ) → knows store key ≡ knows other key
+  pub named : (key : List ℕ) → knows store key ≡ true → chunkNamed store key ≡ chunkNamed other key
+
+held-named : (store other : List ℕ) → StoreGood store → StoreGood other → heldBy store other ≡ true → (key : List ℕ) → knows store key ≡ true
+    → (knows other key ≡ true) × (chunkNamed other key ≡ chunkNamed store key)
+held-named store other a b e key c = named-by other b (under store a key) (every-named store a (λ d. among d (storedChunks other)) e key c)
+
+pub stores-alike : (store other : List ℕ) → storeCode store ≡ 0 → storeCode other ≡ 0 → sameChunks store other ≡ true → Alike store other
+unfolding sameChunks
+stores-alike store other p q e =
+    let a = store-good store p in
+    let b = store-good other q in
+    let there = held-named store other a b (and-left (heldBy store other) (heldBy other store) e) in
+    let back = held-named other store b a (and-right (heldBy store other) (heldBy other store) e) in
+    record {
+      stored = a;
+      storedOther = b;
+      code = p;
+      codeOther = q;
+      known = λ key. bool-same (knows store key) (knows other key) (λ c. there key c .0) (λ c. back key c .0);
+      named = λ key c. sym (there key c .1);
+    }
+
+-- ---- the slice of a lookup
+
+-- it is what the entry points to; on a refusal it is empty
+slice-is : (code : ℕ) (layout : Layout) (bytes : List ℕ) (keys : List (List ℕ)) (key : List ℕ)
+    → part bytes (lookupStart code layout bytes keys key) (lookupLength code layout bytes keys key)
+    ≡ unlessRefused (lookupCode code keys key) (pointedAt layout bytes (positionOf key keys)) []
+unfolding unlessRefused
+slice-is code layout bytes keys key = ⊎-elim (λ t. rw t) (λ f. rw f) (bool-cases (eqb (lookupCode code keys key) 0))
+
+lookup-known : (code : ℕ) (keys : List (List ℕ)) (key : List ℕ) → lookupCode code keys key ≡ 0 → contains key keys ≡ true
+lookup-known code keys key e = contains-position key keys ∙ lt-ltb (positionOf key keys) (length keys) (lookup-passed code keys key e .2)
+
+-- ---- the length of a scan's index
+
+length-bodies : (es : List Entry) → length (bodiesOf es) ≡ sum (map (λ e. length (e .body)) es)
+length-bodies [] = refl
+length-bodies (e ∷ es) = length-append (e .body) (bodiesOf es) ∙ ap (λ (n : ℕ). length (e .body) + n) (length-bodies es)
+
+length-index : (f : Form) (list : List ℕ) (es : List Entry) → Every Fits es
+    → length (indexBytes f list es) ≡ length (f .mark) + 4 + length list + 32 * length es + length (bodiesOf es)
+unfolding indexBytes
+length-index f list es fit = simp (length-append, length-leBytes, length-directory (8 + length list + 32 * length es) es fit) (omega arith)
+
+module _ (f : Form) (list store : List ℕ) (good : StoreGood store) where
+  -- the length of a fingerprint's body
+  abbrev bodySize : List ℕ → ℕ
+  bodySize key = length (scanBody f list (chunkNamed store key))
+
+  abbrev entries : List Entry
+  entries = tabulated (scanEntry f list store) 0 (chunkCount store)
+
+  entries-fit : Every Fits entries
+  unfolding scanEntry
+  entries-fit k l =
+      let m : k < chunkCount store = omega (arith, length-tabulated (scanEntry f list store) 0 (chunkCount store)) in
+      let at : getD entries k noEntry ≡ scanEntry f list store k = tabulated-at (scanEntry f list store) 0 (chunkCount store) k noEntry m ∙ rw zero-add in
+      rw at (record { long = store-key-length store good k m; small = omega (arith, store-size-most store good k m) })
+
+  -- by entry, and by fingerprint
+  size-at : (k : ℕ) → k < chunkCount store → length (scanBody f list (chunkAt store k)) ≡ bodySize (getD (storeKeys store) k [])
+  size-at k l =
+      ap (λ (j : ℕ). length (scanBody f list (chunkAt store j)))
+      (sym (position-at (storeKeys store) k (good .differ) (omega (arith, length-storeKeys store))))
+
+  sizes-are : map (λ e. length (e .body)) entries ≡ map bodySize (storeKeys store)
+  unfolding scanEntry
+  sizes-are =
+      map-tabulated (λ e. length (e .body)) (scanEntry f list store) 0 (chunkCount store)
+      ∙ tabulated-same (λ k. length (scanBody f list (chunkAt store k))) (λ k. bodySize (getD (storeKeys store) k [])) (chunkCount store) size-at
+      ∙ sym (map-tabulated bodySize (λ k. getD (storeKeys store) k []) 0 (chunkCount store))
+      ∙ ap (map bodySize) (tabulated-getD (storeKeys store) [] (chunkCount store) (length-storeKeys store))
+
+  scan-length-is : length (scanIndex f list store) ≡ length (f .mark) + 4 + length list + 32 * chunkCount store + weigh bodySize (storeKeys store)
+  unfolding scanIndex
+  scan-length-is =
+      length-index f list entries entries-fit
+      ∙ rw (length-tabulated (scanEntry f list store) 0 (chunkCount store), length-bodies entries, sizes-are)
+
+-- ---- what is the same
+
+-- Tests 15 to 17 of a file and of all files, said of a store; an inner chunk must have m bytes.
+abbrev fileTest : List ℕ → ℕ → List (List ℕ) → ℕ
+fileTest store m file = fileCode (storeKeys store) (sizeAt storeLayout store) m file
+
+abbrev filesTest : List ℕ → ℕ → List (List (List ℕ)) → ℕ
+filesTest store m files = filesCode (storeKeys store) (sizeAt storeLayout store) m files
+
+-- a test behind one that decides it
+last-test : (r c d n : ℕ) (p q : Bool) → c ≡ d → (c ≡ 0 → p ≡ q) → firstOf (whole r ∷ whole c ∷ (p, n) ∷ []) ≡ firstOf (whole r ∷ whole d ∷ (q, n) ∷ [])
+last-test r zero d n p q e h = rw (← e, h refl)
+last-test r (suc c) d n p q e h = rw (← e, lt-ltb 0 (suc c) (omega arith))
+
+-- answers that differ at most in a count, which is the same where it is reported
+searched : (c j n v w : ℕ) → (j ≡ 0 → v ≡ w)
+    → cond (eqb c 0) (cond (eqb j 0) (Found n v) (JoinRefused n j)) (ScanRefused c)
+    ≡ cond (eqb c 0) (cond (eqb j 0) (Found n w) (JoinRefused n j)) (ScanRefused c)
+searched c zero n v w h = rw (h refl)
+searched c (suc j) n v w h = rw (ne-eqb (suc j) 0 (λ z. let y : ⊥ = omega arith in absurd y))
+
+module _ (store other : List ℕ) (a : Alike store other) where
+  -- ---- lookups
+
+  pub same-find : (key : List ℕ) → findChunk store key ≡ findChunk other key
+  unfolding findChunk
+  same-find key = rw (a .code, a .codeOther, a .known key)
+
+  pub same-chunk : (key : List ℕ) → chunkOf store key ≡ chunkOf other key
+  unfolding chunkOf chunkStart chunkLength findChunk chunkAt
+  same-chunk key =
+      slice-is (storeCode store) storeLayout store (storeKeys store) key
+      ∙ buffer-same (findChunk store key) (findChunk other key) (chunkNamed store key) (chunkNamed other key) [] (same-find key)
+      (λ z. a .named key (lookup-known (storeCode store) (storeKeys store) key (same-find key ∙ z)))
+      ∙ sym (slice-is (storeCode other) storeLayout other (storeKeys other) key)
+
+  -- ---- lengths
+
+  weighs : (g : List ℕ → ℕ) → weigh g (storeKeys store) ≡ weigh g (storeKeys other)
+  weighs g =
+      let l = weigh-le g (storeKeys store) (storeKeys other) (a .stored .differ) (λ key c. sym (a .known key) ∙ c) in
+      let m = weigh-le g (storeKeys other) (storeKeys store) (a .storedOther .differ) (λ key c. a .known key ∙ c) in
+      omega arith
+
+  pub same-count : chunkCount store ≡ chunkCount other
+  same-count = sym (weigh-one (storeKeys store) ∙ length-storeKeys store) ∙ weighs (λ key. 1) ∙ weigh-one (storeKeys other) ∙ length-storeKeys other
+
+  module _ (f : Form) (list : List ℕ) where
+    same-sums : weigh (bodySize f list store (a .stored)) (storeKeys store) ≡ weigh (bodySize f list other (a .storedOther)) (storeKeys other)
+    same-sums =
+        weigh-same _ _ (storeKeys store) (λ key c. ap (λ (chunk : List ℕ). length (scanBody f list chunk)) (a .named key c))
+        ∙ weighs (bodySize f list other (a .storedOther))
+
+    pub same-index-length : length (scanIndex f list store) ≡ length (scanIndex f list other)
+    same-index-length = scan-length-is f list store (a .stored) ∙ rw (same-count, same-sums) (sym (scan-length-is f list other (a .storedOther)))
+
+    pub same-scan-code : (room : ℕ) → scanCode f list store room ≡ scanCode f list other room
+    unfolding scanCode scannableCode
+    same-scan-code room = rw (a .code, a .codeOther, same-index-length)
+
+  -- ---- tests 15, 16 and 17
+
+  same-known : (file : List (List ℕ)) → every (knows store) file ≡ every (knows other) file
+  same-known [] = refl
+  same-known (key ∷ file) = rw (a .known key, same-known file)
+
+  same-size : (key : List ℕ) → knows store key ≡ true → sizeAt storeLayout store (placeOf store key) ≡ sizeAt storeLayout other (placeOf other key)
+  same-size key c =
+      sym (chunk-length store (a .stored) (placeOf store key) (place-in store key c))
+      ∙ ap length (a .named key c)
+      ∙ chunk-length other (a .storedOther) (placeOf other key) (place-in other key (sym (a .known key) ∙ c))
+
+  module _ (m : ℕ) where
+    same-sizes : (file : List (List ℕ)) → every (knows store) file ≡ true
+        → sizesIn (storeKeys store) (sizeAt storeLayout store) file ≡ sizesIn (storeKeys other) (sizeAt storeLayout other) file
+    same-sizes file e = map-same (knows store) _ _ file e same-size
+
+    same-file : (file : List (List ℕ)) → fileTest store m file ≡ fileTest other m file
+    unfolding fileCode
+    same-file file =
+        ⊎-elim (λ e. rw (same-sizes file e, same-known file))
+        (λ e. let o : every (knows other) file ≡ false = sym (same-known file) ∙ e in rw (e, o))
+        (bool-cases (every (knows store) file))
+
+    same-each : (files : List (List (List ℕ))) → map (fileTest store m) files ≡ map (fileTest other m) files
+    same-each [] = refl
+    same-each (file ∷ files) = rw (same-file file, same-each files)
+
+    pub same-files : (files : List (List (List ℕ))) → filesTest store m files ≡ filesTest other m files
+    unfolding filesCode
+    same-files files = ap firstCode (same-each files)
+
+    -- ---- restored files
+
+    same-text : (file : List (List ℕ)) → every (knows store) file ≡ true → restored store file ≡ restored other file
+    unfolding restored
+    same-text file e = ap joined (map-same (knows store) (chunkNamed store) (chunkNamed other) file e (a .named))
+
+    same-texts : (flag : ℕ) (files : List (List (List ℕ))) → filesTest store m files ≡ 0
+        → map (λ file. folded flag (restored store file)) files ≡ map (λ file. folded flag (restored other file)) files
+    same-texts flag [] e = refl
+    same-texts flag (file ∷ files) e =
+        let p = files-cons (storeKeys store) (sizeAt storeLayout store) m file files e in
+        let g = file-accepted (storeKeys store) (sizeAt storeLayout store) m file (p .0) in
+        rw (same-text file (g .known), same-texts flag files (p .1))
+
+    -- where every file is accepted, the direct search is the same
+    pub same-search : (list recipes : List ℕ) → filesTest store m (filesOf recipes) ≡ 0 → directSearch list store recipes ≡ directSearch list other recipes
+    unfolding directSearch
+    same-search list recipes e = ap (occurrencesInAll 0 (foldedKeywords list)) (same-texts (flagOf list) (filesOf recipes) e)
+
+  -- ---- the search
+
+  module _ (f : Form) (list recipes : List ℕ) (room : ℕ) where
+    pub same-join-code : searchJoinCode f list store recipes room ≡ searchJoinCode f list other recipes room
+    unfolding searchJoinCode
+    same-join-code =
+        last-test (recipesCode recipes) (filesTest store (innerLeast f list) (filesOf recipes)) (filesTest other (innerLeast f list) (filesOf recipes)) 18 _ _
+        (same-files (innerLeast f list) (filesOf recipes))
+        (λ z. ap (λ (l : List Occurrence). ltb room (9 * length l)) (same-search (innerLeast f list) list recipes z))
+
+    -- where its number is 0 the lists are the same
+    pub same-list : searchJoinCode f list store recipes room ≡ 0 → directSearch list store recipes ≡ directSearch list other recipes
+    unfolding searchJoinCode
+    same-list e =
+        let c = passed-whole (recipesCode recipes) _ e in
+        same-search (innerLeast f list) list recipes (passed-whole (filesTest store (innerLeast f list) (filesOf recipes)) _ (c .1) .0)
+
+    same-list-back : searchJoinCode f list other recipes room ≡ 0 → directSearch list store recipes ≡ directSearch list other recipes
+    same-list-back e = same-list (same-join-code ∙ e)
+
+    -- the scans are both done, or refused alike
+    module _ (indexRoom indexRoom₂ : ℕ) (e : scanCode f list store indexRoom ≡ scanCode f list other indexRoom₂) where
+      pub same-chunks-search : searchOutcome f list store recipes indexRoom room ≡ searchOutcome f list other recipes indexRoom₂ room
+      unfolding searchOutcome
+      same-chunks-search =
+          rw (e, same-index-length f list, same-join-code)
+          (searched (scanCode f list other indexRoom₂) (searchJoinCode f list other recipes room) (length (scanIndex f list other)) _ _
+          (λ z. ap length (same-list-back z)))
+
+      same-search-code : searchCode f list store recipes indexRoom room ≡ searchCode f list other recipes indexRoom₂ room
+      unfolding searchCode
+      same-search-code = rw (e, same-join-code)
+
+      pub same-chunks-direct : searchCode f list store recipes indexRoom room ≡ 0 → directSearch list store recipes ≡ directSearch list other recipes
+      unfolding searchCode
+      same-chunks-direct z = same-list (passed-whole (searchJoinCode f list store recipes room) _ (passed-whole (scanCode f list store indexRoom) _ z .1) .0)
+
+  module _ (f : Form) (list recipes out : List ℕ) (indexRoom indexRoom₂ : ℕ) (e : scanCode f list store indexRoom ≡ scanCode f list other indexRoom₂) where
+    pub same-chunks-search-buffer : searchBuffer f list store recipes indexRoom out ≡ searchBuffer f list other recipes indexRoom₂ out
+    unfolding searchBuffer
+    same-chunks-search-buffer =
+        let same-code = same-search-code f list recipes (length out) indexRoom indexRoom₂ e in
+        buffer-same _ _ _ _ out same-code
+        (λ z. ap (λ (l : List Occurrence). written out (listBytes l)) (same-chunks-direct f list recipes (length out) indexRoom indexRoom₂ e (same-code ∙ z)))
+
+  -- ---- bodies, of two indexes that read as the stores' scans
+
+  module _ (f : Form) (list index otherIndex : List ℕ) (r : ScanReads f list store index) (s : ScanReads f list other otherIndex) (key : List ℕ) where
+    pub same-find-body : findBody f index key ≡ findBody f otherIndex key
+    unfolding findBody
+    same-find-body = rw (r .passes, s .passes, r .keys, s .keys, a .known key)
+
+    known-body : knows store key ≡ true → bodyAt index (positionOf key (indexKeys index)) ≡ bodyAt otherIndex (positionOf key (indexKeys otherIndex))
+    known-body c =
+        rw (r .keys, s .keys)
+        (r .bodies (placeOf store key) (place-in store key c)
+        ∙ ap (scanBody f list) (a .named key c)
+        ∙ sym (s .bodies (placeOf other key) (place-in other key (sym (a .known key) ∙ c))))
+
+    pub same-body : bodyOf f index key ≡ bodyOf f otherIndex key
+    unfolding bodyOf bodyStart bodyLength findBody bodyAt
+    same-body =
+        slice-is (indexCode f index) (indexLayout index) index (indexKeys index) key
+        ∙ buffer-same (findBody f index key) (findBody f otherIndex key) _ _ [] same-find-body
+        (λ z. known-body (ap (contains key) (sym (r .keys)) ∙ lookup-known (indexCode f index) (indexKeys index) key (same-find-body ∙ z)))
+        ∙ sym (slice-is (indexCode f otherIndex) (indexLayout otherIndex) otherIndex (indexKeys otherIndex) key)
+
+  -- ---- joins, of two indexes that scans wrote in full
+
+  module _ (list buffer buffer₂ : List ℕ) (e : scanCode form1 list store (length buffer) ≡ 0) (e₂ : scanCode form1 list other (length buffer₂) ≡ 0) where
+    abbrev index : List ℕ
+    index = scanned list store buffer
+
+    abbrev otherIndex : List ℕ
+    otherIndex = scanned list other buffer₂
+
+    reads : ScanReads form1 list store index
+    reads = rw (scanned-is list store buffer e) (scan-done-reads form1 form1-scans list store (length buffer) e)
+
+    other-reads : ScanReads form1 list other otherIndex
+    other-reads = rw (scanned-is list other buffer₂ e₂) (scan-done-reads form1 form1-scans list other (length buffer₂) e₂)
+
+    pub same-chunks-join : (recipes : List ℕ) (room : ℕ) → joinOutcome form1 index recipes room ≡ joinOutcome form1 otherIndex recipes room
+    same-chunks-join recipes room =
+        join-outcome list store (length buffer) e index recipes room (scanned-is list store buffer e)
+        ∙ answer-same _ _ _ _ (same-join-code form1 list recipes room) (λ z. ap length (same-list-back form1 list recipes room z))
+        ∙ sym (join-outcome list other (length buffer₂) e₂ otherIndex recipes room (scanned-is list other buffer₂ e₂))
+
+    pub same-chunks-join-buffer : (recipes out : List ℕ) → joinBuffer form1 index recipes out ≡ joinBuffer form1 otherIndex recipes out
+    same-chunks-join-buffer recipes out =
+        join-buffer list store (length buffer) e index recipes out (scanned-is list store buffer e)
+        ∙ buffer-same _ _ _ _ out (same-join-code form1 list recipes (length out))
+        (λ z. ap (λ (l : List Occurrence). written out (listBytes l)) (same-list-back form1 list recipes (length out) z))
+        ∙ sym (join-buffer list other (length buffer₂) e₂ otherIndex recipes out (scanned-is list other buffer₂ e₂))
+
+    pub same-chunks-list : (recipes out out₂ : List ℕ) → length out ≡ length out₂ → codeOf (joinOutcome form1 index recipes (length out)) ≡ 0
+        → readList (valueOf (joinOutcome form1 index recipes (length out))) (joinBuffer form1 index recipes out)
+        ≡ readList (valueOf (joinOutcome form1 otherIndex recipes (length out₂))) (joinBuffer form1 otherIndex recipes out₂)
+    same-chunks-list recipes out out₂ l z =
+        let s = join-of-scan list store recipes buffer out e in
+        let t = join-of-scan list other recipes buffer₂ out₂ e₂ in
+        let o : joinOutcome form1 index recipes (length out) ≡ joinOutcome form1 otherIndex recipes (length out₂) =
+        same-chunks-join recipes (length out) ∙ ap (joinOutcome form1 otherIndex recipes) l in
+        s .listed z ∙ same-search (innerLeast form1 list) list recipes (s .done .0 z .1) ∙ sym (t .listed (ap codeOf (sym o) ∙ z))
+
+    pub answer-alike : AnswerAlike index otherIndex
+    answer-alike =
+        record {
+          find = same-find-body form1 list index otherIndex reads other-reads;
+          body = same-body form1 list index otherIndex reads other-reads;
+          outcome = same-chunks-join;
+          bytes = same-chunks-join-buffer;
+          listed = same-chunks-list;
+        }
+
+-- ---- the claim
+
+scan-number : (list store : List ℕ) (room : ℕ) → codeOf (scanOutcome form1 list store room) ≡ scanCode form1 list store room
+unfolding scanOutcome
+scan-number list store room = code-of-answer (scanCode form1 list store room) (length (scanIndex form1 list store))
+
+-- Request #101: two accepted stores that hold the same fingerprints with the same bytes, in any two orders.
+pub same-chunks : (list store other : List ℕ) → storeCode store ≡ 0 → storeCode other ≡ 0 → sameChunks store other ≡ true → SameChunks list store other
+unfolding scanOutcome
+same-chunks list store other p q s =
+    let a = stores-alike store other p q s in
+    record {
+      find = same-find store other a;
+      chunk = same-chunk store other a;
+      count = same-count store other a;
+      scan = λ room. ap₂ answer (same-scan-code store other a form1 list room) (same-index-length store other a form1 list);
+      indexes = λ buffer buffer₂ e e₂.
+          answer-alike store other a list buffer buffer₂
+          (sym (scan-number list store (length buffer)) ∙ e)
+          (sym (scan-number list other (length buffer₂)) ∙ e₂);
+      search = λ indexRoom indexRoom₂ e.
+          let c : scanCode form1 list store indexRoom ≡ scanCode form1 list other indexRoom₂ =
+          sym (scan-number list store indexRoom) ∙ e ∙ scan-number list other indexRoom₂ in
+          record {
+            outcome = λ recipes room. same-chunks-search store other a form1 list recipes room indexRoom indexRoom₂ c;
+            bytes = λ recipes out. same-chunks-search-buffer store other a form1 list recipes out indexRoom indexRoom₂ c;
+            listed = λ recipes room. same-chunks-direct store other a form1 list recipes room indexRoom indexRoom₂ c;
+          };
+    }
+
+-- The small vault in another order is accepted and has the same chunks, elsewhere; another byte, or a chunk less, and it has not.
+pub small-reordered : (storeCode smallReordered ≡ 0) × (sameChunks vault smallReordered ≡ true)
+    × (chunkStart vault (fingerprint 3) ≡ 99) × (chunkStart smallReordered (fingerprint 3) ≡ 92)
+    × (sameChunks (oneChunk (0x41 ∷ [])) (oneChunk (0x42 ∷ [])) ≡ false) × (sameChunks (oneChunk (0x58 ∷ 0x41 ∷ 0x42 ∷ [])) vault ≡ false)
+unfolding definitions storedChunks sameChunks chunkStart
+small-reordered = (refl, refl, refl, refl, refl, refl)

@@ -1,0 +1,129 @@
+-- The three demands on the base, as statements about the definitions that the contracts of the operations cite: `demand-1`, `demand-2` and
+-- `demand-3` (proofs/Demands) prove them. That every operation takes all inputs and ends is what its contract says, which has no `requires`.
+use mathlib.Core.Path.{_≡_}
+use mathlib.Core.Logic.{_↔_, _≢_}
+use mathlib.Core.Bool.{true}
+use mathlib.Core.List.{List, [], _∷_}
+use Prim.Native.Nat.{ℕ, _+_, _≤_, _<_}
+use lib.ListN.{length, take, getD}
+use Rattle.spec.specs.declared.Outcome.{Outcome}
+use Rattle.spec.specs.declared.Outcome.the-variants.{Done, Refused}
+use Rattle.spec.specs.Bytes.{AllBytes, written, member}
+use Rattle.spec.specs.Outcome.{codeOf, valueOf}
+use Rattle.spec.specs.Keywords.{flagOf, foldByte, folded, keywordsOf, foldedKeywords, keywordCode}
+use Rattle.spec.specs.Store.{chunkCount, chunkAt, storeCode}
+use Rattle.spec.specs.Records.{form1, recordAt}
+use Rattle.spec.specs.Index.{indexRecords, indexCode}
+use Rattle.spec.specs.Recipes.{filesOf}
+use Rattle.spec.specs.Join.{Occurrence, keywordAt, joinList, listBytes, readList, joinCode, joinOutcome, joinBuffer}
+use Rattle.spec.specs.Lookup.{findChunk, chunkStart, chunkOf, findBody, bodyStart, bodyOf}
+use Rattle.spec.specs.Scan.{scanIndex, scanCode, scanOutcome, scanBuffer}
+use Rattle.spec.specs.Search.{restored, directSearch, searchJoinCode, searchCode, searchOutcome, searchBuffer, searchedCode}
+use Rattle.theory.specs.SearchList.{isIn, inOrder}
+use Rattle.theory.specs.Published.{Published}
+use Rattle.theory.specs.RecordSets.{Said, nothing, AllFitting, Says, scannedRecords, WrittenOnce}
+use Rattle.theory.specs.Demand3.{NoScanRefusal, NoJoinRefusal, scanned}
+
+-- ---- demand 1: an operation does its work, or refuses with document 01's number and changes no byte
+
+-- An operation whose tests give `code`, on a buffer that it is lent: done with its value and its work in the buffer, or refused with the number
+-- alone and every byte of the buffer as it was.
+pub record Answered (code value : ℕ) (worked buffer : List ℕ) (outcome : Outcome) (after : List ℕ) : Type 0 where
+  pub done : code ≡ 0 → (outcome ≡ Done value) × (after ≡ worked)
+  pub refused : code ≢ 0 → (outcome ≡ Refused code) × (after ≡ buffer)
+
+-- A search is a scan into one buffer and a join into another: a refusal of the join comes after the scan's work.
+pub record SearchAnswered (list store recipes index out : List ℕ) : Type 0 where
+  -- its number is the scan's, or where that is 0 the join's
+  pub number : searchedCode (searchOutcome form1 list store recipes (length index) (length out))
+      ≡ searchCode form1 list store recipes (length index) (length out)
+  -- a refusal of either leaves the list buffer as it was; one of the scan leaves the index buffer too
+  pub listKept : searchCode form1 list store recipes (length index) (length out) ≢ 0 → searchBuffer form1 list store recipes (length index) out ≡ out
+  pub indexKept : scanCode form1 list store (length index) ≢ 0 → scanBuffer form1 list store index ≡ index
+
+-- A refused lookup shows the empty slice at the start.
+pub record LookupAnswered (code start : ℕ) (slice : List ℕ) : Type 0 where
+  pub empty : code ≢ 0 → (start ≡ 0) × (slice ≡ [])
+
+-- The number of each check and operation is 0 or one of those that document 01 gives it.
+pub record Numbers : Type 0 where
+  pub keywords : (list : List ℕ) → member (keywordCode list) (0 ∷ 1 ∷ 2 ∷ 3 ∷ 4 ∷ []) ≡ true
+  pub store : (store : List ℕ) → member (storeCode store) (0 ∷ 5 ∷ 6 ∷ 7 ∷ 8 ∷ []) ≡ true
+  pub scan : (list store : List ℕ) (room : ℕ) → member (scanCode form1 list store room) (0 ∷ 1 ∷ 2 ∷ 3 ∷ 4 ∷ 5 ∷ 6 ∷ 7 ∷ 8 ∷ 9 ∷ []) ≡ true
+  pub index : (index : List ℕ) → member (indexCode form1 index) (0 ∷ 1 ∷ 2 ∷ 3 ∷ 4 ∷ 10 ∷ 11 ∷ 12 ∷ 13 ∷ []) ≡ true
+  pub join : (index recipes : List ℕ) (room : ℕ)
+      → member (joinCode form1 index recipes room) (0 ∷ 1 ∷ 2 ∷ 3 ∷ 4 ∷ 10 ∷ 11 ∷ 12 ∷ 13 ∷ 14 ∷ 15 ∷ 16 ∷ 17 ∷ 18 ∷ []) ≡ true
+  pub search : (list store recipes : List ℕ) (indexRoom room : ℕ)
+      → member (searchCode form1 list store recipes indexRoom room) (0 ∷ 1 ∷ 2 ∷ 3 ∷ 4 ∷ 5 ∷ 6 ∷ 7 ∷ 8 ∷ 9 ∷ 14 ∷ 15 ∷ 16 ∷ 17 ∷ 18 ∷ []) ≡ true
+  pub chunk : (store key : List ℕ) → member (findChunk store key) (0 ∷ 5 ∷ 6 ∷ 7 ∷ 8 ∷ 15 ∷ 19 ∷ []) ≡ true
+  pub body : (index key : List ℕ) → member (findBody form1 index key) (0 ∷ 1 ∷ 2 ∷ 3 ∷ 4 ∷ 10 ∷ 11 ∷ 12 ∷ 13 ∷ 15 ∷ 19 ∷ []) ≡ true
+
+pub record Demand1 : Type 0 where
+  pub scan : (list store buffer : List ℕ)
+      → Answered (scanCode form1 list store (length buffer)) (length (scanIndex form1 list store)) (written buffer (scanIndex form1 list store)) buffer
+      (scanOutcome form1 list store (length buffer)) (scanBuffer form1 list store buffer)
+  pub join : (index recipes buffer : List ℕ)
+      → Answered (joinCode form1 index recipes (length buffer)) (length (joinList form1 index recipes))
+      (written buffer (listBytes (joinList form1 index recipes))) buffer
+      (joinOutcome form1 index recipes (length buffer)) (joinBuffer form1 index recipes buffer)
+  pub search : (list store recipes index out : List ℕ) → SearchAnswered list store recipes index out
+  pub chunk : (store key : List ℕ) → LookupAnswered (findChunk store key) (chunkStart store key) (chunkOf store key)
+  pub body : (index key : List ℕ) → LookupAnswered (findBody form1 index key) (bodyStart form1 index key) (bodyOf form1 index key)
+  pub numbers : Numbers
+
+-- ---- demand 2: the records are the published method's, read back as the same, and have one written form
+
+pub record Demand2 : Type 0 where
+  -- what is read from a scan's buffer is, for each chunk and keyword, the published record
+  pub published : (list store buffer : List ℕ) → codeOf (scanOutcome form1 list store (length buffer)) ≡ 0
+      → (k w : ℕ) → k < chunkCount store → w < length (foldedKeywords list)
+      → Published (keywordAt (foldedKeywords list) w) (folded (flagOf list) (chunkAt store k)) (recordAt (indexRecords form1 (scanned list store buffer) k) w)
+  -- the scan's index says these records, in the store's order, under the fingerprints of the chunks
+  pub says : (list store buffer : List ℕ) → codeOf (scanOutcome form1 list store (length buffer)) ≡ 0
+      → Says form1 list (scannedRecords list store) (scanned list store buffer)
+  -- each set of records that fits an index (keyword list and fingerprints are bytes) reads back, and has one written form
+  pub once : (list : List ℕ) (said : List Said) → AllFitting form1 list said → AllBytes list
+      → ((k : ℕ) → k < length said → AllBytes (getD said k nothing .key)) → WrittenOnce list said
+
+-- ---- demand 3: a scan and a join of what it wrote list exactly the occurrences in the restored files
+
+-- A keyword "stands at" an offset of some bytes when its bytes from there all lie within them and each compares alike with the keyword's byte
+-- in its place (document 01, "Words").
+pub record StandsAt (flag : ℕ) (keyword text : List ℕ) (at : ℕ) : Type 0 where
+  pub within : at + length keyword ≤ length text
+  pub alike : (i : ℕ) → i < length keyword → foldByte flag (getD text (at + i) 0) ≡ foldByte flag (getD keyword i 0)
+
+-- It is one of the list's keywords, and stands at that offset of that file's joined chunks.
+pub record StandsIn (list store recipes : List ℕ) (o : Occurrence) : Type 0 where
+  pub file : o .file < length (filesOf recipes)
+  pub keyword : o .keyword < length (keywordsOf list)
+  pub stands : StandsAt (flagOf list) (keywordAt (keywordsOf list) (o .keyword)) (restored store (getD (filesOf recipes) (o .file) [])) (o .offset)
+
+-- What the contracts of scan::scan and join::join say of two calls: their answers, and their buffers after (buffer′, out′).
+pub record Calls (list store recipes buffer out : List ℕ) (scan join : Outcome) (buffer′ index out′ : List ℕ) : Type 0 where
+  pub scanned : scan ≡ scanOutcome form1 list store (length buffer)
+  pub wrote : buffer′ ≡ scanBuffer form1 list store buffer
+  -- the join's index: the bytes that the scan wrote, of the length it reported, in the scan's buffer or a copy
+  pub handed : index ≡ take (valueOf scan) buffer′
+  pub joined : join ≡ joinOutcome form1 index recipes (length out)
+  pub listed : out′ ≡ joinBuffer form1 index recipes out
+
+-- What then holds of the answers and of the list buffer.
+pub record Claim (list store recipes buffer out : List ℕ) (scan join : Outcome) (out′ : List ℕ) : Type 0 where
+  -- both do their work exactly when no refusal of either holds
+  pub both : ((codeOf scan ≡ 0) × (codeOf join ≡ 0)) ↔ (NoScanRefusal list store (length buffer) × NoJoinRefusal list store recipes (length out))
+  -- and then the list holds a file, an offset and a keyword exactly when the keyword stands there
+  pub exactly : codeOf scan ≡ 0 → codeOf join ≡ 0 → (o : Occurrence) → (isIn o (readList (valueOf join) out′) ≡ true) ↔ StandsIn list store recipes o
+  -- it rises by file, then offset, then keyword
+  pub ordered : codeOf scan ≡ 0 → codeOf join ≡ 0 → inOrder (readList (valueOf join) out′) ≡ true
+  -- each is there once
+  pub once : codeOf scan ≡ 0 → codeOf join ≡ 0 → (i j : ℕ) (none : Occurrence) → i < j → j < valueOf join
+      → getD (readList (valueOf join) out′) i none ≢ getD (readList (valueOf join) out′) j none
+  -- the count is the list's length
+  pub count : codeOf scan ≡ 0 → codeOf join ≡ 0 → valueOf join ≡ length (directSearch list store recipes)
+  -- it is the direct search's list
+  pub found : codeOf scan ≡ 0 → codeOf join ≡ 0 → readList (valueOf join) out′ ≡ directSearch list store recipes
+
+pub record Demand3 : Type 0 where
+  pub calls : (list store recipes buffer out : List ℕ) (scan join : Outcome) (buffer′ index out′ : List ℕ)
+      → Calls list store recipes buffer out scan join buffer′ index out′ → Claim list store recipes buffer out scan join out′
