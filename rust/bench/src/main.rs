@@ -46,7 +46,7 @@ fn main() {
         eprintln!("usage: bench [MEGABYTES] [ROUNDS] [--fresh] [--no-plain] [--directories]");
         std::process::exit(64);
     };
-    vault::on_large_stack(|| run(&options));
+    vault::on_large_stack(|| run(&options)).expect("a thread can be started");
 }
 
 fn run(options: &Options) {

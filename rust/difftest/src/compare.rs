@@ -83,6 +83,15 @@ impl Comparison<'_> {
         Ok(())
     }
 
+    /// A number that held the pattern and now has the value told, or the pattern still if none was told.
+    fn told(&mut self, call: &'static str, what: &str, number: &Number, want: Option<u64>) -> Verdict {
+        match want {
+            Some(value) => self.number(call, what, number.now, value),
+            None if number.now == number.pattern => Ok(()),
+            None => Err(format!("{call}: {what} was changed to {} by a refusal", number.now)),
+        }
+    }
+
     /// A buffer that held the pattern and now has these bytes in front.
     fn buffer(&mut self, call: &'static str, buffer: &[u8], salt: u8, front: &[u8]) -> Verdict {
         self.tally.bytes += buffer.len() as u64;
@@ -122,18 +131,20 @@ impl Comparison<'_> {
         self.code("check_keywords", raw::check_keywords(list), calls::check_keywords(list))?;
         self.code("check_store", raw::check_store(bytes), calls::check_store(bytes))?;
         let want = calls::index_of(list, bytes);
-        let (code, length) = raw::scan_size(list, bytes);
+        let mut size = Number::new(self.rng);
+        let code = raw::scan_size(list, bytes, &mut size.now);
         self.code("scan_size", code, want.as_ref().err().copied().unwrap_or(0))?;
         let exact = want.as_ref().map_or(0, |index| index.len() as u64);
-        self.number("scan_size", "length", length, exact)?;
+        self.told("scan_size", "length", &size, want.is_ok().then_some(exact))?;
         let lengths = if want.is_ok() { self.lengths(exact) } else { vec![0, self.rng.below(300)] };
         for length in lengths {
             let salt = self.rng.byte();
             let mut out = pattern(salt, length);
-            let (code, written) = raw::scan(list, bytes, &mut out);
+            let mut written = Number::new(self.rng);
+            let code = raw::scan(list, bytes, &mut out, &mut written.now);
             let (want_code, front) = fits(&want, length, 9);
             self.code("scan", code, want_code)?;
-            self.number("scan", "length", written, front.len() as u64)?;
+            self.told("scan", "length", &written, (want_code == 0).then_some(front.len() as u64))?;
             self.buffer("scan", &out, salt, front)?;
         }
         Ok(want)
@@ -145,9 +156,10 @@ impl Comparison<'_> {
         self.code("check_index", raw::check_index(bytes), index.as_ref().err().copied().unwrap_or(0))?;
         let joined = index.as_ref().map_err(|code| *code).and_then(|index| Joined::new(index, recipes));
         let count = joined.as_ref().map(Joined::count).map_err(|code| *code);
-        let (code, counted) = raw::count(bytes, recipes);
+        let mut counted = Number::new(self.rng);
+        let code = raw::count(bytes, recipes, &mut counted.now);
         self.code("count", code, count.err().unwrap_or(0))?;
-        self.number("count", "count", counted, count.unwrap_or(0))?;
+        self.told("count", "count", &counted, count.ok())?;
         let exact = 9 * count.unwrap_or(0);
         // Beyond the limit no list is made: every buffer that is tried is too short.
         let list = match &joined {
@@ -164,10 +176,11 @@ impl Comparison<'_> {
         for length in lengths {
             let salt = self.rng.byte();
             let mut out = pattern(salt, length);
-            let (code, counted) = raw::join(bytes, recipes, &mut out);
+            let mut counted = Number::new(self.rng);
+            let code = raw::join(bytes, recipes, &mut out, &mut counted.now);
             let (want_code, front) = fits(&list, length, 18);
             self.code("join", code, want_code)?;
-            self.number("join", "count", counted, front.len() as u64 / 9)?;
+            self.told("join", "count", &counted, (want_code == 0).then_some(front.len() as u64 / 9))?;
             self.buffer("join", &out, salt, front)?;
         }
         Ok(())
@@ -210,12 +223,13 @@ impl Comparison<'_> {
         for (length, room) in tries {
             let (salt, pepper) = (self.rng.byte(), self.rng.byte());
             let (mut indexed, mut out) = (pattern(salt, length), pattern(pepper, room));
-            let (code, index_length, count) = raw::search(list, bytes, recipes, &mut indexed, &mut out);
+            let (mut scanned, mut count) = (Number::new(self.rng), Number::new(self.rng));
+            let code = raw::search(list, bytes, recipes, (&mut indexed, &mut out), (&mut scanned.now, &mut count.now));
             let (scan_code, index_front) = fits(index, length, 9);
             let (join_code, front) = if scan_code == 0 { fits(&rows, room, 18) } else { (scan_code, &[][..]) };
             self.code("search", code, join_code)?;
-            self.number("search", "index length", index_length, index_front.len() as u64)?;
-            self.number("search", "count", count, front.len() as u64 / 9)?;
+            self.told("search", "index length", &scanned, (scan_code == 0).then_some(index_front.len() as u64))?;
+            self.told("search", "count", &count, (join_code == 0).then_some(front.len() as u64 / 9))?;
             self.buffer("search's index", &indexed, salt, index_front)?;
             self.buffer("search's list", &out, pepper, front)?;
         }
@@ -239,6 +253,19 @@ impl Comparison<'_> {
         }
         self.tally.direct += 1;
         Ok(())
+    }
+}
+
+/// A number behind a pointer: what it held before the call, and what it holds.
+struct Number {
+    pattern: u64,
+    now: u64,
+}
+
+impl Number {
+    fn new(rng: &mut Rng) -> Number {
+        let pattern = rng.next();
+        Number { pattern, now: pattern }
     }
 }
 

@@ -24,6 +24,15 @@ fn key(k: usize) -> Fingerprint {
     key
 }
 
+/// What a number holds before a call.
+const UNTOLD: u64 = 0xA5A5_A5A5_A5A5_A5A5;
+
+/// A call's code and number.
+fn answer(call: impl FnOnce(&mut u64) -> u8) -> (u8, u64) {
+    let mut number = UNTOLD;
+    (call(&mut number), number)
+}
+
 /// All steps, or the one of that number from 1.
 pub fn run(step: u64) -> Verdict {
     let steps: [fn() -> Verdict; 4] = [longest_store, || longest_index(0), || longest_index(1), longer_than_a_scan_writes];
@@ -60,19 +69,19 @@ fn longest_store() -> Verdict {
     same("store check", raw::check_store(&bytes), 0)?;
     same("store check, a byte short", raw::check_store(&bytes[..bytes.len() - 1]), 7)?;
     let want = calls::index_of(&words, &bytes).map_err(|code| format!("the oracle refuses with {code}"))?;
-    same("scan_size", raw::scan_size(&words, &bytes), (0, want.len() as u64))?;
+    same("scan_size", answer(|length| raw::scan_size(&words, &bytes, length)), (0, want.len() as u64))?;
     let mut out = vec![0xEE; want.len() + 5];
-    same("scan", raw::scan(&words, &bytes, &mut out), (0, want.len() as u64))?;
+    same("scan", answer(|length| raw::scan(&words, &bytes, &mut out, length)), (0, want.len() as u64))?;
     same("the index is the oracle's", out[..want.len()] == want && out[want.len()..] == [0xEE; 5], true)?;
     same("last chunk", raw::chunk(&bytes, &key(count - 1)), (0, 4_261_595_008 - 65_535, 65_535))?;
     // One file of all chunks, backwards: offsets up to 4,259,775,000.
     let files = [(0..count).rev().map(key).collect::<Vec<_>>(), vec![key(0); 2]];
     let recipes = recipes::encode(&files);
     let mut expected = vec![0; 9 * 120_000];
-    let joined = calls::join(&want, &recipes, &mut expected);
-    expected.truncate(9 * joined.value as usize);
+    let joined = answer(|count| calls::join(&want, &recipes, &mut expected, count));
+    expected.truncate(9 * joined.1 as usize);
     let mut out = vec![0xEE; expected.len()];
-    same("join", raw::join(&want, &recipes, &mut out), (joined.code, joined.value))?;
+    same("join", answer(|count| raw::join(&want, &recipes, &mut out, count)), joined)?;
     same("the list is the oracle's", out == expected, true)?;
     let twin = 8 + 28 * (count - 1);
     bytes.copy_within(8..28, twin);
@@ -103,14 +112,14 @@ fn longest_index(more: u64) -> Verdict {
     }
     (0..odd).for_each(|_| chunks.push((key(chunks.len()), b"xAx".to_vec())));
     let bytes = store::encode(&chunks);
-    same("scan_size", raw::scan_size(&words, &bytes), (0, U32 + more))?;
+    same("scan_size", answer(|length| raw::scan_size(&words, &bytes, length)), (0, U32 + more))?;
     let mut out = vec![0; (U32 + more) as usize + 3];
     if more > 0 {
-        same("scan", raw::scan(&words, &bytes, &mut out), (9, 0))?;
+        same("scan", answer(|length| raw::scan(&words, &bytes, &mut out, length)), (9, UNTOLD))?;
         return same("nothing is written", out.iter().all(|b| *b == 0), true);
     }
-    same("scan, a byte short", raw::scan(&words, &bytes, &mut out[..U32 as usize - 1]), (9, 0))?;
-    same("scan", raw::scan(&words, &bytes, &mut out), (0, U32))?;
+    same("scan, a byte short", answer(|length| raw::scan(&words, &bytes, &mut out[..U32 as usize - 1], length)), (9, UNTOLD))?;
+    same("scan", answer(|length| raw::scan(&words, &bytes, &mut out, length)), (0, U32))?;
     // The oracle's bodies, each once.
     let read = keywords::read(&words).map_err(|code| format!("the oracle refuses with {code}"))?;
     let mut bodies: HashMap<&[u8], Vec<u8>> = HashMap::new();
@@ -130,7 +139,7 @@ fn longest_index(more: u64) -> Verdict {
     same("last body", raw::body(&out, &key(last)), (0, U32 - 7, 7))?;
     // Over 16 keywords, L times A has 16 x L - 120 occurrences.
     let recipes = recipes::encode(&[vec![key(last), key(0), key(last)]]);
-    same("count", raw::count(&out, &recipes), (0, 16 * 65_535 - 120 + 2))
+    same("count", answer(|count| raw::count(&out, &recipes, count)), (0, 16 * 65_535 - 120 + 2))
 }
 
 /// No scan writes it, but an index may end beyond 32 bits as long as its last body starts within them.
@@ -147,7 +156,7 @@ fn longer_than_a_scan_writes() -> Verdict {
     same("last body", raw::body(&bytes, &key(2048)), (0, end - body.len() as u64, body.len() as u64))?;
     let recipes = recipes::encode(&[vec![key(2048), key(0)]]);
     // Two chunks of A, and what crosses: n - 1 starts for a keyword of n.
-    same("count", raw::count(&bytes, &recipes), (0, 2 * (16 * 65_535 - 120) + 120))?;
+    same("count", answer(|count| raw::count(&bytes, &recipes, count)), (0, 2 * (16 * 65_535 - 120) + 120))?;
     same("index check, a byte short", raw::check_index(&bytes[..bytes.len() - 1]), 11)?;
     // One more entry's offset would not fit 4 bytes: it is wrong, whatever it says.
     let entries: Vec<(Fingerprint, u64, &[u8])> =

@@ -52,19 +52,23 @@ fn arguments() -> Result<Arguments, String> {
 
 fn main() -> ExitCode {
     match arguments() {
-        Ok(arguments) if arguments.huge => match vault::on_large_stack(|| huge::run(arguments.cases)) {
+        Ok(arguments) if arguments.huge => match on_large_stack(|| huge::run(arguments.cases)) {
             Ok(()) => ExitCode::SUCCESS,
             Err(why) => {
                 println!("DIFFERENCE: {why}");
                 ExitCode::FAILURE
             }
         },
-        Ok(arguments) => vault::on_large_stack(|| run(&arguments)),
+        Ok(arguments) => on_large_stack(|| run(&arguments)),
         Err(why) => {
             eprintln!("{why}\nusage: difftest [CASES] [SEED] [--quick] [--case K]\n       difftest --huge [STEP]");
             ExitCode::from(2)
         }
     }
+}
+
+fn on_large_stack<T: Send>(work: impl FnOnce() -> T + Send) -> T {
+    vault::on_large_stack(work).expect("a thread can be started")
 }
 
 /// A random case: sound, damaged in one input, in two, made up, or noise.

@@ -1,4 +1,5 @@
-//! The operations in the shape of the C interface: a code (0: done), a number (0 on refusal), and lent buffers.
+//! The operations in the shape of the C interface: a code (0: done), and lent buffers and numbers. A refusal leaves these as
+//! they were.
 
 use crate::index::Index;
 use crate::join::Joined;
@@ -6,19 +7,14 @@ use crate::store::Chunk;
 use crate::{index, join, keywords, store, Code, U32};
 use std::ops::Range;
 
-/// A call's code, and its length or count.
-#[derive(Clone, Copy, Debug, PartialEq, Eq)]
-pub struct Answer {
-    pub code: Code,
-    pub value: u64,
-}
-
-impl From<Result<u64, Code>> for Answer {
-    fn from(result: Result<u64, Code>) -> Answer {
-        match result {
-            Ok(value) => Answer { code: 0, value },
-            Err(code) => Answer { code, value: 0 },
+/// A call's code; its length or count goes to the lent number where the call is done.
+fn told(result: Result<u64, Code>, number: &mut u64) -> Code {
+    match result {
+        Ok(value) => {
+            *number = value;
+            0
         }
+        Err(code) => code,
     }
 }
 
@@ -45,16 +41,16 @@ pub fn index_of(list: &[u8], store: &[u8]) -> Result<Vec<u8>, Code> {
     Ok(index::of_scan(list, &keywords, store, &chunks))
 }
 
-pub fn scan_size(list: &[u8], store: &[u8]) -> Answer {
+pub fn scan_size(list: &[u8], store: &[u8], length: &mut u64) -> Code {
     let size = || {
         let keywords = keywords::read(list)?;
         let chunks = store::read(store)?;
         Ok(index::length_of_scan(&keywords, store, &chunks))
     };
-    size().into()
+    told(size(), length)
 }
 
-pub fn scan(list: &[u8], store: &[u8], out: &mut [u8]) -> Answer {
+pub fn scan(list: &[u8], store: &[u8], out: &mut [u8], length: &mut u64) -> Code {
     let mut run = || {
         let bytes = index_of(list, store)?;
         if bytes.len() as u64 > U32 {
@@ -62,7 +58,7 @@ pub fn scan(list: &[u8], store: &[u8], out: &mut [u8]) -> Answer {
         }
         put(out, &bytes, 9)
     };
-    run().into()
+    told(run(), length)
 }
 
 /// Writes bytes to the buffer's front; the code given, and nothing written, if they are more than it holds.
@@ -74,26 +70,26 @@ fn put(out: &mut [u8], bytes: &[u8], too_long: Code) -> Result<u64, Code> {
     Ok(bytes.len() as u64)
 }
 
-pub fn count(bytes: &[u8], recipes: &[u8]) -> Answer {
+pub fn count(bytes: &[u8], recipes: &[u8], count: &mut u64) -> Code {
     let run = || {
         let index = index::read(bytes)?;
         Ok(Joined::new(&index, recipes)?.count())
     };
-    run().into()
+    told(run(), count)
 }
 
-pub fn join(bytes: &[u8], recipes: &[u8], out: &mut [u8]) -> Answer {
+pub fn join(bytes: &[u8], recipes: &[u8], out: &mut [u8], count: &mut u64) -> Code {
     let mut run = || {
         let index = index::read(bytes)?;
         let joined = Joined::new(&index, recipes)?;
-        let count = joined.count();
-        if 9 * count > out.len() as u64 {
+        let found = joined.count();
+        if 9 * found > out.len() as u64 {
             return Err(18);
         }
         put(out, &join::encode(&joined.list()), 18)?;
-        Ok(count)
+        Ok(found)
     };
-    run().into()
+    told(run(), count)
 }
 
 /// Where a fingerprint's chunk lies in the store.
@@ -124,14 +120,19 @@ pub fn body_in(index: &Result<Index, Code>, key: &[u8]) -> Result<Range<usize>, 
     index.entries.iter().find(|e| e.key == *key).map(|e| e.body.clone()).ok_or(15)
 }
 
-/// A scan and then a join of what it wrote: a code, the index's length (0 if the scan refused), the count.
-pub fn search(list: &[u8], store: &[u8], recipes: &[u8], index: &mut [u8], out: &mut [u8]) -> (Code, u64, u64) {
-    let scanned = scan(list, store, index);
-    if scanned.code != 0 {
-        return (scanned.code, 0, 0);
+/// A scan and then a join of what it wrote. The index's length is told where the scan is done, whatever the join answers.
+pub fn search(
+    list: &[u8],
+    store: &[u8],
+    recipes: &[u8],
+    (index, out): (&mut [u8], &mut [u8]),
+    (index_length, count): (&mut u64, &mut u64),
+) -> Code {
+    let scanned = scan(list, store, index, index_length);
+    if scanned != 0 {
+        return scanned;
     }
-    let joined = join(&index[..scanned.value as usize], recipes, out);
-    (joined.code, scanned.value, joined.value)
+    join(&index[..*index_length as usize], recipes, out, count)
 }
 
 #[cfg(test)]
@@ -146,11 +147,20 @@ mod tests {
         (list_of(false, &[b"ABA", b"AA"]), store, recipes)
     }
 
+    /// What a number holds that no call has told.
+    const UNTOLD: u64 = 0xA5A5;
+
+    fn answer(call: impl FnOnce(&mut u64) -> Code) -> (Code, u64) {
+        let mut number = UNTOLD;
+        (call(&mut number), number)
+    }
+
     #[test]
     fn the_small_vault() {
         let (list, store, recipes) = small();
-        let (mut index, mut out) = (vec![0xEE; 140], vec![0xEE; 30]);
-        assert_eq!(search(&list, &store, &recipes, &mut index, &mut out), (0, 136, 3));
+        let (mut index, mut out, mut length, mut count) = (vec![0xEE; 140], vec![0xEE; 30], 7, 8);
+        let code = search(&list, &store, &recipes, (&mut index, &mut out), (&mut length, &mut count));
+        assert_eq!((code, length, count), (0, 136, 3));
         assert_eq!(index[136..], [0xEE; 4]);
         let row = |file: u8, offset: u8, word: u8| [file, 0, 0, 0, offset, 0, 0, 0, word];
         assert_eq!(out[..27], [row(0, 1, 0), row(0, 3, 0), row(1, 0, 1)].concat());
@@ -162,14 +172,24 @@ mod tests {
         let (list, store, recipes) = small();
         let mut index = vec![0xEE; 136];
         let mut short = vec![0xEE; 135];
-        assert_eq!(scan(&list, &store, &mut short), Answer { code: 9, value: 0 });
+        assert_eq!(answer(|length| scan(&list, &store, &mut short, length)), (9, UNTOLD));
         assert_eq!(short, [0xEE; 135]);
-        assert_eq!(scan(&list, &store, &mut index), Answer { code: 0, value: 136 });
+        assert_eq!(answer(|length| scan(&list, &store, &mut index, length)), (0, 136));
         let mut out = vec![0xEE; 26];
-        assert_eq!(join(&index, &recipes, &mut out), Answer { code: 18, value: 0 });
+        assert_eq!(answer(|count| join(&index, &recipes, &mut out, count)), (18, UNTOLD));
         assert_eq!(out, [0xEE; 26]);
-        assert_eq!(join(&index, &recipes, &mut vec![0; 27]), Answer { code: 0, value: 3 });
-        assert_eq!(join(&index, &[0, 0, 0, 0], &mut []), Answer { code: 0, value: 0 });
+        assert_eq!(answer(|count| join(&index, &recipes, &mut vec![0; 27], count)), (0, 3));
+        assert_eq!(answer(|count| join(&index, &[0, 0, 0, 0], &mut [], count)), (0, 0));
+    }
+
+    #[test]
+    fn a_refused_search_tells_what_was_done() {
+        let (list, store, recipes) = small();
+        for (room, rows, want) in [(135, 27, (9, UNTOLD, UNTOLD)), (136, 26, (18, 136, UNTOLD)), (136, 27, (0, 136, 3))] {
+            let (mut index, mut out, mut length, mut count) = (vec![0; room], vec![0; rows], UNTOLD, UNTOLD);
+            let code = search(&list, &store, &recipes, (&mut index, &mut out), (&mut length, &mut count));
+            assert_eq!((code, length, count), want);
+        }
     }
 
     #[test]
@@ -177,10 +197,10 @@ mod tests {
         let (list, store, _) = small();
         let index = index_of(&list, &store).unwrap();
         let three = recipes::encode(&[vec![[1; 20], [3; 20], [2; 20]]]);
-        assert_eq!(count(&index, &three), Answer { code: 17, value: 0 });
+        assert_eq!(answer(|number| count(&index, &three, number)), (17, UNTOLD));
         let two = recipes::encode(&[vec![[1; 20], [3; 20]]]);
         let mut out = [0; 9];
-        assert_eq!(join(&index, &two, &mut out), Answer { code: 0, value: 1 });
+        assert_eq!(answer(|number| join(&index, &two, &mut out, number)), (0, 1));
         assert_eq!(out, [0, 0, 0, 0, 1, 0, 0, 0, 0]);
     }
 

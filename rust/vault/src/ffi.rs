@@ -1,7 +1,8 @@
 //! The C interface of the Rattle crate `vault_c`: every declaration of the workspace is here, as `include/vault.h` has them.
 //!
-//! A slice passes as its pointer and its length; a number is written through a pointer. With the feature `mock` the
-//! same names come from the oracle (`mock.rs`).
+//! A slice passes as its pointer and its length; a number is written through a pointer, and stays as it was on a refusal
+//! (where a search's scan is done and its join refuses, the index's length is written). With the feature `mock` the same
+//! names come from the oracle (`mock.rs`).
 
 #[cfg(not(feature = "mock"))]
 extern "C" {

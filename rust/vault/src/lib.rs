@@ -6,7 +6,8 @@
 //!   then offset, then keyword, each exactly once, also those that cross from one chunk into the next.
 //!
 //! Every function takes every input: what isn't a good file is refused with an [`Error`], and a refused call changes no
-//! buffer. What is proved is the library behind; this crate checks nothing again and only names things.
+//! buffer. What is proved is the library behind; this crate checks nothing again and only names things. Functions that make
+//! their own buffer give a [`Failure`]: a refusal, or memory that can't be had.
 //!
 //! The library keeps its tables on the stack, up to 1.1 MB of it, and a thread that Rust starts has 2 MB: call from the
 //! main thread or through [`on_large_stack`].
@@ -26,7 +27,7 @@ mod ffi;
 mod mock;
 pub mod raw;
 
-pub use error::Error;
+pub use error::{Error, Failure};
 
 /// A stack that is large enough for every call, in bytes.
 pub const STACK: usize = 64 << 20;
@@ -90,8 +91,20 @@ fn done(code: u8) -> Result<(), Error> {
     }
 }
 
-fn valued((code, value): (u8, u64)) -> Result<u64, Error> {
-    done(code).map(|()| value)
+/// A call's number.
+fn valued(call: impl FnOnce(&mut u64) -> u8) -> Result<u64, Error> {
+    let mut value = 0;
+    done(call(&mut value)).map(|()| value)
+}
+
+/// A buffer of so many bytes.
+fn buffer(bytes: u64) -> Result<Vec<u8>, Failure> {
+    let none = Failure::Memory { bytes };
+    let length = usize::try_from(bytes).map_err(|_| none)?;
+    let mut buffer = Vec::new();
+    buffer.try_reserve_exact(length).map_err(|_| none)?;
+    buffer.resize(length, 0);
+    Ok(buffer)
 }
 
 /// The bytes of a keyword list, checked.
@@ -140,68 +153,73 @@ pub fn check_index(index: &[u8]) -> Result<(), Error> {
 
 /// The length of the index that a scan writes. Refusals 1 to 8.
 pub fn scan_size(list: &[u8], store: &[u8]) -> Result<u64, Error> {
-    valued(raw::scan_size(list, store))
+    valued(|length| raw::scan_size(list, store, length))
 }
 
 /// Writes the index to the buffer's front and gives its length; what follows stays as it was. Refusals 1 to 9.
 pub fn scan_into(list: &[u8], store: &[u8], out: &mut [u8]) -> Result<usize, Error> {
-    valued(raw::scan(list, store, out)).map(|length| length as usize)
+    valued(|length| raw::scan(list, store, out, length)).map(|length| length as usize)
 }
 
 /// The index. Refusals 1 to 8, and 9 where it would be longer than [`LONGEST_INDEX`].
 ///
-/// Most indexes are far shorter than the store, so a quarter of the store's length is tried first (memory that isn't
-/// written to costs nothing), and only where that doesn't do is the length asked for.
-pub fn scan(list: &[u8], store: &[u8]) -> Result<Vec<u8>, Error> {
-    let mut index = vec![0; store.len() / 4 + (1 << 20)];
+/// Most indexes are far shorter than the store, so a sixteenth of the store's length is tried first, and only where that
+/// doesn't do is the length asked for.
+pub fn scan(list: &[u8], store: &[u8]) -> Result<Vec<u8>, Failure> {
+    let mut index = buffer(store.len() as u64 / 16 + (1 << 20))?;
     let written = match scan_into(list, store, &mut index) {
         Err(Error { code: 9, .. }) => {
+            drop(index);
             let length = scan_size(list, store)?;
             if length > LONGEST_INDEX {
-                return Err(Error::new(9));
+                return Err(Error::new(9).into());
             }
-            index = vec![0; length as usize];
+            index = buffer(length)?;
             scan_into(list, store, &mut index)?
         }
         answer => answer?,
     };
     index.truncate(written);
-    index.shrink_to_fit();
     Ok(index)
 }
 
 /// The number of occurrences. Refusals of the index check, 14 to 17.
 pub fn count(index: &[u8], recipes: &[u8]) -> Result<u64, Error> {
-    valued(raw::count(index, recipes))
+    valued(|count| raw::count(index, recipes, count))
 }
 
 /// Writes the list to the buffer's front, [`ROW`] bytes an occurrence, and gives the count; what follows stays as it
 /// was. Refusals of the index check, 14 to 18.
 pub fn join_into(index: &[u8], recipes: &[u8], out: &mut [u8]) -> Result<usize, Error> {
-    valued(raw::join(index, recipes, out)).map(|count| count as usize)
+    valued(|count| raw::join(index, recipes, out, count)).map(|count| count as usize)
 }
 
-/// The list's bytes. Refusals of the index check, 14 to 17; 18 where no memory could hold them.
+/// The list's bytes. Refusals of the index check, 14 to 17.
 ///
 /// A list of some megabytes is tried first; only a longer one is counted and then made.
-pub fn join_bytes(index: &[u8], recipes: &[u8]) -> Result<Vec<u8>, Error> {
-    let mut bytes = vec![0; 4 << 20];
+pub fn join_bytes(index: &[u8], recipes: &[u8]) -> Result<Vec<u8>, Failure> {
+    let mut bytes = buffer(4 << 20)?;
     let written = match join_into(index, recipes, &mut bytes) {
         Err(Error { code: 18, .. }) => {
-            let length = count(index, recipes)?.checked_mul(ROW as u64).filter(|length| *length <= isize::MAX as u64);
-            bytes = vec![0; length.ok_or(Error::new(18))? as usize];
+            drop(bytes);
+            bytes = buffer(count(index, recipes)?.saturating_mul(ROW as u64))?;
             join_into(index, recipes, &mut bytes)?
         }
         answer => answer?,
     };
     bytes.truncate(ROW * written);
-    bytes.shrink_to_fit();
     Ok(bytes)
 }
 
 /// Every occurrence. Refusals of the index check, 14 to 17.
-pub fn join(index: &[u8], recipes: &[u8]) -> Result<Vec<Occurrence>, Error> {
-    Ok(occurrences(&join_bytes(index, recipes)?).collect())
+pub fn join(index: &[u8], recipes: &[u8]) -> Result<Vec<Occurrence>, Failure> {
+    let bytes = join_bytes(index, recipes)?;
+    let found = occurrences(&bytes);
+    let mut list = Vec::new();
+    let none = Failure::Memory { bytes: (found.len() * size_of::<Occurrence>()) as u64 };
+    list.try_reserve_exact(found.len()).map_err(|_| none)?;
+    list.extend(found);
+    Ok(list)
 }
 
 /// The occurrences of a list's bytes.
@@ -229,7 +247,9 @@ fn part(whole: &[u8], (code, start, length): (u8, u64, u64)) -> Result<&[u8], Er
 
 /// A scan into one buffer and a join of what it wrote into another.
 pub fn search_into(list: &[u8], store: &[u8], recipes: &[u8], index: &mut [u8], out: &mut [u8]) -> Result<Searched, SearchError> {
-    let (code, length, count) = raw::search(list, store, recipes, index, out);
+    // No index is empty, so a length of 0 is one that the scan didn't tell.
+    let (mut length, mut count) = (0, 0);
+    let code = raw::search(list, store, recipes, (index, out), (&mut length, &mut count));
     let index_length = length as usize;
     match code {
         0 => Ok(Searched { index_length, count: count as usize }),
@@ -238,18 +258,19 @@ pub fn search_into(list: &[u8], store: &[u8], recipes: &[u8], index: &mut [u8], 
     }
 }
 
-/// Every occurrence in the restored files, by a scan and a join of its index.
-pub fn search(list: &[u8], store: &[u8], recipes: &[u8]) -> Result<Vec<Occurrence>, SearchError> {
-    let index = scan(list, store).map_err(SearchError::Scan)?;
-    join(&index, recipes).map_err(|error| SearchError::Join { index_length: index.len(), error })
+/// Every occurrence in the restored files, by a scan and a join of its index. Refusals 1 to 9 are the scan's, 14 to 17 the
+/// join's.
+pub fn search(list: &[u8], store: &[u8], recipes: &[u8]) -> Result<Vec<Occurrence>, Failure> {
+    join(&scan(list, store)?, recipes)
 }
 
-/// Runs `work` on a thread whose stack is large enough for every call, and waits for it.
-pub fn on_large_stack<T: Send>(work: impl FnOnce() -> T + Send) -> T {
+/// Runs `work` on a thread whose stack is large enough for every call, and waits for it. The error is of a thread that can't
+/// be started.
+pub fn on_large_stack<T: Send>(work: impl FnOnce() -> T + Send) -> std::io::Result<T> {
     std::thread::scope(|scope| {
-        let thread = std::thread::Builder::new().stack_size(STACK).spawn_scoped(scope, work).expect("a thread can be started");
+        let thread = std::thread::Builder::new().stack_size(STACK).spawn_scoped(scope, work)?;
         match thread.join() {
-            Ok(result) => result,
+            Ok(result) => Ok(result),
             Err(panic) => std::panic::resume_unwind(panic),
         }
     })
@@ -275,9 +296,13 @@ mod tests {
         (keyword_list(false, &[b"ABA", b"AA"]).unwrap(), store, recipes)
     }
 
+    fn with_stack(test: impl FnOnce() + Send) {
+        on_large_stack(test).unwrap();
+    }
+
     #[test]
     fn the_small_vault() {
-        on_large_stack(|| {
+        with_stack(|| {
             let (list, store, recipes) = small();
             let index = scan(&list, &store).unwrap();
             assert_eq!(index.len(), 136);
@@ -295,7 +320,7 @@ mod tests {
 
     #[test]
     fn lookups_are_parts_of_the_input() {
-        on_large_stack(|| {
+        with_stack(|| {
             let (list, store, _) = small();
             let index = scan(&list, &store).unwrap();
             let chunk = find_chunk(&store, &[2; 20]).unwrap();
@@ -309,7 +334,7 @@ mod tests {
 
     #[test]
     fn refusals() {
-        on_large_stack(|| {
+        with_stack(|| {
             let (list, store, recipes) = small();
             let index = scan(&list, &store).unwrap();
             assert_eq!(keyword_list(true, &[b"Ab", b"aB"]).unwrap_err().code, 4);
@@ -327,6 +352,14 @@ mod tests {
             let refused = search_into(&list, &store[..8], &recipes, &mut index_buffer, &mut []);
             assert_eq!(refused, Err(SearchError::Scan(Error::new(6))));
         });
+    }
+
+    #[test]
+    fn memory_that_cannot_be_had() {
+        for bytes in [1 << 62, u64::MAX] {
+            assert_eq!(buffer(bytes), Err(Failure::Memory { bytes }));
+        }
+        assert_eq!(buffer(3), Ok(vec![0; 3]));
     }
 
     /// Names and numbers of parameters, as the C header and `ffi.rs` declare them.

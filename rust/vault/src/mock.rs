@@ -22,9 +22,7 @@ pub unsafe fn vault_scan_size(
     store_length: usize,
     length: *mut u64,
 ) -> u8 {
-    let answer = calls::scan_size(from_raw_parts(list, list_length), from_raw_parts(store, store_length));
-    *length = answer.value;
-    answer.code
+    calls::scan_size(from_raw_parts(list, list_length), from_raw_parts(store, store_length), &mut *length)
 }
 
 pub unsafe fn vault_scan(
@@ -37,9 +35,7 @@ pub unsafe fn vault_scan(
     length: *mut u64,
 ) -> u8 {
     let out = from_raw_parts_mut(out, out_length);
-    let answer = calls::scan(from_raw_parts(list, list_length), from_raw_parts(store, store_length), out);
-    *length = answer.value;
-    answer.code
+    calls::scan(from_raw_parts(list, list_length), from_raw_parts(store, store_length), out, &mut *length)
 }
 
 pub unsafe fn vault_count(
@@ -49,9 +45,7 @@ pub unsafe fn vault_count(
     recipes_length: usize,
     count: *mut u64,
 ) -> u8 {
-    let answer = calls::count(from_raw_parts(index, index_length), from_raw_parts(recipes, recipes_length));
-    *count = answer.value;
-    answer.code
+    calls::count(from_raw_parts(index, index_length), from_raw_parts(recipes, recipes_length), &mut *count)
 }
 
 pub unsafe fn vault_join(
@@ -64,9 +58,7 @@ pub unsafe fn vault_join(
     count: *mut u64,
 ) -> u8 {
     let out = from_raw_parts_mut(out, out_length);
-    let answer = calls::join(from_raw_parts(index, index_length), from_raw_parts(recipes, recipes_length), out);
-    *count = answer.value;
-    answer.code
+    calls::join(from_raw_parts(index, index_length), from_raw_parts(recipes, recipes_length), out, &mut *count)
 }
 
 pub unsafe fn vault_find_chunk(store: *const u8, store_length: usize, key: *const u8, key_length: usize) -> u8 {
@@ -108,14 +100,11 @@ pub unsafe fn vault_search(
     index_length: *mut u64,
     count: *mut u64,
 ) -> u8 {
-    let (code, length, found) = calls::search(
+    calls::search(
         from_raw_parts(list, list_length),
         from_raw_parts(store, store_length),
         from_raw_parts(recipes, recipes_length),
-        from_raw_parts_mut(index, index_buffer_length),
-        from_raw_parts_mut(out, out_length),
-    );
-    *index_length = length;
-    *count = found;
-    code
+        (from_raw_parts_mut(index, index_buffer_length), from_raw_parts_mut(out, out_length)),
+        (&mut *index_length, &mut *count),
+    )
 }

@@ -1,9 +1,6 @@
-//! The C interface as safe functions, and no more: codes and numbers as they come. `lib.rs` has the ones to use.
+//! The C interface as safe functions, and no more: codes as they come, numbers lent by the caller. `lib.rs` has the ones to use.
 
 use crate::ffi;
-
-/// What a number holds before a call, so that a call that doesn't write it is seen.
-const UNWRITTEN: u64 = 0xA5A5_A5A5_A5A5_A5A5;
 
 pub fn check_keywords(list: &[u8]) -> u8 {
     // SAFETY: here and below, each pointer is a slice's or a number's, with the slice's own length, and Rust's borrows
@@ -19,36 +16,20 @@ pub fn check_index(index: &[u8]) -> u8 {
     unsafe { ffi::vault_check_index(index.as_ptr(), index.len()) }
 }
 
-/// Code and length.
-pub fn scan_size(list: &[u8], store: &[u8]) -> (u8, u64) {
-    let mut length = UNWRITTEN;
-    let code = unsafe { ffi::vault_scan_size(list.as_ptr(), list.len(), store.as_ptr(), store.len(), &mut length) };
-    (code, length)
+pub fn scan_size(list: &[u8], store: &[u8], length: &mut u64) -> u8 {
+    unsafe { ffi::vault_scan_size(list.as_ptr(), list.len(), store.as_ptr(), store.len(), length) }
 }
 
-/// Code and length.
-pub fn scan(list: &[u8], store: &[u8], out: &mut [u8]) -> (u8, u64) {
-    let mut length = UNWRITTEN;
-    let code = unsafe {
-        ffi::vault_scan(list.as_ptr(), list.len(), store.as_ptr(), store.len(), out.as_mut_ptr(), out.len(), &mut length)
-    };
-    (code, length)
+pub fn scan(list: &[u8], store: &[u8], out: &mut [u8], length: &mut u64) -> u8 {
+    unsafe { ffi::vault_scan(list.as_ptr(), list.len(), store.as_ptr(), store.len(), out.as_mut_ptr(), out.len(), length) }
 }
 
-/// Code and count.
-pub fn count(index: &[u8], recipes: &[u8]) -> (u8, u64) {
-    let mut count = UNWRITTEN;
-    let code = unsafe { ffi::vault_count(index.as_ptr(), index.len(), recipes.as_ptr(), recipes.len(), &mut count) };
-    (code, count)
+pub fn count(index: &[u8], recipes: &[u8], count: &mut u64) -> u8 {
+    unsafe { ffi::vault_count(index.as_ptr(), index.len(), recipes.as_ptr(), recipes.len(), count) }
 }
 
-/// Code and count.
-pub fn join(index: &[u8], recipes: &[u8], out: &mut [u8]) -> (u8, u64) {
-    let mut count = UNWRITTEN;
-    let code = unsafe {
-        ffi::vault_join(index.as_ptr(), index.len(), recipes.as_ptr(), recipes.len(), out.as_mut_ptr(), out.len(), &mut count)
-    };
-    (code, count)
+pub fn join(index: &[u8], recipes: &[u8], out: &mut [u8], count: &mut u64) -> u8 {
+    unsafe { ffi::vault_join(index.as_ptr(), index.len(), recipes.as_ptr(), recipes.len(), out.as_mut_ptr(), out.len(), count) }
 }
 
 /// Code, start and length.
@@ -63,10 +44,15 @@ pub fn body(index: &[u8], key: &[u8]) -> (u8, u64, u64) {
     unsafe { (ffi::vault_find_body(i, n, k, m), ffi::vault_body_start(i, n, k, m), ffi::vault_body_length(i, n, k, m)) }
 }
 
-/// Code, the index's length and the count.
-pub fn search(list: &[u8], store: &[u8], recipes: &[u8], index: &mut [u8], out: &mut [u8]) -> (u8, u64, u64) {
-    let (mut length, mut count) = (UNWRITTEN, UNWRITTEN);
-    let code = unsafe {
+/// Scan and join: the buffers of the index and the list, the index's length and the count.
+pub fn search(
+    list: &[u8],
+    store: &[u8],
+    recipes: &[u8],
+    (index, out): (&mut [u8], &mut [u8]),
+    (index_length, count): (&mut u64, &mut u64),
+) -> u8 {
+    unsafe {
         ffi::vault_search(
             list.as_ptr(),
             list.len(),
@@ -78,9 +64,8 @@ pub fn search(list: &[u8], store: &[u8], recipes: &[u8], index: &mut [u8], out: 
             index.len(),
             out.as_mut_ptr(),
             out.len(),
-            &mut length,
-            &mut count,
+            index_length,
+            count,
         )
-    };
-    (code, length, count)
+    }
 }

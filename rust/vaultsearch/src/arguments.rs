@@ -1,6 +1,7 @@
-//! The command line, taken apart.
+//! The command line, taken apart. An option that the command doesn't use, or that is given twice, is refused.
 
-use crate::Failure;
+use crate::failure::Failure;
+use crate::text;
 use std::ffi::OsString;
 use std::path::PathBuf;
 
@@ -24,43 +25,126 @@ pub struct Arguments {
     pub entries: bool,
     pub quiet: bool,
     pub help: bool,
+    /// The options given, by their first names.
+    given: Vec<&'static str>,
 }
 
+/// The options that each command uses.
+const USED: [(&str, &[&str]); 6] = [
+    ("search", &["--word", "--list", "--words", "--fold", "--format", "--names", "--count", "-o", "--quiet"]),
+    ("scan", &["--word", "--list", "--words", "--fold", "-o", "--quiet"]),
+    ("join", &["--format", "--names", "--count", "-o", "--quiet"]),
+    ("check", &["--store", "--index", "--recipes", "--word", "--list", "--words", "--fold", "--entries", "--quiet"]),
+    ("lookup", &["--store", "--index", "-o", "--quiet"]),
+    ("make-vault", &["--cut", "--size", "--word", "--list", "--words", "--fold", "-o", "--quiet"]),
+];
+
+/// The arguments of a known command, or with `help` set.
 pub fn read(words: Vec<OsString>) -> Result<Arguments, Failure> {
     let mut arguments = Arguments::default();
     let mut words = words.into_iter();
     while let Some(word) = words.next() {
-        let option = word.to_str().unwrap_or("").to_string();
-        let mut value = || words.next().ok_or(Failure::Usage(format!("{option} wants a value behind it")));
-        match option.as_str() {
-            "--word" => arguments.words.push(value()?.into_encoded_bytes()),
-            "--list" => arguments.list = Some(value()?.into()),
-            "--words" => arguments.words_file = Some(value()?.into()),
-            "--store" => arguments.store = Some(value()?.into()),
-            "--index" => arguments.index = Some(value()?.into()),
-            "--recipes" => arguments.recipes = Some(value()?.into()),
-            "--names" => arguments.names = Some(value()?.into()),
-            "-o" | "--output" => arguments.output = Some(value()?.into()),
-            "--format" => arguments.format = Some(text(&option, value()?)?),
-            "--cut" => arguments.cut = Some(text(&option, value()?)?),
-            "--size" => {
-                let number = text(&option, value()?)?;
-                arguments.size =
-                    Some(number.parse().map_err(|_| Failure::Usage(format!("--size wants a number, not {number}")))?);
-            }
-            "--fold" => arguments.fold = true,
-            "--count" => arguments.count = true,
-            "--entries" => arguments.entries = true,
-            "--quiet" => arguments.quiet = true,
-            "--help" | "-h" => arguments.help = true,
-            "--" => arguments.plain.extend(words.by_ref()),
-            _ if option.starts_with('-') && option.len() > 1 => return Err(Failure::Usage(format!("no such option: {option}"))),
+        match word.as_encoded_bytes() {
+            b"--" => arguments.plain.extend(words.by_ref()),
+            [b'-', _, ..] => arguments.option(&shown(&word), &mut words)?,
             _ => arguments.plain.push(word),
         }
+    }
+    arguments.help |= arguments.plain.first().is_some_and(|command| command == "help");
+    if !arguments.help {
+        arguments.test_use()?;
+        arguments.test_pairs()?;
     }
     Ok(arguments)
 }
 
-fn text(option: &str, value: OsString) -> Result<String, Failure> {
-    value.into_string().map_err(|_| Failure::Usage(format!("{option} wants plain text")))
+fn shown(word: &OsString) -> String {
+    text::line(word.as_encoded_bytes())
+}
+
+impl Arguments {
+    pub fn command(&self) -> String {
+        self.plain.first().map_or(String::new(), shown)
+    }
+
+    fn option(&mut self, option: &str, words: &mut impl Iterator<Item = OsString>) -> Result<(), Failure> {
+        let name = first_name(option).ok_or_else(|| Failure::Usage(format!("no such option: {option}")))?;
+        if self.given.contains(&name) && name != "--word" {
+            return Err(Failure::Usage(format!("{option} is given twice")));
+        }
+        self.given.push(name);
+        let mut value = || words.next().ok_or(Failure::Usage(format!("{option} wants a value behind it")));
+        match name {
+            "--word" => self.words.push(value()?.into_encoded_bytes()),
+            "--list" => self.list = Some(value()?.into()),
+            "--words" => self.words_file = Some(value()?.into()),
+            "--store" => self.store = Some(value()?.into()),
+            "--index" => self.index = Some(value()?.into()),
+            "--recipes" => self.recipes = Some(value()?.into()),
+            "--names" => self.names = Some(value()?.into()),
+            "-o" => self.output = Some(value()?.into()),
+            "--format" => self.format = Some(shown(&value()?)),
+            "--cut" => self.cut = Some(shown(&value()?)),
+            "--size" => self.size = Some(number(option, &value()?)?),
+            "--fold" => self.fold = true,
+            "--count" => self.count = true,
+            "--entries" => self.entries = true,
+            "--quiet" => self.quiet = true,
+            _ => self.help = true,
+        }
+        Ok(())
+    }
+
+    /// Whether the command is one, and uses each option.
+    fn test_use(&self) -> Result<(), Failure> {
+        let command = self.command();
+        let names = USED.map(|(name, _)| name).join(", ");
+        let Some((_, used)) = USED.iter().find(|(name, _)| *name == command) else {
+            let none = if command.is_empty() { "no command".into() } else { format!("no such command: {command}") };
+            return Err(Failure::Usage(format!("{none} (one of {names})")));
+        };
+        match self.given.iter().find(|option| !used.contains(option)) {
+            Some(option) => Err(Failure::Usage(format!("{command} does not use {option}"))),
+            None => Ok(()),
+        }
+    }
+
+    /// Whether no option takes away another's use.
+    fn test_pairs(&self) -> Result<(), Failure> {
+        let given = |option: &&str| self.given.contains(option);
+        let wrong = |why: &str| Err(Failure::Usage(why.into()));
+        if ["--word", "--list", "--words"].iter().filter(|option| given(option)).count() > 1 {
+            return wrong("give keywords by one of --word, --list and --words");
+        }
+        if self.fold && self.words_file.is_some() {
+            return wrong("a binary keyword list has its own fold flag: leave --fold out");
+        }
+        if self.fold && self.words.is_empty() && self.list.is_none() {
+            return wrong("--fold is for keywords by --word or --list");
+        }
+        if self.count && (self.format.is_some() || self.names.is_some()) {
+            return wrong("--count prints a number only: leave --format and --names out");
+        }
+        if self.names.is_some() && matches!(self.format.as_deref(), Some("plain" | "raw")) {
+            return wrong("the formats plain and raw have no names: leave --names out");
+        }
+        if self.entries && self.store.is_none() && self.index.is_none() {
+            return wrong("--entries lists the chunks of --store FILE or --index FILE");
+        }
+        Ok(())
+    }
+}
+
+/// The name of an option that may have two.
+fn first_name(option: &str) -> Option<&'static str> {
+    match option {
+        "--output" => Some("-o"),
+        "--help" | "-h" => Some("--help"),
+        _ => USED.iter().flat_map(|(_, used)| used.iter()).find(|name| **name == option).copied(),
+    }
+}
+
+fn number(option: &str, value: &OsString) -> Result<usize, Failure> {
+    let value = shown(value);
+    value.parse().map_err(|_| Failure::Usage(format!("{option} wants a number, not {value}")))
 }

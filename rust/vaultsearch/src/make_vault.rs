@@ -9,10 +9,13 @@
 //! Fingerprints. Three FNV-1a hashes of 64 bits with different starts, cut to 20 bytes. Chunks are told apart by their
 //! bytes, and where two different ones would share a fingerprint, the later one gets the next free number.
 
-use crate::files::{self, Progress};
-use crate::Failure;
+use crate::collect::{collect, Collected};
+use crate::failure::Failure;
+use crate::output;
+use crate::progress::{size, Progress};
+use crate::{identity, input, text};
 use std::collections::HashMap;
-use std::io::Write;
+use std::io::{self, Write};
 use std::path::{Path, PathBuf};
 
 type Fingerprint = [u8; 20];
@@ -46,19 +49,18 @@ fn gear() -> [u64; 256] {
     })
 }
 
-/// Where chunks of `data` end.
-fn ends(data: &[u8], cut: Cut, gear: &[u64; 256]) -> Vec<usize> {
-    let mut ends = Vec::new();
-    let mut start = 0;
-    while start < data.len() {
-        let rest = &data[start..];
-        start += match cut {
+/// The chunks of `data`.
+fn chunks<'a>(data: &'a [u8], cut: Cut, gear: &'a [u64; 256]) -> impl Iterator<Item = &'a [u8]> {
+    let mut rest = data;
+    std::iter::from_fn(move || {
+        let length = match cut {
             Cut::Fixed(size) => rest.len().min(size),
             Cut::Content(size) => content_length(rest, size, gear),
         };
-        ends.push(start);
-    }
-    ends
+        let (chunk, behind) = rest.split_at(length);
+        rest = behind;
+        (length > 0).then_some(chunk)
+    })
 }
 
 /// The length of the first chunk of `rest`.
@@ -99,36 +101,50 @@ pub struct Builder {
     pub stored: u64,
 }
 
+/// Pushes, where there is memory for it.
+fn push<T>(list: &mut Vec<T>, item: T) -> Result<(), Failure> {
+    list.try_reserve(1).map_err(|_| Failure::memory("the vault", (2 * list.len() * size_of::<T>()) as u64))?;
+    list.push(item);
+    Ok(())
+}
+
 impl Builder {
     /// The chunk's number, a new one if its bytes are new.
-    fn add_chunk(&mut self, chunk: &[u8]) -> usize {
+    fn add_chunk(&mut self, chunk: &[u8]) -> Result<usize, Failure> {
         let mut key = fingerprint(chunk);
         while let Some(k) = self.number.get(&key) {
             if self.chunks[*k].1 == chunk {
-                return *k;
+                return Ok(*k);
             }
             // Another chunk has this fingerprint: the next one.
             let last = u32::from_le_bytes([key[16], key[17], key[18], key[19]]).wrapping_add(1);
             key[16..].copy_from_slice(&last.to_le_bytes());
         }
-        self.number.insert(key, self.chunks.len());
-        self.chunks.push((key, chunk.to_vec()));
-        self.stored += chunk.len() as u64;
-        self.chunks.len() - 1
-    }
-
-    fn add_file(&mut self, data: &[u8], cut: Cut, gear: &[u64; 256]) {
-        let mut start = 0;
-        let mut recipe = Vec::new();
-        for end in ends(data, cut, gear) {
-            recipe.push(self.add_chunk(&data[start..end]));
-            start = end;
+        if self.chunks.len() == 65_000 {
+            return Err(Failure::File("more than 65,000 chunks: give a larger --size, or fewer files".into()));
         }
-        self.recipes.push(recipe);
-        self.whole += data.len() as u64;
+        let none = |_| Failure::memory("the vault", self.stored + chunk.len() as u64);
+        let mut copy = Vec::new();
+        copy.try_reserve_exact(chunk.len()).map_err(none)?;
+        copy.extend_from_slice(chunk);
+        self.number.try_reserve(1).map_err(none)?;
+        self.number.insert(key, self.chunks.len());
+        push(&mut self.chunks, (key, copy))?;
+        self.stored += chunk.len() as u64;
+        Ok(self.chunks.len() - 1)
     }
 
-    fn write_store(&self, out: &mut dyn Write) -> std::io::Result<()> {
+    fn add_file(&mut self, data: &[u8], cut: Cut, gear: &[u64; 256]) -> Result<(), Failure> {
+        let mut recipe = Vec::new();
+        for chunk in chunks(data, cut, gear) {
+            push(&mut recipe, self.add_chunk(chunk)?)?;
+        }
+        push(&mut self.recipes, recipe)?;
+        self.whole += data.len() as u64;
+        Ok(())
+    }
+
+    fn write_store(&self, out: &mut dyn Write) -> io::Result<()> {
         out.write_all(b"DV1\n")?;
         out.write_all(&(self.chunks.len() as u32).to_le_bytes())?;
         let mut offset = 8 + 28 * self.chunks.len();
@@ -141,7 +157,7 @@ impl Builder {
         self.chunks.iter().try_for_each(|(_, chunk)| out.write_all(chunk))
     }
 
-    fn write_recipes(&self, out: &mut dyn Write) -> std::io::Result<()> {
+    fn write_recipes(&self, out: &mut dyn Write) -> io::Result<()> {
         out.write_all(&(self.recipes.len() as u32).to_le_bytes())?;
         for recipe in &self.recipes {
             out.write_all(&(recipe.len() as u32).to_le_bytes())?;
@@ -151,58 +167,78 @@ impl Builder {
     }
 }
 
-/// The files under these paths, sorted; links and special files are left out.
-fn collect(path: &Path, found: &mut Vec<PathBuf>) -> Result<(), Failure> {
-    let failed = |error: std::io::Error| Failure::File(format!("{}: {error}", path.display()));
-    let about = path.symlink_metadata().map_err(failed)?;
-    if about.is_file() {
-        found.push(path.to_path_buf());
-    } else if about.is_dir() {
-        let mut inside: Vec<PathBuf> = Vec::new();
-        for entry in std::fs::read_dir(path).map_err(failed)? {
-            inside.push(entry.map_err(failed)?.path());
-        }
-        inside.sort();
-        inside.iter().try_for_each(|p| collect(p, found))?;
-    }
-    Ok(())
+/// The files that are written to the folder.
+pub fn outputs(folder: &Path, with_keywords: bool) -> Vec<PathBuf> {
+    let names = ["store.bin", "recipes.bin", "names.txt", "words.bin"];
+    names[..if with_keywords { 4 } else { 3 }].iter().map(|name| folder.join(name)).collect()
 }
 
-/// Reads all files and writes store.bin, recipes.bin and names.txt to the folder.
-pub fn make(progress: &Progress, paths: &[PathBuf], folder: &Path, cut: Cut) -> Result<(), Failure> {
-    let mut found = Vec::new();
-    paths.iter().try_for_each(|path| collect(path, &mut found))?;
-    if found.len() > 65_535 {
-        return Err(Failure::File(format!("{} files: recipes take at most 65,535", found.len())));
+/// Reads all files and writes store, recipes and names to the folder, and the keyword list if there is one.
+pub fn make(progress: &Progress, paths: &[&Path], folder: &Path, cut: Cut, list: Option<Vec<u8>>) -> Result<(), Failure> {
+    let mut collected = collect(paths)?;
+    let files = outputs(folder, list.is_some());
+    let written: Vec<&Path> = files.iter().map(PathBuf::as_path).collect();
+    identity::keep_apart(&written, collected.files.iter().map(PathBuf::as_path))?;
+    let (builder, names) = built(progress, &mut collected, cut)?;
+    if names.is_empty() && collected.left_out > 0 {
+        return Err(Failure::File("none of the files can be read: no vault is written".into()));
     }
+    std::fs::create_dir_all(folder).map_err(|error| Failure::file(folder, error))?;
+    let mut prepared = vec![
+        output::prepare(written[0], |out| builder.write_store(out))?,
+        output::prepare(written[1], |out| builder.write_recipes(out))?,
+        output::prepare(written[2], |out| names.iter().try_for_each(|name| writeln!(out, "{name}")))?,
+    ];
+    if let Some(list) = list {
+        prepared.push(output::prepare(written[3], |out| out.write_all(&list))?);
+    }
+    output::put_in_place(prepared)?;
+    tell(&builder, &collected, &written)
+}
+
+/// The vault of the files that can be read, and the lines of its names.
+fn built(progress: &Progress, collected: &mut Collected, cut: Cut) -> Result<(Builder, Vec<String>), Failure> {
     let gear = gear();
     let mut builder = Builder::default();
     let mut names = Vec::new();
-    for path in &found {
-        let data = files::read(progress, path)?;
-        if data.len() as u64 > 4_294_967_295 {
-            return Err(Failure::File(format!("{}: a file takes at most 4,294,967,295 bytes", path.display())));
+    for path in std::mem::take(&mut collected.files) {
+        match input::read(progress, &path, &input::PLAIN) {
+            Ok(data) => builder.add_file(&data, cut, &gear)?,
+            Err(Failure::File(why)) => {
+                collected.leave_out(why);
+                continue;
+            }
+            Err(other) => return Err(other),
         }
-        builder.add_file(&data, cut, &gear);
-        if builder.chunks.len() > 65_000 {
-            return Err(Failure::File("more than 65,000 chunks: give a larger --size, or fewer files".into()));
+        if names.len() == input::MOST_FILES as usize {
+            return Err(Failure::File("more than 65,535 files: recipes take no more".into()));
         }
-        names.push(path.to_string_lossy().replace(['\n', '\r'], "?"));
+        names.push(text::path(&path));
     }
-    std::fs::create_dir_all(folder).map_err(|error| Failure::File(format!("{}: {error}", folder.display())))?;
-    files::write(Some(&folder.join("store.bin")), |out| builder.write_store(out))?;
-    files::write(Some(&folder.join("recipes.bin")), |out| builder.write_recipes(out))?;
-    files::write(Some(&folder.join("names.txt")), |out| names.iter().try_for_each(|name| writeln!(out, "{name}")))?;
+    Ok((builder, names))
+}
+
+/// What was written, and what was not.
+fn tell(builder: &Builder, collected: &Collected, written: &[&Path]) -> Result<(), Failure> {
     let ratio = builder.whole as f64 / builder.stored.max(1) as f64;
-    println!(
-        "{} files of {} in {} chunks of {} (deduplication {ratio:.2})",
-        found.len(),
-        files::size(builder.whole),
-        builder.chunks.len(),
-        files::size(builder.stored)
-    );
-    println!("written: {0}/store.bin, {0}/recipes.bin, {0}/names.txt", folder.display());
-    Ok(())
+    let report = output::standard(|out| {
+        let (files, chunks) = (builder.recipes.len(), builder.chunks.len());
+        let (whole, stored) = (size(builder.whole), size(builder.stored));
+        writeln!(out, "{files} files of {whole} in {chunks} chunks of {stored} (deduplication {ratio:.2})")?;
+        writeln!(out, "written: {}", text::paths(written))
+    });
+    if let Some(skipped) = collected.skipped() {
+        text::say(skipped);
+    }
+    if collected.left_out == 0 {
+        return report;
+    }
+    if let Err(failure) = report {
+        text::say(failure);
+    }
+    let (n, s) = (collected.left_out, if collected.left_out == 1 { "" } else { "s" });
+    let why = format!("the vault is NOT COMPLETE: {n} file{s} or folder{s} could not be read, see above");
+    Err(Failure::Incomplete(why))
 }
 
 #[cfg(test)]
@@ -217,16 +253,15 @@ mod tests {
     fn cuts_cover_the_file_and_keep_their_lengths() {
         let data = text(300_000);
         for cut in [Cut::Fixed(64), Cut::Fixed(65_535), Cut::Content(64), Cut::Content(8192), Cut::Content(16_384)] {
-            let ends = ends(&data, cut, &gear());
-            assert_eq!(ends.last(), Some(&data.len()));
-            let mut start = 0;
-            for (k, end) in ends.iter().enumerate() {
-                assert!((1..=65_535).contains(&(end - start)));
-                assert!(end - start >= 31 || k + 1 == ends.len());
-                start = *end;
+            let gear = gear();
+            let chunks: Vec<&[u8]> = chunks(&data, cut, &gear).collect();
+            assert!(chunks.concat() == data);
+            for (k, chunk) in chunks.iter().enumerate() {
+                assert!((1..=65_535).contains(&chunk.len()));
+                assert!(chunk.len() >= 31 || k + 1 == chunks.len());
             }
         }
-        assert!(ends(&[], Cut::Content(64), &gear()).is_empty());
+        assert_eq!(chunks(&[], Cut::Content(64), &gear()).count(), 0);
     }
 
     #[test]
@@ -234,8 +269,8 @@ mod tests {
         let mut builder = Builder::default();
         let data = text(200_000);
         let shifted = [b"some bytes in front".to_vec(), data.clone()].concat();
-        builder.add_file(&data, Cut::Content(1024), &gear());
-        builder.add_file(&shifted, Cut::Content(1024), &gear());
+        builder.add_file(&data, Cut::Content(1024), &gear()).ok().unwrap();
+        builder.add_file(&shifted, Cut::Content(1024), &gear()).ok().unwrap();
         assert!(builder.stored < 230_000, "{} bytes stored", builder.stored);
     }
 
@@ -244,9 +279,9 @@ mod tests {
         vault::on_large_stack(|| {
             let mut builder = Builder::default();
             let data = [text(5000), b"the keyword here".to_vec(), text(5000)].concat();
-            builder.add_file(&data, Cut::Fixed(100), &gear());
-            builder.add_file(&[], Cut::Fixed(100), &gear());
-            builder.add_file(&data[3..], Cut::Content(128), &gear());
+            builder.add_file(&data, Cut::Fixed(100), &gear()).ok().unwrap();
+            builder.add_file(&[], Cut::Fixed(100), &gear()).ok().unwrap();
+            builder.add_file(&data[3..], Cut::Content(128), &gear()).ok().unwrap();
             let (mut store, mut recipes) = (Vec::new(), Vec::new());
             builder.write_store(&mut store).unwrap();
             builder.write_recipes(&mut recipes).unwrap();
@@ -254,6 +289,7 @@ mod tests {
             let found = vault::search(&list, &store, &recipes).unwrap();
             let places: Vec<(u32, u32)> = found.iter().map(|o| (o.file, o.offset)).collect();
             assert_eq!(places, [(0, 5000), (2, 4997)]);
-        });
+        })
+        .unwrap();
     }
 }

@@ -1,5 +1,6 @@
 //! A list of occurrences, written in each format.
 
+use crate::text;
 use std::io::{Result, Write};
 use vault::Occurrence;
 
@@ -30,21 +31,8 @@ pub struct Labels {
     /// Each keyword's text, escaped.
     pub keywords: Vec<String>,
     /// File names by number, if they are known.
-    pub names: Vec<String>,
+    pub names: Vec<Vec<u8>>,
     pub files: usize,
-}
-
-/// Printable ASCII as it is, but for the backslash; all else as \xNN.
-pub fn escaped(bytes: &[u8]) -> String {
-    let mut text = String::new();
-    for b in bytes {
-        match b {
-            b'\\' => text.push_str("\\\\"),
-            b' '..=b'~' => text.push(char::from(*b)),
-            _ => text.push_str(&format!("\\x{b:02x}")),
-        }
-    }
-    text
 }
 
 /// A JSON string.
@@ -54,7 +42,7 @@ fn json(text: &str) -> String {
         match c {
             '"' => string.push_str("\\\""),
             '\\' => string.push_str("\\\\"),
-            c if c < ' ' => string.push_str(&format!("\\u{:04x}", u32::from(c))),
+            c if c.is_control() => string.push_str(&format!("\\u{:04x}", u32::from(c))),
             c => string.push(c),
         }
     }
@@ -62,13 +50,36 @@ fn json(text: &str) -> String {
     string
 }
 
+/// A name's fields in JSON: the name itself, or its escaped form where it isn't UTF-8.
+fn json_name(name: &[u8]) -> String {
+    match std::str::from_utf8(name) {
+        Ok(name) => format!(",\"name\":{}", json(name)),
+        Err(_) => format!(",\"name\":{},\"escaped\":true", json(&text::line(name))),
+    }
+}
+
 impl Labels {
     fn keyword(&self, found: &Occurrence) -> &str {
         self.keywords.get(usize::from(found.keyword)).map_or("?", |text| text)
     }
 
-    fn name(&self, file: u32) -> Option<&str> {
-        self.names.get(file as usize).map(|name| name.as_str())
+    /// The occurrences, each with its file's name in some form ("" if it isn't known), which is made once a file.
+    fn each(
+        &self,
+        list: &[u8],
+        form: impl Fn(&[u8]) -> String,
+        mut write: impl FnMut(&Occurrence, &str, bool) -> Result<()>,
+    ) -> Result<()> {
+        let (mut file, mut name) = (None, String::new());
+        for found in vault::occurrences(list) {
+            let first = file != Some(found.file);
+            if first {
+                file = Some(found.file);
+                name = self.names.get(found.file as usize).map_or(String::new(), |name| form(name));
+            }
+            write(&found, &name, first)?;
+        }
+        Ok(())
     }
 }
 
@@ -84,19 +95,15 @@ pub fn write(out: &mut dyn Write, format: Format, list: &[u8], labels: &Labels) 
 }
 
 fn human(out: &mut dyn Write, list: &[u8], labels: &Labels) -> Result<()> {
-    let mut file = None;
     let mut files = 0;
-    for found in vault::occurrences(list) {
-        if file != Some(found.file) {
-            file = Some(found.file);
+    labels.each(list, text::line, |found, name, first| {
+        if first {
             files += 1;
-            match labels.name(found.file) {
-                Some(name) => writeln!(out, "file {}  {name}", found.file)?,
-                None => writeln!(out, "file {}", found.file)?,
-            }
+            let gap = if labels.names.is_empty() { "" } else { "  " };
+            writeln!(out, "file {}{gap}{name}", found.file)?;
         }
-        writeln!(out, "  {:>10}  {}", found.offset, labels.keyword(&found))?;
-    }
+        writeln!(out, "  {:>10}  {}", found.offset, labels.keyword(found))
+    })?;
     let count = list.len() / vault::ROW;
     let s = |n: usize| if n == 1 { "" } else { "s" };
     writeln!(out, "{count} occurrence{} in {files} of {} file{}", s(count), labels.files, s(labels.files))
@@ -104,23 +111,18 @@ fn human(out: &mut dyn Write, list: &[u8], labels: &Labels) -> Result<()> {
 
 fn tsv(out: &mut dyn Write, list: &[u8], labels: &Labels) -> Result<()> {
     writeln!(out, "file\toffset\tkeyword\ttext\tname")?;
-    for found in vault::occurrences(list) {
-        let name = labels.name(found.file).unwrap_or("").replace('\t', "\\t");
-        writeln!(out, "{}\t{}\t{}\t{}\t{name}", found.file, found.offset, found.keyword, labels.keyword(&found))?;
-    }
-    Ok(())
+    labels.each(list, text::line, |found, name, _| {
+        writeln!(out, "{}\t{}\t{}\t{}\t{name}", found.file, found.offset, found.keyword, labels.keyword(found))
+    })
 }
 
 fn json_lines(out: &mut dyn Write, list: &[u8], labels: &Labels) -> Result<()> {
-    for found in vault::occurrences(list) {
-        let text = json(labels.keyword(&found));
-        write!(out, "{{\"file\":{},\"offset\":{},\"keyword\":{},\"text\":{text}", found.file, found.offset, found.keyword)?;
-        if let Some(name) = labels.name(found.file) {
-            write!(out, ",\"name\":{}", json(name))?;
-        }
-        writeln!(out, "}}")?;
-    }
-    Ok(())
+    let texts: Vec<String> = labels.keywords.iter().map(|text| json(text)).collect();
+    labels.each(list, json_name, |found, name, _| {
+        let text = texts.get(usize::from(found.keyword)).map_or("\"?\"", |text| text);
+        let Occurrence { file, offset, keyword } = found;
+        writeln!(out, "{{\"file\":{file},\"offset\":{offset},\"keyword\":{keyword},\"text\":{text}{name}}}")
+    })
 }
 
 /// As document 01's program prints it.
@@ -136,11 +138,11 @@ fn plain(out: &mut dyn Write, list: &[u8]) -> Result<()> {
 mod tests {
     use super::*;
 
-    fn written(format: Format, names: &[&str]) -> String {
+    fn written(format: Format, names: &[&[u8]]) -> String {
         let list = [[0, 0, 0, 0, 1, 0, 0, 0, 0], [0, 0, 0, 0, 3, 0, 0, 0, 0], [1, 0, 0, 0, 0, 1, 0, 0, 1]].concat();
         let labels = Labels {
-            keywords: vec![escaped(b"AB\\\"A"), escaped(b"A\xff")],
-            names: names.iter().map(|n| n.to_string()).collect(),
+            keywords: vec![text::ascii(b"AB\\\"A"), text::ascii(b"A\xff")],
+            names: names.iter().map(|name| name.to_vec()).collect(),
             files: 3,
         };
         let mut out = Vec::new();
@@ -152,10 +154,10 @@ mod tests {
     fn formats() {
         assert_eq!(written(Format::Plain, &[]), "finds 3\n0 1 0\n0 3 0\n1 256 1\n");
         assert_eq!(
-            written(Format::Tsv, &["a"]),
+            written(Format::Tsv, &[b"a"]),
             "file\toffset\tkeyword\ttext\tname\n0\t1\t0\tAB\\\\\"A\ta\n0\t3\t0\tAB\\\\\"A\ta\n1\t256\t1\tA\\xff\t\n"
         );
-        let lines = written(Format::JsonLines, &["a", "b\n"]);
+        let lines = written(Format::JsonLines, &[b"a", b"b\n"]);
         assert_eq!(
             lines.lines().next().unwrap(),
             "{\"file\":0,\"offset\":1,\"keyword\":0,\"text\":\"AB\\\\\\\\\\\"A\",\"name\":\"a\"}"
@@ -164,7 +166,20 @@ mod tests {
             lines.lines().last().unwrap(),
             "{\"file\":1,\"offset\":256,\"keyword\":1,\"text\":\"A\\\\xff\",\"name\":\"b\\u000a\"}"
         );
-        let human = written(Format::Human, &["a"]);
-        assert_eq!(human, "file 0  a\n           1  AB\\\\\"A\n           3  AB\\\\\"A\nfile 1\n         256  A\\xff\n3 occurrences in 2 of 3 files\n");
+        let human = written(Format::Human, &[]);
+        assert_eq!(human, "file 0\n           1  AB\\\\\"A\n           3  AB\\\\\"A\nfile 1\n         256  A\\xff\n3 occurrences in 2 of 3 files\n");
+    }
+
+    #[test]
+    fn names_of_any_bytes() {
+        let names: [&[u8]; 2] = [b"a\t\x1b[2J\\", b"b\xff\n"];
+        let shown = ["a\\x09\\x1b[2J\\\\", "b\\xff\\x0a"];
+        for format in [Format::Human, Format::Tsv] {
+            let text = written(format, &names);
+            assert!(shown.iter().all(|name| text.contains(name)), "{text}");
+        }
+        let lines = written(Format::JsonLines, &names);
+        assert!(lines.contains("\"name\":\"a\\u0009\\u001b[2J\\\\\"}"), "{lines}");
+        assert!(lines.contains("\"name\":\"b\\\\xff\\\\x0a\",\"escaped\":true}"), "{lines}");
     }
 }

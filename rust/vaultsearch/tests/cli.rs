@@ -1,73 +1,9 @@
 //! The program as an operator runs it: outputs, exit status and messages.
 
+mod common;
+
+use common::{recipes, Folder};
 use std::fs;
-use std::path::PathBuf;
-use std::process::Command;
-
-struct Folder(PathBuf);
-
-impl Folder {
-    /// An empty folder of its own for each test, with the small vault of document 01.
-    fn new(name: &str) -> Folder {
-        let path = std::env::temp_dir().join(format!("vaultsearch-{name}-{}", std::process::id()));
-        let _ = fs::remove_dir_all(&path);
-        fs::create_dir_all(&path).unwrap();
-        let folder = Folder(path);
-        let mut store = b"DV1\n\x03\0\0\0".to_vec();
-        for (key, offset, length) in [(1, 92, 3), (2, 95, 4), (3, 99, 1)] {
-            store.extend_from_slice(&[key; 20]);
-            store.extend_from_slice(&[offset, 0, 0, 0, length, 0, 0, 0]);
-        }
-        store.extend_from_slice(b"XABABAXA");
-        folder.write("store.bin", &store);
-        folder.write("words.bin", &[2, 0, 3, 0x41, 0x42, 0x41, 2, 0x41, 0x41]);
-        folder.write("recipes.bin", &recipes(&[&[1, 2], &[3, 3], &[]]));
-        folder
-    }
-
-    fn write(&self, name: &str, bytes: &[u8]) {
-        fs::write(self.0.join(name), bytes).unwrap();
-    }
-
-    fn read(&self, name: &str) -> Vec<u8> {
-        fs::read(self.0.join(name)).unwrap()
-    }
-
-    /// Status, standard output, standard error.
-    fn run(&self, words: &str) -> (i32, String, String) {
-        let output =
-            Command::new(env!("CARGO_BIN_EXE_vaultsearch")).args(words.split(' ')).current_dir(&self.0).output().unwrap();
-        let text = |bytes: Vec<u8>| String::from_utf8(bytes).unwrap();
-        (output.status.code().unwrap(), text(output.stdout), text(output.stderr))
-    }
-
-    fn prints(&self, words: &str, want: &str) {
-        let (status, out, err) = self.run(words);
-        assert_eq!((status, out.as_str()), (0, want), "{words}: {err}");
-    }
-
-    /// Refused with that number: the status says it, and the message its meaning.
-    fn refuses(&self, words: &str, code: i32, meaning: &str) {
-        let (status, _, err) = self.run(words);
-        assert_eq!(status, code, "{words}: {err}");
-        assert!(err.contains(&format!("refused {code}: ")) && err.contains(meaning), "{words}: {err}");
-    }
-}
-
-impl Drop for Folder {
-    fn drop(&mut self) {
-        let _ = fs::remove_dir_all(&self.0);
-    }
-}
-
-fn recipes(files: &[&[u8]]) -> Vec<u8> {
-    let mut bytes = vec![files.len() as u8, 0, 0, 0];
-    for file in files {
-        bytes.extend_from_slice(&[file.len() as u8, 0, 0, 0]);
-        file.iter().for_each(|key| bytes.extend_from_slice(&[*key; 20]));
-    }
-    bytes
-}
 
 #[test]
 fn the_small_vault_in_every_format() {
@@ -220,4 +156,89 @@ fn a_vault_of_plain_files() {
         assert_eq!(fs::read(folder.0.join("v/words.bin")).unwrap(), b"\x01\x01\x0bthe keyword");
         folder.prints("search v/store.bin v/recipes.bin --words v/words.bin --names v/names.txt --format tsv", found);
     }
+}
+
+#[test]
+fn options_that_a_command_does_not_use() {
+    let folder = Folder::new("options");
+    folder.write("index.bin", b"");
+    folder.write("list.txt", b"A\n");
+    let options = [
+        "--word A",
+        "--list list.txt",
+        "--words words.bin",
+        "--fold",
+        "--store store.bin",
+        "--index index.bin",
+        "--recipes recipes.bin",
+        "--names names.txt",
+        "-o out",
+        "--format tsv",
+        "--cut fixed",
+        "--size 64",
+        "--count",
+        "--entries",
+    ];
+    for (command, used) in [
+        ("search store.bin recipes.bin", "--word --list --words --fold --names -o --format --count"),
+        ("scan store.bin", "--word --list --words --fold -o"),
+        ("join index.bin recipes.bin", "--names -o --format --count"),
+        ("check", "--word --list --words --fold --store --index --recipes --entries"),
+        ("lookup 01", "--store --index -o"),
+        ("make-vault in", "--word --list --words --fold -o --cut --size"),
+    ] {
+        for option in options {
+            let name = option.split(' ').next().unwrap();
+            let (status, _, err) = folder.run(&format!("{command} {option}"));
+            let refused = err.contains(&format!("does not use {name}\n"));
+            assert_eq!(refused, !used.split(' ').any(|used| used == name), "{command} {option}: {err}");
+            assert!(!refused || status == 64, "{command} {option}: {status}");
+            let (status, _, err) = folder.run(&format!("{command} {option} {option}"));
+            let twice = status == 64 && err.contains(&format!("{name} is given twice"));
+            assert_eq!(twice, name != "--word", "{command} {option} {option}: {err}");
+        }
+    }
+    assert!(!folder.0.join("out").exists());
+}
+
+#[test]
+fn options_without_use_beside_others() {
+    let folder = Folder::new("pairs");
+    folder.write("names.txt", b"a\nb\nc\n");
+    let search = "search store.bin recipes.bin --words words.bin";
+    for words in [
+        &format!("{search} -o a --output b"),
+        &format!("{search} --quiet --quiet"),
+        &format!("{search} --count --format tsv"),
+        &format!("{search} --count --names names.txt"),
+        &format!("{search} --format raw --names names.txt"),
+        &format!("{search} --format plain --names names.txt"),
+        &format!("{search} --fold"),
+        "check --store store.bin --fold",
+        "check --words words.bin --entries",
+        "make-vault -o v --fold recipes.bin",
+        "check --recipes recipes.bin --store store.bin",
+        "search store.bin recipes.bin more --word A",
+        "check more --store store.bin",
+    ] {
+        let (status, _, err) = folder.run(words);
+        assert_eq!(status, 64, "{words}: {err}");
+    }
+}
+
+#[test]
+fn a_byte_order_mark_is_no_keyword() {
+    let folder = Folder::new("mark");
+    folder.write("list.txt", b"\xEF\xBB\xBFABA\r\nAA\r\n");
+    folder.prints("search store.bin recipes.bin --list list.txt --format plain", "finds 3\n0 1 0\n0 3 0\n1 0 1\n");
+    folder.prints("check --list list.txt", "keywords: good, 2 of them\n");
+}
+
+#[test]
+fn recipes_of_a_refused_index_are_not_called_good() {
+    let folder = Folder::new("unchecked");
+    folder.write("bad", b"");
+    let (status, out, _) = folder.run("check --index bad --recipes recipes.bin");
+    assert_eq!(status, 10);
+    assert!(out.ends_with("recipes.bin: not checked, since the index is refused\n"), "{out}");
 }

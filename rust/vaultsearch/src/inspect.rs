@@ -1,0 +1,186 @@
+//! The commands check and lookup.
+
+use crate::commands::{refused, Done, Session};
+use crate::failure::Failure;
+use crate::input;
+use crate::{output, text};
+use std::path::Path;
+
+/// What a check prints, and the first refusal.
+#[derive(Default)]
+struct Report {
+    text: String,
+    first: Option<Failure>,
+}
+
+impl Report {
+    /// A file's verdict, with what is to be said of a good one.
+    fn tell(&mut self, what: String, verdict: Result<String, vault::Error>) {
+        match verdict {
+            Ok(about) => self.text.push_str(&format!("{what}: good, {about}\n")),
+            Err(error) => {
+                self.text.push_str(&format!("{what}: {error}\n"));
+                self.first.get_or_insert(Failure::Refused(what, error));
+            }
+        }
+    }
+}
+
+impl Session<'_> {
+    /// Each file that is named: good, or refused. Ends with the first refusal's status.
+    pub fn check(&self) -> Done {
+        let a = self.arguments;
+        let nothing = || Failure::Usage("check wants --store, --index, --recipes or keywords".into());
+        if a.plain.len() > 1 {
+            return Err(nothing());
+        }
+        if a.recipes.is_some() && a.index.is_none() {
+            return Err(Failure::Usage("recipes are checked against an index: give --index FILE too".into()));
+        }
+        self.keep_apart(&[])?;
+        let mut report = Report::default();
+        match self.given_keywords() {
+            Ok(None) => (),
+            Ok(Some(list)) => report.tell("keywords".into(), Ok(format!("{} of them", vault::keywords_of(&list).len()))),
+            Err(Failure::Refused(what, error)) => report.tell(what, Err(error)),
+            Err(other) => return Err(other),
+        }
+        if let Some(path) = &a.store {
+            self.check_store(path, &mut report)?;
+        }
+        if let Some(path) = &a.index {
+            self.check_index(path, &mut report)?;
+        }
+        if report.text.is_empty() {
+            return Err(nothing());
+        }
+        output::standard(|out| out.write_all(report.text.as_bytes()))?;
+        report.first.map_or(Ok(()), Err)
+    }
+
+    fn check_store(&self, path: &Path, report: &mut Report) -> Done {
+        let store = self.read(path, &input::STORE)?;
+        let verdict = self.progress.step("checking the store", 0, || vault::check_store(&store));
+        report.tell(text::path(path), verdict.map(|()| format!("{} chunks", count_at(&store, 4))));
+        if self.arguments.entries && verdict.is_ok() {
+            report.text.push_str(&entries(&store, 8, 28, 20, 24));
+        }
+        Ok(())
+    }
+
+    /// An index, and recipes against it.
+    fn check_index(&self, path: &Path, report: &mut Report) -> Done {
+        let index = self.read(path, &input::INDEX)?;
+        let verdict = self.progress.step("checking the index", 0, || vault::check_index(&index));
+        report.tell(text::path(path), verdict.map(|()| format!("{} chunks", count_at(&index, 4))));
+        if self.arguments.entries && verdict.is_ok() {
+            report.text.push_str(&entries(&index, 8 + list_length(&index), 32, 24, 28));
+        }
+        let Some(path) = &self.arguments.recipes else { return Ok(()) };
+        if verdict.is_err() {
+            report.text.push_str(&format!("{}: not checked, since the index is refused\n", text::path(path)));
+            return Ok(());
+        }
+        let recipes = self.read(path, &input::RECIPES)?;
+        let verdict = self.progress.step("checking the recipes", 0, || vault::count(&index, &recipes));
+        let about = verdict.map(|count| format!("{} files, {count} occurrences", count_at(&recipes, 0)));
+        report.tell(text::path(path), about);
+        Ok(())
+    }
+
+    pub fn lookup(&self) -> Done {
+        let a = self.arguments;
+        let [_, text] = &a.plain[..] else {
+            return Err(Failure::Usage("lookup wants one FINGERPRINT".into()));
+        };
+        let key = from_hex(&text.to_string_lossy()).ok_or(Failure::Usage("a fingerprint is 40 hexadecimal digits".into()))?;
+        self.keep_apart(&[])?;
+        match (&a.store, &a.index) {
+            (Some(path), None) => {
+                let store = self.read(path, &input::STORE)?;
+                let chunk = vault::find_chunk(&store, &key).map_err(refused(text::path(path)))?;
+                let start = chunk.as_ptr() as usize - store.as_ptr() as usize;
+                self.found(chunk, &format!("chunk of {} bytes at {start}\n{}\n", chunk.len(), text::ascii(chunk)))
+            }
+            (None, Some(path)) => {
+                let index = self.read(path, &input::INDEX)?;
+                let body = vault::find_body(&index, &key).map_err(refused(text::path(path)))?;
+                let start = body.as_ptr() as usize - index.as_ptr() as usize;
+                let keywords = vault::keywords_of(vault::keywords_in_index(&index));
+                self.found(body, &format!("body of {} bytes at {start}\n{}", body.len(), explained(body, &keywords)))
+            }
+            _ => Err(Failure::Usage("lookup wants one of --store FILE and --index FILE".into())),
+        }
+    }
+
+    /// Bytes to the output file, or what they say to standard output.
+    fn found(&self, bytes: &[u8], text: &str) -> Done {
+        match &self.arguments.output {
+            Some(path) => output::write(Some(path), |out| out.write_all(bytes)),
+            None => output::standard(|out| out.write_all(text.as_bytes())),
+        }
+    }
+}
+
+/// A number of 4 bytes in a good file.
+fn count_at(bytes: &[u8], at: usize) -> u32 {
+    bytes.get(at..at + 4).map_or(0, |b| u32::from_le_bytes([b[0], b[1], b[2], b[3]]))
+}
+
+/// The length of a good index's keyword list.
+fn list_length(index: &[u8]) -> usize {
+    2 + vault::keywords_of(vault::keywords_in_index(index)).iter().map(|word| 1 + word.len()).sum::<usize>()
+}
+
+/// The directory of a good store or index, a line for each entry: fingerprint, offset, length.
+fn entries(bytes: &[u8], start: usize, stride: usize, offset: usize, length: usize) -> String {
+    let mut text = String::new();
+    for entry in (0..count_at(bytes, 4) as usize).map(|k| start + stride * k) {
+        let key: String = bytes[entry..entry + 20].iter().map(|b| format!("{b:02x}")).collect();
+        text.push_str(&format!("{key}\t{}\t{}\n", count_at(bytes, entry + offset), count_at(bytes, entry + length)));
+    }
+    text
+}
+
+/// Bytes from hexadecimal digits; any number of them, since the library judges the length.
+fn from_hex(text: &str) -> Option<Vec<u8>> {
+    let digits: Option<Vec<u8>> = text.chars().map(|c| c.to_digit(16).map(|d| d as u8)).collect();
+    let digits = digits.filter(|d| d.len() % 2 == 0)?;
+    Some(digits.chunks(2).map(|two| 16 * two[0] + two[1]).collect())
+}
+
+/// What a good body says, a line for each keyword that it has a record of.
+fn explained(body: &[u8], keywords: &[&[u8]]) -> String {
+    let mut text = String::new();
+    let two = |at: usize| usize::from(body[at]) + 256 * usize::from(body[at + 1]);
+    let mut at = 0;
+    while at < body.len() {
+        let (k, kind) = (usize::from(body[at]), body[at + 1]);
+        let (prefix, suffix) = match kind {
+            0 => (body[at + 2] % 2, body[at + 2] / 2),
+            _ => (body[at + 2], body[at + 3]),
+        };
+        let (first, count) = match kind {
+            0 => (at + 3, 0),
+            1 => (at + 5, usize::from(body[at + 4])),
+            2 => (at + 7, usize::from(body[at + 4])),
+            _ => (at + 9, two(at + 7)),
+        };
+        let shown: Vec<String> = (0..count.min(20)).map(|o| two(first + 2 * o).to_string()).collect();
+        let more = if count > 20 { " .." } else { "" };
+        let word = keywords.get(k).map_or(String::new(), |word| text::ascii(word));
+        text.push_str(&format!(
+            "keyword {k} ({word}): prefix {prefix}, suffix {suffix}, {count} inside: {}{more}\n",
+            shown.join(" ")
+        ));
+        at = match kind {
+            0 => at + 3,
+            1 => at + 7,
+            _ => first + 2 * count,
+        };
+    }
+    if text.is_empty() {
+        text.push_str("no keyword has a record\n");
+    }
+    text
+}
