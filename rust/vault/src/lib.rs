@@ -1,7 +1,7 @@
 //! Search over deduplicated backups: safe Rust over the proved library `libvault_c.a`.
 //!
 //! * A **store** holds each distinct chunk once. **Recipes** say which chunks make up each file.
-//! * [`scan`] reads each chunk once for up to 16 **keywords** and writes a **match index**.
+//! * [`scan`] scans each chunk once for up to 16 **keywords** and writes a **match index**.
 //! * [`join`] takes the index and recipes, and no chunk, and lists every [`Occurrence`] in the restored files: by file,
 //!   then offset, then keyword, each exactly once, also those that cross from one chunk into the next.
 //!
