@@ -11,7 +11,8 @@ use lib.Dec.{eqb, leb}
 use lib.ListN.{length, take, drop, getD, length-append, length-drop, length-take, take-append-drop}
 use lib.Seq.{drop-drop, take-add, getD-take}
 use Rattle.spec.specs.Bytes.{leValue, leBytes, fieldAt, fieldsOf, fieldsBytes, same, rising, every, AllBytes}
-use Rattle.spec.specs.Records.{MatchRecord, Form, isEmpty, isTiny, reach, inRange, kindOf, headBytes}
+use Rattle.spec.specs.Form.{Form}
+use Rattle.spec.specs.Records.{MatchRecord, isEmpty, isTiny, reach, inRange, kindOf, headBytes}
 use Rattle.spec.specs.Records.{offsetsBytes, fullBytes, tinyBytes, recordBytes, readOffsets, readRecord, recordSize}
 use Rattle.bodies.specs.Steps.{recordGood}
 use Rattle.spec.proofs.Tests.{le-or-lt, and-left, and-right, leb-true, leb-false, eqb-ne, bool-cases, false-of}

@@ -9,7 +9,8 @@ use lib.Dec.{eqb, leb·zero, eqb·suc-zero}
 use lib.ListN.{length, take, drop, take-append-drop}
 use lib.Seq.{take-at, drop-at}
 use Rattle.spec.specs.Bytes.{same, begins}
-use Rattle.spec.specs.Records.{MatchRecord, Form, isEmpty, reach, inRange, recordBytes, bodyFrom, readRecord, recordSize, readFrom, allInRange, goodBody}
+use Rattle.spec.specs.Form.{Form}
+use Rattle.spec.specs.Records.{MatchRecord, isEmpty, reach, inRange, recordBytes, bodyFrom, readRecord, recordSize, readFrom, allInRange, goodBody}
 use Rattle.spec.proofs.Tests.{bool-cases, and-left, and-right}
 use Rattle.spec.proofs.Same.{same-eq, same-refl}
 use Rattle.spec.proofs.RecordLaws.{FormGood, bool-ext, written-empty, size-written, body-begins}

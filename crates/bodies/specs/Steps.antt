@@ -4,7 +4,8 @@ use mathlib.Core.List.{List}
 use Prim.Native.Nat.{ℕ}
 use lib.ListN.{length, take}
 use Rattle.spec.specs.Bytes.{same}
-use Rattle.spec.specs.Records.{Form, inRange, recordBytes, bodyFrom, readRecord, recordSize, readFrom, allInRange}
+use Rattle.spec.specs.Form.{Form}
+use Rattle.spec.specs.Records.{inRange, recordBytes, bodyFrom, readRecord, recordSize, readFrom, allInRange}
 
 -- From keyword k on: the bytes are the writing of the records that they say, and those keep the ranges.
 unfoldable pub goodFrom : Form → ℕ → List ℕ → ℕ → List ℕ → Bool

@@ -1,11 +1,13 @@
 // Bodies of a match index: whether bytes are the written form of records in range (document 01, "Notes file": "A body is good if ..").
 ghost use mathlib.Core.Path.{_≡_};
 ghost use mathlib.Core.List.{[], _∷_};
-ghost use Prim.Native.Nat.{ℕ, _+_, _*_, _≤_};
+ghost use Prim.Native.Nat.{ℕ, _+_, _*_, _≤_, _<_};
 ghost use lib.ListN.{length, getD, take, drop};
 ghost use Rattle.spec.specs.Bytes.{fieldsOf, begins};
-ghost use Rattle.spec.specs.Records.{form1, reach, goodBody};
+ghost use Rattle.spec.specs.Form.{formIn};
+ghost use Rattle.spec.specs.Records.{reach, goodBody};
 ghost use Rattle.bodies.specs.Check.{goodSize, offsetsInRange, offsetsGood, Lengths, Head, KeywordLengths};
+use spec::Format;
 
 // The greatest length of a prefix or suffix.
 fn reach_of(n: usize, size: usize) -> usize
@@ -27,7 +29,7 @@ fn in_order(bytes: &[u8], at: usize, width: usize, count: usize, n: usize, size:
     let mut left = count;
     let mut least: usize = 0;
     while 0 < left {
-        let offset = field::read(bytes, place, width) as usize;
+        let offset = field::read_offset(bytes, place, width) as usize;
         if offset < least {
             return false;
         }
@@ -44,24 +46,24 @@ fn in_order(bytes: &[u8], at: usize, width: usize, count: usize, n: usize, size:
     true
 }
 
-// The `count` offsets of 2 bytes at `at`: all there, the first one the head's, in order.
-fn offsets_good(bytes: &[u8], at: usize, count: usize, n: usize, size: usize) -> bool
-    requires { ⌜ (7 ≤ length (now bytes)) × (at ≤ length (now bytes)) × (1 ≤ count) × (count ≤ 65535) × (1 ≤ n) ⌝ }
-    ensures { λ r. ⌜ r ≡ offsetsGood n size (now (bytes .entry)) at count ⌝ }
+// The `count` offsets of `width` bytes at `at`: all there, the first one the head's, in order.
+fn offsets_good(bytes: &[u8], at: usize, width: usize, count: usize, n: usize, size: usize) -> bool
+    requires { ⌜ (5 + width ≤ length (now bytes)) × (at ≤ length (now bytes)) × (width ≤ 3) × (1 ≤ count) × (count < 16777216) × (1 ≤ n) ⌝ }
+    ensures { λ r. ⌜ r ≡ offsetsGood width n size (now (bytes .entry)) at count ⌝ }
 {
-    if bytes.len() - at < 2 * count {
+    if bytes.len() - at < width * count {
         return false;
     }
-    if field::read(bytes, 5, 2) != field::read(bytes, at, 2) {
+    if field::read(bytes, 5, width) != field::read(bytes, at, width) {
         return false;
     }
-    in_order(bytes, at, 2, count, n, size)
+    in_order(bytes, at, width, count, n, size)
 }
 
 // Kind 0: one byte, 1 prefix, 2 suffix, 3 both.
-fn tiny(bytes: &[u8], n: usize, size: usize) -> usize
+fn tiny(bytes: &[u8], format: Format, n: usize, size: usize) -> usize
     requires { ⌜ (1 ≤ length (now bytes)) × (getD (now bytes) 1 0 ≡ 0) × (1 ≤ n) ⌝ }
-    ensures { λ r. ⌜ r ≡ goodSize n size (now (bytes .entry)) ⌝ }
+    ensures { λ r. ⌜ r ≡ goodSize format n size (now (bytes .entry)) ⌝ }
 {
     if bytes.len() < 3 {
         return 0;
@@ -84,44 +86,44 @@ fn tiny(bytes: &[u8], n: usize, size: usize) -> usize
 }
 
 // Kind 1 without an offset: the field of the first one is 0, and the record is not tiny.
-fn none(bytes: &[u8], n: usize, size: usize) -> usize
-    requires { ⌜ Head 1 n size (now bytes) × (getD (now bytes) 4 0 ≡ 0) ⌝ }
-    ensures { λ r. ⌜ r ≡ goodSize n size (now (bytes .entry)) ⌝ }
+fn none(bytes: &[u8], format: Format, n: usize, size: usize) -> usize
+    requires { ⌜ Head format 1 n size (now bytes) × (getD (now bytes) 4 0 ≡ 0) ⌝ }
+    ensures { λ r. ⌜ r ≡ goodSize format n size (now (bytes .entry)) ⌝ }
 {
-    if field::read(bytes, 5, 2) != 0 {
+    if field::read(bytes, 5, format.width) != 0 {
         return 0;
     }
     if 1 < bytes[2] {
-        return 7;
+        return 5 + format.width;
     }
     if 1 < bytes[3] {
-        return 7;
+        return 5 + format.width;
     }
     0
 }
 
 // Kind 1 with an offset.
-fn single(bytes: &[u8], n: usize, size: usize) -> usize
-    requires { ⌜ Head 1 n size (now bytes) × (1 ≤ getD (now bytes) 4 0) ⌝ }
-    ensures { λ r. ⌜ r ≡ goodSize n size (now (bytes .entry)) ⌝ }
+fn single(bytes: &[u8], format: Format, n: usize, size: usize) -> usize
+    requires { ⌜ Head format 1 n size (now bytes) × (1 ≤ getD (now bytes) 4 0) ⌝ }
+    ensures { λ r. ⌜ r ≡ goodSize format n size (now (bytes .entry)) ⌝ }
 {
     if bytes[4] != 1 {
         return 0;
     }
-    let offset = field::read(bytes, 5, 2) as usize;
+    let offset = field::read(bytes, 5, format.width) as usize;
     if size < offset {
         return 0;
     }
     if size - offset < n {
         return 0;
     }
-    7
+    5 + format.width
 }
 
 // Kind 2: 2 to 254 offsets.
-fn several(bytes: &[u8], n: usize, size: usize) -> usize
-    requires { ⌜ Head 2 n size (now bytes) ⌝ }
-    ensures { λ r. ⌜ r ≡ goodSize n size (now (bytes .entry)) ⌝ }
+fn several(bytes: &[u8], format: Format, n: usize, size: usize) -> usize
+    requires { ⌜ Head format 2 n size (now bytes) ⌝ }
+    ensures { λ r. ⌜ r ≡ goodSize format n size (now (bytes .entry)) ⌝ }
 {
     let count = bytes[4] as usize;
     if count < 2 {
@@ -130,49 +132,53 @@ fn several(bytes: &[u8], n: usize, size: usize) -> usize
     if 254 < count {
         return 0;
     }
-    if !offsets_good(bytes, 7, count, n, size) {
+    let width = format.width;
+    let at = 5 + width;
+    if !offsets_good(bytes, at, width, count, n, size) {
         return 0;
     }
-    7 + 2 * count
+    at + width * count
 }
 
 // Kind 3: 255 offsets or more, with their exact count.
-fn many(bytes: &[u8], n: usize, size: usize) -> usize
-    requires { ⌜ Head 3 n size (now bytes) ⌝ }
-    ensures { λ r. ⌜ r ≡ goodSize n size (now (bytes .entry)) ⌝ }
+fn many(bytes: &[u8], format: Format, n: usize, size: usize) -> usize
+    requires { ⌜ Head format 3 n size (now bytes) ⌝ }
+    ensures { λ r. ⌜ r ≡ goodSize format n size (now (bytes .entry)) ⌝ }
 {
-    if bytes.len() < 9 {
+    let width = format.width;
+    let at = 5 + 2 * width;
+    if bytes.len() < at {
         return 0;
     }
     if bytes[4] != 255 {
         return 0;
     }
-    let count = field::read(bytes, 7, 2) as usize;
+    let count = field::read(bytes, 5 + width, width) as usize;
     if count < 255 {
         return 0;
     }
-    if !offsets_good(bytes, 9, count, n, size) {
+    if !offsets_good(bytes, at, width, count, n, size) {
         return 0;
     }
-    9 + 2 * count
+    at + width * count
 }
 
 // The size of the good record that the bytes start with, for a keyword of length n and a chunk of length `size`; 0 if they start with none.
-fn record_good(bytes: &[u8], n: usize, size: usize) -> usize
-    requires { ⌜ (1 ≤ length (now bytes)) × Lengths n size ⌝ }
-    ensures { λ r. ⌜ r ≡ goodSize n size (now (bytes .entry)) ⌝ }
+fn record_good(bytes: &[u8], format: Format, n: usize, size: usize) -> usize
+    requires { ⌜ (1 ≤ length (now bytes)) × Lengths format n size ⌝ }
+    ensures { λ r. ⌜ r ≡ goodSize format n size (now (bytes .entry)) ⌝ }
 {
     if bytes.len() < 2 {
         return 0;
     }
     let kind = bytes[1];
     if kind == 0 {
-        return tiny(bytes, n, size);
+        return tiny(bytes, format, n, size);
     }
     if 3 < kind {
         return 0;
     }
-    if bytes.len() < 7 {
+    if bytes.len() < 5 + format.width {
         return 0;
     }
     let most = reach_of(n, size);
@@ -183,15 +189,15 @@ fn record_good(bytes: &[u8], n: usize, size: usize) -> usize
         return 0;
     }
     if kind == 2 {
-        return several(bytes, n, size);
+        return several(bytes, format, n, size);
     }
     if kind == 3 {
-        return many(bytes, n, size);
+        return many(bytes, format, n, size);
     }
     if bytes[4] == 0 {
-        return none(bytes, n, size);
+        return none(bytes, format, n, size);
     }
-    single(bytes, n, size)
+    single(bytes, format, n, size)
 }
 
 // The body's next number, at `at`, is k.
@@ -205,9 +211,9 @@ fn is_next(body: &[u8], at: usize, k: usize) -> bool
 }
 
 // The body is the written form of records in range, for keywords of these lengths and a chunk of length `size`.
-pub fn body_good(body: &[u8], lengths: &[usize], count: usize, size: usize) -> bool
-    requires { ⌜ KeywordLengths count size (now lengths) ⌝ }
-    ensures { λ r. ⌜ r ≡ goodBody form1 (take count (now (lengths .entry))) size (now (body .entry)) ⌝ }
+pub fn body_good(body: &[u8], format: Format, lengths: &[usize], count: usize, size: usize) -> bool
+    requires { ⌜ KeywordLengths format count size (now lengths) ⌝ }
+    ensures { λ r. ⌜ r ≡ goodBody (formIn format) (take count (now (lengths .entry))) size (now (body .entry)) ⌝ }
 {
     let mut at: usize = 0;
     let mut k: usize = 0;
@@ -216,7 +222,7 @@ pub fn body_good(body: &[u8], lengths: &[usize], count: usize, size: usize) -> b
             k += 1;
             continue;
         }
-        let taken = record_good(&body[at..], lengths[k], size);
+        let taken = record_good(&body[at..], format, lengths[k], size);
         if taken == 0 {
             return false;
         }

@@ -10,7 +10,7 @@ use native.Mathlib.Omega.{arith}
 use borrow.Author.Tests.{eqb-true, eqb-false, lt-ltb, le-ltb}
 use lib.Dec.{eqb, ltb}
 use lib.ListN.{length, getD, set, drop, length-set, length-take, length-drop, drop-of-length-le, replicate, length-replicate, getD-replicate}
-use lib.Seq.{getD-set-same, getD-set-other, drop-cons, getD-drop, drop-drop}
+use lib.Seq.{getD-set-same, getD-set-other, drop-set-lt, drop-cons, getD-drop, drop-drop}
 use Rattle.spec.specs.Bytes.{part, fieldsOf, fieldAt, same, contains, twice, positionOf}
 use Rattle.spec.proofs.Tests.{bool-cases, le-or-lt}
 use Rattle.spec.proofs.EntryLaws.{length-keys, key-at, contains-position}
@@ -111,20 +111,20 @@ pub record Stepped (key : List ℕ) (keys : List (List ℕ)) (c n m : ℕ) : Typ
   pub starts : Starts key keys m
   pub place : placeFrom key keys (c - m) ≡ placeFrom key keys (c - n)
 
-module _ (key : List ℕ) (keys : List (List ℕ)) (from n : ℕ) (chain : List ℕ) where
+module _ (key : List ℕ) (keys : List (List ℕ)) (from n : ℕ) (chains : List ℕ) where
   abbrev Steps : ℕ → Type 0
-  Steps c = from ≤ c → n ≤ from → 0 < n → Linked keys (c - from) chain → Starts key keys n → same key (getD keys (c - n) []) ≡ false
-      → Stepped key keys c n (getD chain (c - n) 0)
+  Steps c = from ≤ c → n ≤ from → 0 < n → Linked keys (c - from) chains → Starts key keys n → same key (getD keys (c - n) []) ≡ false
+      → Stepped key keys c n (getD chains (65536 + (c - n)) 0)
 
   steps : Steps (length keys)
   steps h l p links s f =
       let e = length keys - n in
-      let q : getD chain e 0 ≡ tailWith (hashOf key) (drop (suc e) keys) =
+      let q : getD chains (65536 + e) 0 ≡ tailWith (hashOf key) (drop (suc e) keys) =
       links .link e (omega arith) (omega arith) ∙ ap (λ (g : ℕ). tailWith g (drop (suc e) keys)) (s .hash p) in
       record {
-        less = omega (arith, jump-le key keys (suc e) (omega arith) (getD chain e 0) q);
-        starts = jump-starts key keys (suc e) (omega arith) (getD chain e 0) q;
-        place = jump key keys (suc e) (omega arith) (getD chain e 0) q ∙ place-miss key keys e (omega arith) f;
+        less = omega (arith, jump-le key keys (suc e) (omega arith) (getD chains (65536 + e) 0) q);
+        starts = jump-starts key keys (suc e) (omega arith) (getD chains (65536 + e) 0) q;
+        place = jump key keys (suc e) (omega arith) (getD chains (65536 + e) 0) q ∙ place-miss key keys e (omega arith) f;
       }
 
   pub step : (c : ℕ) → length keys ≡ c → Steps c
@@ -149,24 +149,24 @@ module _ (bytes : List ℕ) (start stride count : ℕ) (lies : Lies bytes start 
 
 -- ---- a lookup among the entries from k on
 
-pub linked-from : (keys : List (List ℕ)) (k j : ℕ) (chain : List ℕ) → k ≤ j → Linked keys k chain → Linked keys j chain
-linked-from keys k j chain h links = record { long = links .long; link = λ e l m. links .link e (omega arith) m }
+pub linked-from : (keys : List (List ℕ)) (k j : ℕ) (chains : List ℕ) → k ≤ j → Linked keys k chains → Linked keys j chains
+linked-from keys k j chains h links = record { long = links .long; link = λ e l m. links .link e (omega arith) m }
 
--- n is what `heads` has for the key: where to follow a chain from, and what that finds
-pub record Headed (key : List ℕ) (keys : List (List ℕ)) (chain : List ℕ) (c k n : ℕ) : Type 0 where
-  pub links : Linked keys (c - n) chain
+-- n is the head for the key: where to follow a chain from, and what that finds
+pub record Headed (key : List ℕ) (keys : List (List ℕ)) (chains : List ℕ) (c k n : ℕ) : Type 0 where
+  pub links : Linked keys (c - n) chains
   pub starts : Starts key keys n
   pub place : placeFrom key keys (c - n) ≡ placeFrom key keys k
 
-module _ (key : List ℕ) (keys : List (List ℕ)) (heads chain : List ℕ) (k n : ℕ) where
+module _ (key : List ℕ) (keys : List (List ℕ)) (chains : List ℕ) (k n : ℕ) where
   abbrev Heads : ℕ → Type 0
-  Heads c = k ≤ c → Chained keys k heads chain → n ≡ getD heads (hashOf key) 0 → Headed key keys chain c k n
+  Heads c = k ≤ c → Chained keys k chains → n ≡ getD chains (hashOf key) 0 → Headed key keys chains c k n
 
   heads-at : Heads (length keys)
   heads-at l x e =
       let q : n ≡ tailWith (hashOf key) (drop k keys) = e ∙ x .head (hashOf key) (omega (arith, hash-lt key)) in
       record {
-        links = linked-from keys k (length keys - n) chain (omega (arith, jump-le key keys k l n q)) (x .links);
+        links = linked-from keys k (length keys - n) chains (omega (arith, jump-le key keys k l n q)) (x .links);
         starts = jump-starts key keys k l n q;
         place = jump key keys k l n q;
       }
@@ -189,32 +189,49 @@ contained key keys k c q l = go (le-or-lt (length (drop k keys)) (positionOf key
         lt-ltb (placeFrom key keys k) c (omega (arith, length-drop k keys))
         ∙ sym (contains-position key (drop k keys) ∙ lt-ltb (positionOf key (drop k keys)) (length (drop k keys)) h)
 
-pub inserted : (keys : List (List ℕ)) (heads chain : List ℕ) (e h c : ℕ) → length keys ≡ c → e < c → h ≡ hashOf (getD keys e [])
-    → Chained keys (suc e) heads chain → Chained keys e (set heads h (c - e)) (set chain e (getD heads h 0))
-inserted keys heads chain e h c q l p x = record {
-  wide = length-set heads h (c - e) ∙ x .wide;
-  head = λ g m. rw (drop-cons keys e [] (omega arith)) (⊎-elim
-      (λ t. let s : g ≡ h = sym (eqb-true (hashOf (getD keys e [])) g t) ∙ sym p in
-      rw (t, s) (getD-set-same heads h (c - e) 0 (omega (arith, x .wide, hash-lt (getD keys e []))) ∙ omega (arith, length-drop (suc e) keys)))
-      (λ f. rw f (getD-set-other heads h g (c - e) 0 (λ s. eqb-false (hashOf (getD keys e [])) g f (sym p ∙ sym s)) ∙ x .head g m))
-      (bool-cases (eqb (hashOf (getD keys e [])) g)));
-  links = record {
-    long = rw length-set (x .links .long);
-    link = λ j k m. go j m (eq-or-lt-of-le k);
-  };
-}
-  where
-    go : (j : ℕ) → j < length keys → (e ≡ j) ⊎ (e < j) → getD (set chain e (getD heads h 0)) j 0 ≡ tailWith (hashOf (getD keys j [])) (drop (suc j) keys)
-    go j m (inl s) =
-        rw (← s) (getD-set-same chain e (getD heads h 0) 0 (omega (arith, x .links .long)) ∙ x .head h (omega (arith, hash-lt (getD keys e [])))
-        ∙ ap (λ (g : ℕ). tailWith g (drop (suc e) keys)) p)
-    go j m (inr s) = getD-set-other chain e j (getD heads h 0) 0 (λ r. omega arith) ∙ x .links .link j s m
+-- entry e of c, with the hash h, is put in front of those after it
+module _ (keys : List (List ℕ)) (chains : List ℕ) (e h c : ℕ) (q : length keys ≡ c) (l : e < c) (p : h ≡ hashOf (getD keys e []))
+    (x : Chained keys (suc e) chains) where
+  -- with its link
+  abbrev linked : List ℕ
+  linked = set chains (65536 + e) (getD chains h 0)
+
+  small : h < 65521
+  small = rw p (hash-lt (getD keys e []))
+
+  length-linked : length linked ≡ length chains
+  length-linked = length-set chains (65536 + e) (getD chains h 0)
+
+  new-link : (j : ℕ) → j < length keys → (e ≡ j) ⊎ (e < j) → getD linked (65536 + j) 0 ≡ tailWith (hashOf (getD keys j [])) (drop (suc j) keys)
+  new-link j m (inl s) =
+      rw (← s) (getD-set-same chains (65536 + e) (getD chains h 0) 0 (omega (arith, x .links .long)) ∙ x .head h (omega (arith, small))
+      ∙ ap (λ (g : ℕ). tailWith g (drop (suc e) keys)) p)
+  new-link j m (inr s) = getD-set-other chains (65536 + e) (65536 + j) (getD chains h 0) 0 (λ r. omega arith) ∙ x .links .link j s m
+
+  pub inserted : Chained keys e (set linked h (c - e))
+  inserted = record {
+    head = λ g m. rw (drop-cons keys e [] (omega arith)) (⊎-elim
+        (λ t. let s : g ≡ h = sym (eqb-true (hashOf (getD keys e [])) g t) ∙ sym p in
+        rw (t, s) (getD-set-same linked h (c - e) 0 (omega (arith, length-linked, x .links .long, small)) ∙ omega (arith, length-drop (suc e) keys)))
+        (λ f. rw f (getD-set-other linked h g (c - e) 0 (λ s. eqb-false (hashOf (getD keys e [])) g f (sym p ∙ sym s))
+        ∙ getD-set-other chains (65536 + e) g (getD chains h 0) 0 (λ s. omega arith) ∙ x .head g m))
+        (bool-cases (eqb (hashOf (getD keys e [])) g)));
+    links = record {
+      long = omega (arith, length-set linked h (c - e), length-linked, x .links .long);
+      link = λ j k m. getD-set-other linked h (65536 + j) (c - e) 0 (λ s. omega (arith, small)) ∙ new-link j m (eq-or-lt-of-le k);
+    };
+  }
+
+  -- behind the links nothing changed
+  pub inserted-rest : drop (65536 + length keys) (set linked h (c - e)) ≡ drop (65536 + length keys) chains
+  inserted-rest =
+      drop-set-lt (65536 + length keys) linked h (c - e) (omega (arith, small))
+      ∙ drop-set-lt (65536 + length keys) chains (65536 + e) (getD chains h 0) (omega (arith, q))
 
 -- ---- all entries
 
-pub empty : (keys : List (List ℕ)) (heads chain : List ℕ) (c : ℕ) → length keys ≡ c → c ≤ 65000 → Empty heads chain → Chained keys c heads chain
-empty keys heads chain c q l x = record {
-  wide = x .wide;
+pub empty : (keys : List (List ℕ)) (chains : List ℕ) (c : ℕ) → length keys ≡ c → c ≤ 65000 → Empty chains → Chained keys c chains
+empty keys chains c q l x = record {
   head = λ h m. rw (drop-of-length-le keys {i = c} (omega arith)) (x .none h m);
   links = record { long = omega (arith, x .long); link = λ e k m. absurd (omega arith) };
 }
@@ -226,10 +243,9 @@ pub twice-step : (keys : List (List ℕ)) (e : ℕ) (found duplicate : Bool) →
     → duplicate ≡ twice (drop (suc e) keys) → (found || duplicate) ≡ twice (drop e keys)
 twice-step keys e found duplicate h p q = rw (p, q, drop-cons keys e [] h)
 
--- the arrays of zeros
-pub zeros : Empty (replicate 65536 0) (replicate 65000 0)
+-- the array of zeros
+pub zeros : Empty (replicate 130536 0)
 zeros = record {
-  wide = length-replicate {A = ℕ} 65536 0;
-  none = λ h m. getD-replicate {A = ℕ} 65536 h 0 0 m;
-  long = omega (arith, length-replicate {A = ℕ} 65000 0);
+  long = omega (arith, length-replicate {A = ℕ} 130536 0);
+  none = λ h m. getD-replicate {A = ℕ} 130536 h 0 0 (omega arith);
 }

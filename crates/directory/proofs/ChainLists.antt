@@ -1,17 +1,19 @@
--- The chains as lists: arrays that hold the chains of all keys are `headsOf` and `linksOf`, element by element, and the other way round.
+-- The chains as lists: an array that holds the chains of all keys begins with `chainsOf`, element by element, and the other way round.
 -- Assumes nothing.
-use mathlib.Core.Path.{_≡_, refl, sym, ap, _∙_}
+use mathlib.Core.Path.{_≡_, refl, sym, ap, ap₂, _∙_, subst}
+use mathlib.Core.Logic.{_⊎_, inl, inr}
 use mathlib.Core.Bool.{Bool}
-use mathlib.Core.List.{List, [], _∷_}
-use Prim.Native.Nat.{ℕ, zero, suc, _≤_, _<_}
+use mathlib.Core.List.{List, [], _∷_, _++_}
+use Prim.Native.Nat.{ℕ, zero, suc, _+_, _-_, _≤_, _<_}
 use native.Mathlib.Nat.{zero-add, not-suc-le-zero, le-of-suc-le-suc}
 use native.Mathlib.Omega.{arith}
-use lib.ListN.{length, getD, take, drop, take-append-drop}
-use lib.Seq.{ext-getD, getD-take, length-take-le}
+use lib.ListN.{length, getD, take, drop, length-append, take-append-drop, List·getD-append}
+use lib.Seq.{ext-getD, getD-take, getD-append-add, length-take-le}
 use Rattle.spec.specs.Bytes.{twice, splice, written}
 use Rattle.spec.proofs.Splices.{splice-read, length-splice}
+use Rattle.spec.proofs.Tests.{le-or-lt}
 use Rattle.spec.proofs.Tabulated.{length-tabulated, tabulated-at}
-use Rattle.directory.specs.Chains.{hashOf, tailWith, headsOf, linksOf, Chained}
+use Rattle.directory.specs.Chains.{hashOf, tailWith, headsOf, linksOf, chainsOf, Chained}
 
 -- ---- the elements of the two lists
 
@@ -34,6 +36,23 @@ link-at [] e h = absurd (not-suc-le-zero h)
 link-at (key ∷ keys) zero h = refl
 link-at (key ∷ keys) (suc e) h = link-at keys e (le-of-suc-le-suc h)
 
+-- ---- the elements of the whole
+
+pub length-chains : (keys : List (List ℕ)) → length (chainsOf keys) ≡ 65536 + length keys
+unfolding chainsOf
+length-chains keys = length-append (headsOf keys) (linksOf keys) ∙ ap₂ {C = ℕ} (λ m n. m + n) (length-heads keys) (length-links keys)
+
+chains-head : (keys : List (List ℕ)) (h : ℕ) → h < 65536 → getD (chainsOf keys) h 0 ≡ tailWith h keys
+unfolding chainsOf
+chains-head keys h m = List·getD-append (headsOf keys) (linksOf keys) 0 h (omega (arith, length-heads keys)) ∙ head-at keys h m
+
+chains-link : (keys : List (List ℕ)) (e : ℕ) → e < length keys → getD (chainsOf keys) (65536 + e) 0 ≡ tailWith (hashOf (getD keys e [])) (drop (suc e) keys)
+unfolding chainsOf
+chains-link keys e m =
+    ap (λ (n : ℕ). getD (headsOf keys ++ linksOf keys) (n + e) 0) (sym (length-heads keys))
+    ∙ getD-append-add (headsOf keys) (linksOf keys) e 0
+    ∙ link-at keys e m
+
 -- ---- what is written at a buffer's start
 
 read-written : (buffer bytes : List ℕ) → take (length bytes) (written buffer bytes) ≡ bytes
@@ -44,40 +63,47 @@ is-written : (buffer bytes l : List ℕ) (n : ℕ) → length bytes ≡ n → ta
 unfolding splice
 is-written buffer bytes l n e p q = sym (take-append-drop n l) ∙ rw (p, q, zero-add, e)
 
--- ---- the arrays
+-- ---- the array
 
--- what `build` answers and leaves in the arrays; `chain` was next₀
-abbrev pub Built : List (List ℕ) → List ℕ → List ℕ → List ℕ → Bool → Type 0
-Built keys chain₀ heads chain duplicate = (duplicate ≡ twice keys) × (heads ≡ headsOf keys) × (chain ≡ written chain₀ (linksOf keys))
+-- what `build` answers and leaves in the array, which was chains₀
+abbrev pub Built : List (List ℕ) → List ℕ → List ℕ → Bool → Type 0
+Built keys chains₀ chains duplicate = (duplicate ≡ twice keys) × (chains ≡ written chains₀ (chainsOf keys))
 
-module _ (keys : List (List ℕ)) (heads chain : List ℕ) where
-  module _ (chains : Chained keys 0 heads chain) where
-    pub heads-are : heads ≡ headsOf keys
-    heads-are =
-        ext-getD 0 heads (headsOf keys) (chains .wide ∙ sym (length-heads keys))
-        (λ h l. let m : h < 65536 = omega (arith, chains .wide) in chains .head h m ∙ sym (head-at keys h m))
+module _ (keys : List (List ℕ)) (chains chains₀ : List ℕ) where
+  module _ (x : Chained keys 0 chains) where
+    same-at : (i : ℕ) → i < 65536 + length keys → (65536 ≤ i) ⊎ (i < 65536) → getD chains i 0 ≡ getD (chainsOf keys) i 0
+    same-at i l (inl h) =
+        let m : i - 65536 < length keys = omega arith in
+        let s : 65536 + (i - 65536) ≡ i = omega arith in
+        subst (λ (j : ℕ). getD chains j 0 ≡ getD (chainsOf keys) j 0) s (x .links .link (i - 65536) (omega arith) m ∙ sym (chains-link keys (i - 65536) m))
+    same-at i l (inr h) = x .head i h ∙ sym (chains-head keys i h)
 
-    first-links : take (length keys) chain ≡ linksOf keys
-    first-links =
-        let n = length-take-le (length keys) chain (chains .links .long) in
-        ext-getD 0 (take (length keys) chain) (linksOf keys) (n ∙ sym (length-links keys))
-        (λ e l. let m : e < length keys = omega (arith, n) in
-        getD-take (length keys) chain e 0 m ∙ chains .links .link e (omega arith) m ∙ sym (link-at keys e m))
+    front : take (65536 + length keys) chains ≡ chainsOf keys
+    front =
+        let n = length-take-le (65536 + length keys) chains (x .links .long) in
+        ext-getD 0 (take (65536 + length keys) chains) (chainsOf keys) (n ∙ sym (length-chains keys))
+        (λ i l. let m : i < 65536 + length keys = omega (arith, n) in getD-take (65536 + length keys) chains i 0 m ∙ same-at i m (le-or-lt 65536 i))
 
-    -- behind the keys, `chain` is as it was
-    pub links-are : (chain₀ : List ℕ) → drop (length keys) chain ≡ drop (length keys) chain₀ → chain ≡ written chain₀ (linksOf keys)
-    links-are chain₀ rest = is-written chain₀ (linksOf keys) chain (length keys) (length-links keys) first-links rest
+    -- behind the links, `chains` is as it was
+    pub chains-are : drop (65536 + length keys) chains ≡ drop (65536 + length keys) chains₀ → chains ≡ written chains₀ (chainsOf keys)
+    chains-are rest = is-written chains₀ (chainsOf keys) chains (65536 + length keys) (length-chains keys) front rest
 
-  -- the two lists are the chains of all keys
-  pub chained : (chain₀ : List ℕ) → heads ≡ headsOf keys → chain ≡ written chain₀ (linksOf keys) → length keys ≤ length chain₀ → Chained keys 0 heads chain
-  chained chain₀ p q l = record {
-    wide = ap length p ∙ length-heads keys;
-    head = λ h m. ap (λ (x : List ℕ). getD x h 0) p ∙ head-at keys h m;
-    links = record {
-      long = omega (arith, ap length q, length-splice chain₀ 0 (linksOf keys) (omega (arith, length-links keys)));
-      link = λ e k m. sym (getD-take (length keys) chain e 0 m) ∙ ap (λ (x : List ℕ). getD x e 0) front ∙ link-at keys e m;
-    };
-  }
-    where
-      front : take (length keys) chain ≡ linksOf keys
-      front = ap (take (length keys)) q ∙ ap (λ (n : ℕ). take n (written chain₀ (linksOf keys))) (sym (length-links keys)) ∙ read-written chain₀ (linksOf keys)
+  -- an array with `chainsOf` at its start holds the chains of all keys
+  module _ (q : chains ≡ written chains₀ (chainsOf keys)) (l : 65536 + length keys ≤ length chains₀) where
+    begins : take (65536 + length keys) chains ≡ chainsOf keys
+    begins =
+        ap (take (65536 + length keys)) q
+        ∙ ap (λ (n : ℕ). take n (written chains₀ (chainsOf keys))) (sym (length-chains keys))
+        ∙ read-written chains₀ (chainsOf keys)
+
+    element : (i : ℕ) → i < 65536 + length keys → getD chains i 0 ≡ getD (chainsOf keys) i 0
+    element i m = sym (getD-take (65536 + length keys) chains i 0 m) ∙ ap (λ (x : List ℕ). getD x i 0) begins
+
+    pub chained : Chained keys 0 chains
+    chained = record {
+      head = λ h m. element h (omega arith) ∙ chains-head keys h m;
+      links = record {
+        long = omega (arith, ap length q, length-splice chains₀ 0 (chainsOf keys) (omega (arith, length-chains keys)));
+        link = λ e k m. element (65536 + e) (omega arith) ∙ chains-link keys e m;
+      };
+    }

@@ -1,11 +1,14 @@
 // Directories: the entry of a fingerprint, whether a fingerprint is there twice, and the check of the entries.
-// Fingerprints are found by hash chains in two arrays of the caller, built from the last entry to the first.
+// Fingerprints are found by hash chains in one array of the caller, the heads and behind them the links, built from the last entry to the first.
 ghost use mathlib.Core.Path.{_≡_};
 ghost use Prim.Native.Nat.{suc, _+_, _-_, _*_, _≤_, _<_};
 ghost use lib.ListN.{length};
 ghost use Rattle.spec.specs.Bytes.{part, same, twice, positionOf, written};
 ghost use Rattle.spec.specs.Directory.{entriesCode};
-ghost use Rattle.directory.specs.Chains.{hashOf, keysFrom, headsOf, linksOf, placeFrom, Starts, Linked, Chained, Inserted, Lies, Empty, layoutOf};
+ghost use Rattle.directory.specs.Chains.{hashOf, keysFrom, chainsOf, placeFrom, Starts, Linked, Chained, Inserted, Lies, Empty, layoutOf};
+
+// How many hashes there may be, each with a head.
+const HEADS: usize = 65536;
 
 // The hash of a key of 20 bytes. Its five products do not wait for each other, and one remainder is taken.
 fn hash(key: &[u8]) -> usize
@@ -44,31 +47,30 @@ pub fn key(bytes: &[u8], start: usize, stride: usize, e: usize) -> &[u8]
     &bytes[at..at + 20]
 }
 
-// Follows a chain to the first entry with the key; `count` where there is none. `from` is the number of entries from the chain's first on.
-fn follow(
-    bytes: &[u8],
+// A directory in some bytes: where its first entry starts, the bytes of an entry, how many there are.
+struct Extent {
     start: usize,
     stride: usize,
     count: usize,
-    chain: &[u32],
-    from: usize,
-    probe: &[u8],
-) -> usize
-    requires { ⌜ Lies (now bytes) start stride count ⌝ }
-    requires { ⌜ Linked (keysFrom (now bytes) start stride count) (count - from) (now chain) ⌝ }
-    requires { ⌜ Starts (now probe) (keysFrom (now bytes) start stride count) from ⌝ }
+}
+
+// Follows a chain to the first entry with the key; `count` where there is none. `from` is the number of entries from the chain's first on.
+fn follow(bytes: &[u8], dir: Extent, chains: &[u32], from: usize, probe: &[u8]) -> usize
+    requires { ⌜ Lies (now bytes) (dir .start) (dir .stride) (dir .count) ⌝ }
+    requires { ⌜ Linked (keysFrom (now bytes) (dir .start) (dir .stride) (dir .count)) ((dir .count) - from) (now chains) ⌝ }
+    requires { ⌜ Starts (now probe) (keysFrom (now bytes) (dir .start) (dir .stride) (dir .count)) from ⌝ }
     requires { ⌜ length (now probe) ≡ 20 ⌝ }
-    ensures { λ r. ⌜ r ≡ placeFrom (now (probe .entry)) (keysFrom (now (bytes .entry)) start stride count) (count - from) ⌝ }
+    ensures { λ r. ⌜ r ≡ placeFrom (now (probe .entry)) (keysFrom (now (bytes .entry)) (dir .start) (dir .stride) (dir .count)) ((dir .count) - from) ⌝ }
 {
     let mut n = from;
     while 0 < n {
-        let e = count - n;
-        if same_key(probe, key(bytes, start, stride, e)) {
+        let e = dir.count - n;
+        if same_key(probe, key(bytes, dir.start, dir.stride, e)) {
             return e;
         }
-        n = chain[e] as usize;
+        n = chains[HEADS + e] as usize;
     }
-    count
+    dir.count
 }
 
 // The first entry with the key; `count` where there is none.
@@ -77,17 +79,21 @@ pub fn find(
     start: usize,
     stride: usize,
     count: usize,
-    heads: &[u32],
-    chain: &[u32],
+    chains: &[u32],
     probe: &[u8],
 ) -> usize
     requires { ⌜ Lies (now bytes) start stride count ⌝ }
-    requires { ⌜ Chained (keysFrom (now bytes) start stride count) 0 (now heads) (now chain) ⌝ }
+    requires { ⌜ Chained (keysFrom (now bytes) start stride count) 0 (now chains) ⌝ }
     requires { ⌜ length (now probe) ≡ 20 ⌝ }
     ensures { λ r. ⌜ r ≡ positionOf (now (probe .entry)) (keysFrom (now (bytes .entry)) start stride count) ⌝ }
 {
+    let dir = Extent {
+        start: start,
+        stride: stride,
+        count: count,
+    };
     let h = hash(probe);
-    follow(bytes, start, stride, count, chain, heads[h] as usize, probe)
+    follow(bytes, dir, chains, chains[h] as usize, probe)
 }
 
 // Puts entry e in front of those after it; whether its key is one of theirs.
@@ -97,42 +103,39 @@ fn insert(
     stride: usize,
     count: usize,
     e: usize,
-    heads: &mut [u32],
-    chain: &mut [u32],
+    chains: &mut [u32],
 ) -> bool
     requires { ⌜ Lies (now bytes) start stride count ⌝ }
-    requires { ⌜ Chained (keysFrom (now bytes) start stride count) (suc e) (now heads) (now chain) ⌝ }
+    requires { ⌜ Chained (keysFrom (now bytes) start stride count) (suc e) (now chains) ⌝ }
     requires { ⌜ e < count ⌝ }
-    ensures { λ r. ⌜ Inserted (keysFrom (now (bytes .entry)) start stride count) e (now (chain .entry)) (now (heads .exit)) (now (chain .exit)) r ⌝ }
+    ensures { λ r. ⌜ Inserted (keysFrom (now (bytes .entry)) start stride count) e (now (chains .entry)) (now (chains .exit)) r ⌝ }
 {
+    let dir = Extent {
+        start: start,
+        stride: stride,
+        count: count,
+    };
     let probe = key(bytes, start, stride, e);
     let h = hash(probe);
-    let duplicate = follow(bytes, start, stride, count, chain, heads[h] as usize, probe);
-    chain[e] = heads[h];
-    heads[h] = (count - e) as u32;
+    let from = chains[h] as usize;
+    let duplicate = follow(bytes, dir, chains, from, probe);
+    chains[HEADS + e] = chains[h];
+    chains[h] = (count - e) as u32;
     duplicate < count
 }
 
 // Puts all entries into an empty index; whether some two keys are the same.
-pub fn build(
-    bytes: &[u8],
-    start: usize,
-    stride: usize,
-    count: usize,
-    heads: &mut [u32],
-    chain: &mut [u32],
-) -> bool
+pub fn build(bytes: &[u8], start: usize, stride: usize, count: usize, chains: &mut [u32]) -> bool
     requires { ⌜ Lies (now bytes) start stride count ⌝ }
-    requires { ⌜ Empty (now heads) (now chain) ⌝ }
+    requires { ⌜ Empty (now chains) ⌝ }
     ensures { λ r. ⌜ (r ≡ twice (keysFrom (now (bytes .entry)) start stride count))
-        × (now (heads .exit) ≡ headsOf (keysFrom (now (bytes .entry)) start stride count))
-        × (now (chain .exit) ≡ written (now (chain .entry)) (linksOf (keysFrom (now (bytes .entry)) start stride count))) ⌝ }
+        × (now (chains .exit) ≡ written (now (chains .entry)) (chainsOf (keysFrom (now (bytes .entry)) start stride count))) ⌝ }
 {
     let mut duplicate = false;
     let mut e = count;
     while 0 < e {
         e -= 1;
-        let found = insert(bytes, start, stride, count, e, heads, chain);
+        let found = insert(bytes, start, stride, count, e, chains);
         duplicate = found | duplicate;
     }
     duplicate

@@ -18,6 +18,20 @@ pub fn read(bytes: &[u8], at: usize, width: usize) -> u64
     v
 }
 
+// The same, for a width that only the index tells: 2 and 3, the widths of an offset inside a chunk, are each read without a loop.
+pub fn read_offset(bytes: &[u8], at: usize, width: usize) -> u64
+    requires { ⌜ (width ≤ 8) × (at + width ≤ length (now bytes)) ⌝ }
+    ensures { λ r. ⌜ r ≡ fieldAt (now (bytes .entry)) at width ⌝ }
+{
+    if width == 2 {
+        return read(bytes, at, 2);
+    }
+    if width == 3 {
+        return read(bytes, at, 3);
+    }
+    read(bytes, at, width)
+}
+
 // Writes a number as a field of `width` bytes at `at`.
 pub fn write(out: &mut [u8], at: usize, width: usize, v: u64)
     requires { ⌜ at + width ≤ length (now out) ⌝ }

@@ -3,37 +3,27 @@
 // in slots, so that who walks the file next need not look them up again.
 ghost use mathlib.Core.Path.{_≡_};
 ghost use mathlib.Core.List.{[], _∷_};
-ghost use Prim.Native.Nat.{_+_, _*_, _≤_, _<_, min};
+ghost use Prim.Native.Nat.{_+_, _-_, _*_, _≤_, _<_, min};
 ghost use lib.ListN.{length, take, set};
 ghost use Rattle.spec.specs.Bytes.{part, positionOf, written};
 ghost use Rattle.spec.specs.Outcome.{firstOf};
-ghost use Rattle.spec.specs.Directory.{sizeAt};
 ghost use Rattle.spec.specs.Recipes.{fileCode};
-ghost use Rattle.directory.specs.Chains.{keysFrom, Lies, Chained, layoutOf};
+ghost use Rattle.directory.specs.Chains.{Lies, Chained};
 ghost use Rattle.files.specs.Measures.{named, keysAt, sizesAt, innerShort, entriesIn, Measured};
 
-// The entry of fingerprint j of a file; `count` where there is none.
-pub fn entry_of(
-    file: &[u8],
-    j: usize,
-    index: &[u8],
-    start: usize,
-    count: usize,
-    heads: &[u32],
-    chain: &[u32],
-) -> usize
-    requires { ⌜ Lies (now index) start 32 count ⌝ }
-    requires { ⌜ Chained (keysAt (now index) start count) 0 (now heads) (now chain) ⌝ }
+// The entry of fingerprint j of a file; the number of entries where there is none.
+pub fn entry_of(file: &[u8], j: usize, index: &[u8], opened: spec::Opened, chains: &[u32]) -> usize
+    requires { ⌜ Lies (now index) (opened .directory) 32 (opened .entries) ⌝ }
+    requires { ⌜ Chained (keysAt (now index) (opened .directory) (opened .entries)) 0 (now chains) ⌝ }
     requires { ⌜ 20 * j + 20 ≤ length (now file) ⌝ }
-    ensures { λ r. ⌜ r ≡ positionOf (part (now (file .entry)) (20 * j) 20) (keysAt (now (index .entry)) start count) ⌝ }
+    ensures { λ r. ⌜ r ≡ positionOf (part (now (file .entry)) (20 * j) 20) (keysAt (now (index .entry)) (opened .directory) (opened .entries)) ⌝ }
 {
     directory::find(
         index,
-        start,
+        opened.directory,
         32,
-        count,
-        heads,
-        chain,
+        opened.entries,
+        chains,
         &file[20 * j..20 * j + 20],
     )
 }
@@ -49,12 +39,12 @@ fn keep(slots: &mut [u32], j: usize, k: usize)
 }
 
 // The chunk's length of entry k.
-fn size_of(index: &[u8], start: usize, count: usize, k: usize) -> usize
-    requires { ⌜ Lies (now index) start 32 count ⌝ }
-    requires { ⌜ k < count ⌝ }
-    ensures { λ r. ⌜ r ≡ sizesAt (now (index .entry)) start k ⌝ }
+fn size_of(index: &[u8], opened: spec::Opened, k: usize) -> usize
+    requires { ⌜ Lies (now index) (opened .directory) 32 (opened .entries) ⌝ }
+    requires { ⌜ k < opened .entries ⌝ }
+    ensures { λ r. ⌜ r ≡ sizesAt (now (index .entry)) (opened .directory) k ⌝ }
 {
-    field::read(index, start + 32 * k + 20, 4) as usize
+    field::read(index, opened.directory + 32 * k + 20, 4) as usize
 }
 
 // A sum that stays at 4294967296 once it gets there.
@@ -66,6 +56,17 @@ fn capped(total: usize, size: usize) -> usize
         return 4294967296;
     }
     total + size
+}
+
+// The least length of a chunk that is neither first nor last in its file.
+fn inner_least(opened: spec::Opened) -> usize
+    ensures { λ r. ⌜ r ≡ (opened .longest) - 1 ⌝ }
+{
+    let longest = opened.longest;
+    if longest == 0 {
+        return 0;
+    }
+    longest - 1
 }
 
 // The chunk at place j of n is neither first nor last, and shorter than is due.
@@ -96,23 +97,23 @@ struct Measure {
 fn measure_file(
     file: &[u8],
     index: &[u8],
-    start: usize,
-    count: usize,
-    heads: &[u32],
-    chain: &[u32],
-    innerLeast: usize,
+    opened: spec::Opened,
+    chains: &[u32],
     slots: &mut [u32],
 ) -> Measure
-    requires { ⌜ Lies (now index) start 32 count ⌝ }
-    requires { ⌜ Chained (keysAt (now index) start count) 0 (now heads) (now chain) ⌝ }
-    ensures { λ r. ⌜ Measured (keysAt (now (index .entry)) start count) (sizesAt (now (index .entry)) start) innerLeast (named (now (file .entry))) (now (slots .entry)) (now (slots .exit)) (r .missing) (r .total) (r .short) ⌝ }
+    requires { ⌜ Lies (now index) (opened .directory) 32 (opened .entries) ⌝ }
+    requires { ⌜ Chained (keysAt (now index) (opened .directory) (opened .entries)) 0 (now chains) ⌝ }
+    ensures { λ r. ⌜ Measured (keysAt (now (index .entry)) (opened .directory) (opened .entries)) (sizesAt (now (index .entry)) (opened .directory))
+        ((opened .longest) - 1) (named (now (file .entry))) (now (slots .entry)) (now (slots .exit)) (r .missing) (r .total) (r .short) ⌝ }
 {
+    let least = inner_least(opened);
+    let count = opened.entries;
     let n = file.len() / 20;
     let mut total: usize = 0;
     let mut short = false;
     let mut j: usize = 0;
     while j < n {
-        let k = entry_of(file, j, index, start, count, heads, chain);
+        let k = entry_of(file, j, index, opened, chains);
         if count <= k {
             return Measure {
                 missing: true,
@@ -121,9 +122,9 @@ fn measure_file(
             };
         }
         keep(slots, j, k);
-        let size = size_of(index, start, count, k);
+        let size = size_of(index, opened, k);
         total = capped(total, size);
-        let tight = inner_short(j, n, size, innerLeast);
+        let tight = inner_short(j, n, size, least);
         short = tight | short;
         j += 1;
     }
@@ -154,19 +155,18 @@ fn first_of(a: bool, x: u8, b: bool, y: u8, c: bool, z: u8) -> u8
 pub fn file_code(
     file: &[u8],
     index: &[u8],
-    start: usize,
-    count: usize,
-    heads: &[u32],
-    chain: &[u32],
-    innerLeast: usize,
+    opened: spec::Opened,
+    chains: &[u32],
     slots: &mut [u32],
 ) -> u8
-    requires { ⌜ Lies (now index) start 32 count ⌝ }
-    requires { ⌜ Chained (keysAt (now index) start count) 0 (now heads) (now chain) ⌝ }
-    ensures { λ r. ⌜ (r ≡ fileCode (keysAt (now (index .entry)) start count) (sizesAt (now (index .entry)) start) innerLeast (named (now (file .entry))))
-        × (now (slots .exit) ≡ written (now (slots .entry)) (take (length (now (slots .entry))) (entriesIn (keysAt (now (index .entry)) start count) (named (now (file .entry)))))) ⌝ }
+    requires { ⌜ Lies (now index) (opened .directory) 32 (opened .entries) ⌝ }
+    requires { ⌜ Chained (keysAt (now index) (opened .directory) (opened .entries)) 0 (now chains) ⌝ }
+    ensures { λ r. ⌜ (r ≡ fileCode (keysAt (now (index .entry)) (opened .directory) (opened .entries)) (sizesAt (now (index .entry)) (opened .directory))
+        ((opened .longest) - 1) (named (now (file .entry))))
+        × (now (slots .exit) ≡ written (now (slots .entry)) (take (length (now (slots .entry)))
+        (entriesIn (keysAt (now (index .entry)) (opened .directory) (opened .entries)) (named (now (file .entry)))))) ⌝ }
 {
-    let m = measure_file(file, index, start, count, heads, chain, innerLeast, slots);
+    let m = measure_file(file, index, opened, chains, slots);
     let long = 4294967295 < m.total;
     first_of(m.missing, 15, long, 16, m.short, 17)
 }

@@ -5,22 +5,25 @@ ghost use lib.ListN.{length};
 ghost use Rattle.spec.specs.Bytes.{positionOf};
 ghost use Rattle.spec.specs.Outcome.{answer};
 ghost use Rattle.spec.specs.Store.{chunkCount};
-ghost use Rattle.spec.specs.Records.{form1};
-ghost use Rattle.spec.specs.Keywords.{listSize};
+ghost use Rattle.spec.specs.Form.{formOf, formatOf};
 ghost use Rattle.spec.specs.Directory.{entryField, offsetAt};
-ghost use Rattle.spec.specs.Index.{listIn, indexLayout, indexKeys, bodyAt, goodAt, allGood, indexCode, headerCode, directoryCode};
+ghost use Rattle.spec.specs.Index.{indexLayout, indexKeys, bodyAt, goodAt, allGood, indexCode, headerCode, directoryCode};
+ghost use Rattle.spec.specs.Opened.{openedOf};
 ghost use Rattle.spec.specs.Lookup.{findBody, bodyStart, bodyLength, bodyOf};
 ghost use Rattle.directory.specs.Chains.{Empty};
-ghost use Rattle.index.specs.Stages.{examinedHeads, examinedLinks, Opened, Laid, Lens, IndexEntry};
+ghost use Rattle.index.specs.Stages.{examinedChains, Headed, Laid, Lens, IndexEntry};
+use spec::Format;
 
-// Fewer than 8 bytes, another mark, or a chunk count above 65,000.
-fn header(index: &[u8]) -> u8
-    ensures { λ r. ⌜ r ≡ headerCode form1 (now (index .entry)) ⌝ }
+// Fewer than 8 bytes, another mark than the format's, or a chunk count above 65,000.
+fn header(index: &[u8], format: Format) -> u8
+    requires { ⌜ format ≡ formatOf (formOf (now index)) ⌝ }
+    ensures { λ r. ⌜ r ≡ headerCode (formOf (now (index .entry))) (now (index .entry)) ⌝ }
 {
     if index.len() < 8 {
         return 10;
     }
-    let mark: [u8; 4] = [0x44, 0x4D, 0x31, 0x0A];
+    let digit = 0x30 + format.number;
+    let mark: [u8; 4] = [0x44, 0x4D, digit, 0x0A];
     if !field::equal(&index[..4], &mark) {
         return 10;
     }
@@ -39,43 +42,51 @@ fn chunk_count(index: &[u8]) -> usize
 }
 
 // The directory cut short, an entry wrong, or the last end not the index's.
-fn entries(index: &[u8], start: usize, count: usize) -> u8
-    requires { ⌜ Opened (now index) start count ⌝ }
-    ensures { λ r. ⌜ r ≡ directoryCode form1 (now (index .entry)) ⌝ }
+fn entries(index: &[u8], format: Format, start: usize, count: usize) -> u8
+    requires { ⌜ Headed (now index) start count × (format ≡ formatOf (formOf (now index))) ⌝ }
+    ensures { λ r. ⌜ r ≡ directoryCode (formOf (now (index .entry))) (now (index .entry)) ⌝ }
 {
     if index.len() < start + 32 * count {
         return 11;
     }
-    directory::entries(index, start, 32, 20, 24, 28, 65535, 11, count)
+    directory::entries(index, start, 32, 20, 24, 28, format.longest, 11, count)
 }
 
 // The body of entry e is good.
 fn entry_good(
     index: &[u8],
+    format: Format,
     start: usize,
-    count: usize,
     e: usize,
     lens: &[usize],
     words: usize,
 ) -> bool
-    requires { ⌜ Laid (now index) start count × (e < count) × Lens (now index) words (now lens) ⌝ }
-    ensures { λ r. ⌜ r ≡ goodAt form1 (now (index .entry)) e ⌝ }
+    requires { ⌜ Laid (now index) start (chunkCount (now index)) × (e < chunkCount (now index)) × Lens (now index) words (now lens)
+        × (format ≡ formatOf (formOf (now index))) ⌝ }
+    ensures { λ r. ⌜ r ≡ goodAt (formOf (now (index .entry))) (now (index .entry)) e ⌝ }
 {
     let base = start + 32 * e;
     let size = field::read(index, base + 20, 4) as usize;
     let at = field::read(index, base + 24, 4) as usize;
     let n = field::read(index, base + 28, 4) as usize;
-    bodies::body_good(&index[at..at + n], lens, words, size)
+    bodies::body_good(&index[at..at + n], format, lens, words, size)
 }
 
 // All bodies are good.
-fn all_good(index: &[u8], start: usize, count: usize, lens: &[usize], words: usize) -> bool
-    requires { ⌜ Laid (now index) start count × Lens (now index) words (now lens) ⌝ }
-    ensures { λ r. ⌜ r ≡ allGood form1 (now (index .entry)) ⌝ }
+fn all_good(
+    index: &[u8],
+    format: Format,
+    start: usize,
+    count: usize,
+    lens: &[usize],
+    words: usize,
+) -> bool
+    requires { ⌜ Laid (now index) start count × Lens (now index) words (now lens) × (format ≡ formatOf (formOf (now index))) ⌝ }
+    ensures { λ r. ⌜ r ≡ allGood (formOf (now (index .entry))) (now (index .entry)) ⌝ }
 {
     let mut e: usize = 0;
     while e < count {
-        if !entry_good(index, start, count, e, lens, words) {
+        if !entry_good(index, format, start, e, lens, words) {
             return false;
         }
         e += 1;
@@ -83,14 +94,14 @@ fn all_good(index: &[u8], start: usize, count: usize, lens: &[usize], words: usi
     true
 }
 
-// The index check; it leaves the chains of the index's fingerprints in the arrays, once the directory is seen to be whole.
-pub fn examine(index: &[u8], heads: &mut [u32], chain: &mut [u32]) -> u8
-    requires { ⌜ Empty (now heads) (now chain) ⌝ }
-    ensures { λ r. ⌜ (r ≡ indexCode form1 (now (index .entry)))
-        × (now (heads .exit) ≡ examinedHeads (now (index .entry)) (now (heads .entry)))
-        × (now (chain .exit) ≡ examinedLinks (now (index .entry)) (now (chain .entry))) ⌝ }
+// The index check; it leaves the chains of the index's fingerprints in the array, once the directory is seen to be whole.
+pub fn examine(index: &[u8], chains: &mut [u32]) -> u8
+    requires { ⌜ Empty (now chains) ⌝ }
+    ensures { λ r. ⌜ (r ≡ indexCode (formOf (now (index .entry))) (now (index .entry)))
+        × (now (chains .exit) ≡ examinedChains (now (index .entry)) (now (chains .entry))) ⌝ }
 {
-    let code = header(index);
+    let format = format::of(index);
+    let code = header(index, format);
     if code != 0 {
         return code;
     }
@@ -101,15 +112,15 @@ pub fn examine(index: &[u8], heads: &mut [u32], chain: &mut [u32]) -> u8
     let list = keywords::parse(&index[8..]);
     let start = 8 + list.size;
     let c = chunk_count(index);
-    let wrong = entries(index, start, c);
+    let wrong = entries(index, format, start, c);
     if wrong != 0 {
         return wrong;
     }
-    if directory::build(index, start, 32, c, heads, chain) {
+    if directory::build(index, start, 32, c, chains) {
         return 12;
     }
     let lens = list.len;
-    if !all_good(index, start, c, &lens, list.count) {
+    if !all_good(index, format, start, c, &lens, list.count) {
         return 13;
     }
     0
@@ -117,38 +128,47 @@ pub fn examine(index: &[u8], heads: &mut [u32], chain: &mut [u32]) -> u8
 
 // The index check.
 pub fn check(index: &[u8]) -> u8
-    ensures { λ r. ⌜ r ≡ indexCode form1 (now (index .entry)) ⌝ }
+    ensures { λ r. ⌜ r ≡ indexCode (formOf (now (index .entry))) (now (index .entry)) ⌝ }
 {
-    let mut heads = [0u32; 65536];
-    let mut chain = [0u32; 65000];
-    examine(index, &mut heads, &mut chain)
+    let mut chains = [0u32; 130536];
+    examine(index, &mut chains)
 }
 
-// Where the directory starts.
-fn start_of(index: &[u8]) -> usize
-    requires { ⌜ indexCode form1 (now index) ≡ 0 ⌝ }
-    ensures { λ r. ⌜ r ≡ 8 + listSize (listIn (now (index .entry))) ⌝ }
+// What the readers of an index that passed its check go by: where its directory starts, how many entries and keywords it has, the longest
+// keyword's length, and its format.
+pub fn opened(index: &[u8]) -> spec::Opened
+    requires { ⌜ indexCode (formOf (now index)) (now index) ≡ 0 ⌝ }
+    ensures { λ r. ⌜ r ≡ openedOf (now (index .entry)) ⌝ }
 {
     let list = keywords::parse(&index[8..]);
-    8 + list.size
+    let start = 8 + list.size;
+    let c = chunk_count(index);
+    let format = format::of(index);
+    spec::Opened {
+        directory: start,
+        entries: c,
+        keywords: list.count,
+        longest: list.most,
+        format: format,
+    }
 }
 
 // The entry of a fingerprint, or the number that refuses the lookup.
 fn locate(index: &[u8], fp: &[u8]) -> spec::Outcome
-    ensures { λ r. ⌜ r ≡ answer (findBody form1 (now (index .entry)) (now (fp .entry))) (positionOf (now (fp .entry)) (indexKeys (now (index .entry)))) ⌝ }
+    ensures { λ r. ⌜ r ≡ answer (findBody (formOf (now (index .entry))) (now (index .entry)) (now (fp .entry)))
+        (positionOf (now (fp .entry)) (indexKeys (now (index .entry)))) ⌝ }
 {
-    let mut heads = [0u32; 65536];
-    let mut chain = [0u32; 65000];
-    let code = examine(index, &mut heads, &mut chain);
+    let mut chains = [0u32; 130536];
+    let code = examine(index, &mut chains);
     if code != 0 {
         return spec::Outcome::Refused(code);
     }
     if fp.len() != 20 {
         return spec::Outcome::Refused(19);
     }
-    let start = start_of(index);
-    let c = chunk_count(index);
-    let k = directory::find(index, start, 32, c, &heads, &chain, fp);
+    let known = opened(index);
+    let c = known.entries;
+    let k = directory::find(index, known.directory, 32, c, &chains, fp);
     if k == c {
         return spec::Outcome::Refused(15);
     }
@@ -157,7 +177,7 @@ fn locate(index: &[u8], fp: &[u8]) -> spec::Outcome
 
 // The number of a lookup: 0 when the fingerprint is found.
 pub fn find_body(index: &[u8], fp: &[u8]) -> u8
-    ensures { λ r. ⌜ r ≡ findBody form1 (now (index .entry)) (now (fp .entry)) ⌝ }
+    ensures { λ r. ⌜ r ≡ findBody (formOf (now (index .entry))) (now (index .entry)) (now (fp .entry)) ⌝ }
 {
     match locate(index, fp) {
         spec::Outcome::Done(_) => 0,
@@ -170,7 +190,8 @@ fn entry_field(index: &[u8], k: usize, at: usize) -> usize
     requires { ⌜ IndexEntry (now index) k × (at + 4 ≤ 32) ⌝ }
     ensures { λ r. ⌜ r ≡ entryField (indexLayout (now (index .entry))) (now (index .entry)) at k ⌝ }
 {
-    let start = start_of(index);
+    let known = opened(index);
+    let start = known.directory;
     field::read(index, start + 32 * k + at, 4) as usize
 }
 
@@ -188,7 +209,7 @@ fn body_at(index: &[u8], k: usize) -> &[u8]
 
 // Where the body of a fingerprint starts; 0 on a refusal.
 pub fn body_start(index: &[u8], fp: &[u8]) -> usize
-    ensures { λ r. ⌜ r ≡ bodyStart form1 (now (index .entry)) (now (fp .entry)) ⌝ }
+    ensures { λ r. ⌜ r ≡ bodyStart (formOf (now (index .entry))) (now (index .entry)) (now (fp .entry)) ⌝ }
 {
     match locate(index, fp) {
         spec::Outcome::Done(k) => entry_field(index, k, 24),
@@ -198,7 +219,7 @@ pub fn body_start(index: &[u8], fp: &[u8]) -> usize
 
 // How long the body of a fingerprint is; 0 on a refusal.
 pub fn body_length(index: &[u8], fp: &[u8]) -> usize
-    ensures { λ r. ⌜ r ≡ bodyLength form1 (now (index .entry)) (now (fp .entry)) ⌝ }
+    ensures { λ r. ⌜ r ≡ bodyLength (formOf (now (index .entry))) (now (index .entry)) (now (fp .entry)) ⌝ }
 {
     match locate(index, fp) {
         spec::Outcome::Done(k) => entry_field(index, k, 28),
@@ -208,9 +229,9 @@ pub fn body_length(index: &[u8], fp: &[u8]) -> usize
 
 // The body of a fingerprint: a slice of the index itself, never of the fingerprint; the empty slice at the index's start on a refusal.
 pub fn body<'a, 'b>(index: &'a [u8], fp: &'b [u8]) -> &'a [u8]
-    ensures { λ r. ⌜ (now r ≡ bodyOf form1 (now (index .entry)) (now (fp .entry)))
+    ensures { λ r. ⌜ (now r ≡ bodyOf (formOf (now (index .entry))) (now (index .entry)) (now (fp .entry)))
         × (r .ptr .0 ≡ index .entry .ptr .0)
-        × (r .ptr .1 ≡ bodyStart form1 (now (index .entry)) (now (fp .entry)) + index .entry .ptr .1) ⌝ }
+        × (r .ptr .1 ≡ bodyStart (formOf (now (index .entry))) (now (index .entry)) (now (fp .entry)) + index .entry .ptr .1) ⌝ }
 {
     match locate(index, fp) {
         spec::Outcome::Done(k) => body_at(index, k),

@@ -1,4 +1,2 @@
-pub mod FileLaws
-pub mod Stages
 pub mod Turns
 pub mod Answers

@@ -1,42 +1,16 @@
--- Keywords that compare alike: one byte of a comparison, one keyword against the later ones, each against its later ones. Assumes nothing.
+-- Keywords that compare alike: one keyword against the later ones, each against its later ones. Assumes nothing.
 use mathlib.Core.Path.{_≡_, sym, _∙_}
-use mathlib.Core.Bool.{Bool, true, false, _&&_, _||_}
+use mathlib.Core.Bool.{Bool, true, false, _||_}
 use mathlib.Core.List.{List, []}
 use Prim.Native.Nat.{ℕ, _+_, _-_, _≤_, _<_}
 use native.Mathlib.Nat.{add-sub-cancel-left}
 use native.Mathlib.Numerals.{add-one}
-use borrow.Author.Tests.{eq-eqb, ne-eqb}
-use lib.Dec.{eqb}
 use lib.ListN.{length, take, drop, getD, drop-of-length-le}
 use lib.Seq.{drop-cons}
 use Rattle.spec.specs.Bytes.{same, contains, twice}
-use Rattle.spec.specs.Keywords.{foldByte, folded, flagOf, foldedKeywords}
-use Rattle.spec.proofs.Same.{same-lengths, same-turn, same-end}
-use Rattle.spec.proofs.Folding.{folded-length, folded-get}
+use Rattle.spec.specs.Keywords.{folded, flagOf, foldedKeywords}
 use Rattle.spec.proofs.KeywordLaws.{folded-keyword}
 use Rattle.keywords.specs.Parsed.{Placed}
-
-module _ (flag : ℕ) (a b : List ℕ) where
-  -- what is left to compare at byte i
-  abbrev pub left : ℕ → Bool
-  left i = same (drop i (folded flag a)) (drop i (folded flag b))
-
-  pub alike-lengths : (length a ≡ length b → ⊥) → false ≡ same (folded flag a) (folded flag b)
-  alike-lengths n = same-lengths (folded flag a) (folded flag b) (λ e. n (sym (folded-length flag a) ∙ e ∙ folded-length flag b))
-
-  turn : (i : ℕ) → i < length a → i < length b → left i ≡ (eqb (foldByte flag (getD a i 0)) (foldByte flag (getD b i 0)) && left (i + 1))
-  turn i h l =
-      same-turn (folded flag a) (folded flag b) i (rw folded-length h) (rw folded-length l)
-      ∙ rw (folded-get flag a i h, folded-get flag b i l)
-
-  pub alike-on : (i x y : ℕ) → i < length a → i < length b → x ≡ foldByte flag (getD a i 0) → y ≡ foldByte flag (getD b i 0) → x ≡ y → left (i + 1) ≡ left i
-  alike-on i x y h l p q e = sym (turn i h l ∙ rw (← p, ← q, eq-eqb x y e))
-
-  pub alike-not : (i x y : ℕ) → i < length a → i < length b → x ≡ foldByte flag (getD a i 0) → y ≡ foldByte flag (getD b i 0) → (x ≡ y → ⊥) → false ≡ left i
-  alike-not i x y h l p q e = sym (turn i h l ∙ rw (← p, ← q, ne-eqb x y e))
-
-  pub alike-end : (i : ℕ) → length a ≤ i → length b ≤ i → true ≡ left i
-  alike-end i h l = same-end (folded flag a) (folded flag b) i (rw folded-length h) (rw folded-length l)
 
 -- ---- keywords by number
 

@@ -1,52 +1,20 @@
 -- The members of a set, lowest first. Assumes nothing.
 use mathlib.Core.Path.{_≡_, refl, sym, ap, ap₂, _∙_}
-use mathlib.Core.Logic.{_⊎_, inl, inr}
-use mathlib.Core.Bool.{Bool, true, false, cond}
+use mathlib.Core.Bool.{Bool}
 use mathlib.Core.List.{List, [], _∷_, _++_, append-nil}
 use Prim.Native.Nat.{ℕ, zero, suc, _+_, _-_, _/_, _%_, _^_, _≤_, _<_}
-use native.Mathlib.Nat.{add-zero, zero-add, div-one, pow-succ', div-div-eq-div-mul, eq-or-lt-of-le, le-of-suc-le-suc, lt-of-lt-of-le, div-eq-of-lt}
+use native.Mathlib.Nat.{add-zero, zero-add, div-one, pow-succ', div-div-eq-div-mul}
 use native.Mathlib.Numerals.{add-one}
 use native.Mathlib.Omega.{arith}
 use lib.ListN.{length, length-append}
 use lib.Dec.{eqb}
-use lib.Pow.{shr-le, shr-shr, pow-mono, high, low, field, mod-mod-pow}
+use lib.Pow.{shr-le, shr-shr}
 use lib.Count.{trailingZeros, under, ones, ones-step, ones-le}
 use Rattle.spec.specs.Bytes.{each, keep}
 use Rattle.spec.specs.Table.{setOf}
-use Rattle.spec.proofs.Sets.{set-lt}
+use Rattle.spec.proofs.Sets.{hasBit, has-set, has-above}
 use Rattle.spec.proofs.Each.{each-match, each-append, each-none}
 use Rattle.listing.specs.Streams.{bits}
-
--- ---- a set made by `setOf` has exactly the numbers that pass
-
--- s is in the set
-unfoldable hasBit : ℕ → ℕ → Bool
-hasBit x s = eqb (x / 2 ^ s % 2) 1
-
--- a bit of a number hangs only on what is below 2 to a higher power
-bit-low : (x s n : ℕ) → s < n → x / 2 ^ s % 2 ≡ (x % 2 ^ n) / 2 ^ s % 2
-bit-low x s n h =
-    let e : n - (1 + s) + (1 + s) ≡ n = omega arith in
-    sym (field x 1 s)
-    ∙ ap (λ (y : ℕ). y / 2 ^ s) (sym (mod-mod-pow x (n - (1 + s)) (1 + s)) ∙ ap (λ (m : ℕ). x % 2 ^ m % 2 ^ (1 + s)) e)
-    ∙ field (x % 2 ^ n) 1 s
-
-has-set : (t : ℕ → Bool) (n s : ℕ) → s < n → hasBit (setOf t n) s ≡ t s
-unfolding hasBit
-has-set t zero s h = let z : ⊥ = omega arith in absurd z
-has-set t (suc n) s h = go (eq-or-lt-of-le (le-of-suc-le-suc h)) (has-set t n s)
-  where
-    top : (b : Bool) → eqb (cond b 1 0 % 2) 1 ≡ b
-    top true = refl
-    top false = refl
-
-    go : (s ≡ n) ⊎ (s < n) → (s < n → hasBit (setOf t n) s ≡ t s) → hasBit (setOf t (suc n)) s ≡ t s
-    go (inl e) ih = rw (e, high (cond (t n) 1 0) n (set-lt t n)) (top (t n))
-    go (inr l) ih = rw (bit-low (setOf t (suc n)) s n l, low (cond (t n) 1 0) n (set-lt t n)) (ih l)
-
-has-above : (t : ℕ → Bool) (n s : ℕ) → n ≤ s → hasBit (setOf t n) s ≡ false
-unfolding hasBit
-has-above t n s h = rw (div-eq-of-lt (lt-of-lt-of-le (set-lt t n) (pow-mono h)))
 
 -- ---- its members
 

@@ -90,7 +90,8 @@ module _ (file count base size : ℕ) where
         ∙ rw here (ap {B = List Occurrence} (λ l. found y k ∷ l)
         (ap {B = List Occurrence} (λ l. occurrencesAt file count (λ j. member y (s′ j)) (base + y) ++ l) later
         ∙ sym (at-y s′ (λ p h.
-        occurrencesAt-same file count (base + p) _ _ (λ j hj. sym (other p j hj (λ q. omega arith))) ∙ occurrencesAt-none file count (base + p) _ (before p h)))))
+        occurrencesAt-same file count (base + p) _ _ (λ j hj. sym (other p j hj (λ q. omega arith)))
+        ∙ occurrencesAt-none file count (base + p) _ (before p h)))))
       where
         later : each (λ p. occurrencesAt file count (λ j. member p (s j)) (base + p)) (suc y) (size - suc y)
             ≡ each (λ p. occurrencesAt file count (λ j. member p (s′ j)) (base + p)) (suc y) (size - suc y)
@@ -100,7 +101,8 @@ module _ (file count base size : ℕ) where
 
         at-y : (t : ℕ → List ℕ) → ((p : ℕ) → p < y → occurrencesAt file count (λ j. member p (t j)) (base + p) ≡ [])
             → each (λ p. occurrencesAt file count (λ j. member p (t j)) (base + p)) 0 size
-            ≡ occurrencesAt file count (λ j. member y (t j)) (base + y) ++ each (λ p. occurrencesAt file count (λ j. member p (t j)) (base + p)) (suc y) (size - suc y)
+            ≡ occurrencesAt file count (λ j. member y (t j)) (base + y)
+            ++ each (λ p. occurrencesAt file count (λ j. member p (t j)) (base + p)) (suc y) (size - suc y)
         at-y t h =
             ap (each (λ p. occurrencesAt file count (λ j. member p (t j)) (base + p)) 0) (sym (sub-zero size))
             ∙ each-skip _ 0 y size (omega arith) (omega arith) (λ p u v. h p v)

@@ -1,6 +1,5 @@
 -- Taking the first number off what is unread. Assumes nothing.
-use mathlib.Core.Path.{_≡_, refl, sym, ap, _∙_, subst}
-use mathlib.Core.Logic.{_⊎_, inl, inr}
+use mathlib.Core.Path.{_≡_, sym, ap, _∙_}
 use mathlib.Core.Bool.{true}
 use mathlib.Core.List.{List, [], _∷_, _++_}
 use Prim.Native.Nat.{ℕ, zero, suc, _+_, _-_, _*_, _/_, _^_, _≤_, _<_}
@@ -9,12 +8,12 @@ use native.Mathlib.Omega.{arith}
 use lib.ListN.{length, drop, getD}
 use lib.Seq.{drop-drop}
 use lib.Dec.{ltb, ltb→lt}
-use lib.Pow.{shr-le, shr-shr}
+use lib.Pow.{shr-le}
 use lib.Count.{trailingZeros}
 use Rattle.spec.specs.Bytes.{fieldAt, fieldsOf, rising}
-use Rattle.spec.proofs.Tests.{le-or-lt, leb-true, leb-false, T-of, and-left, and-right}
+use Rattle.spec.proofs.Tests.{leb-true, leb-false, T-of, and-left, and-right}
 use Rattle.spec.proofs.Rising.{rising-tail}
-use Rattle.listing.specs.Streams.{below, bits, unread, headed, stream, pulled, ReadableStream, Open}
+use Rattle.listing.specs.Streams.{below, bits, unread, headed, stream, ReadableStream, Open, Pulled}
 use Rattle.listing.proofs.Digits.{bits-first, bits-none, trailing-lt}
 
 pub below-head : (n x : ℕ) (xs : List ℕ) → below n (x ∷ xs) ≡ true → x < n
@@ -28,11 +27,6 @@ headed-in size x xs h = rw (leb-true (suc x) size h)
 
 pub headed-out : (size x : ℕ) (xs : List ℕ) → size ≤ x → headed size x xs ≡ []
 headed-out size x xs h = rw (leb-false (suc x) size (omega arith))
-
--- A stream that was opened, or taken one number on: it gives what was unread.
-pub record Pulled (index : List ℕ) (width size : ℕ) (s s′ : List ℕ) : Type 0 where
-  pub opened : Open index width size s′
-  pub same : stream index width size s′ ≡ unread index width s
 
 module _ (index : List ℕ) (width size : ℕ) (s : List ℕ) where
   -- a number is taken
@@ -88,22 +82,14 @@ module _ (index : List ℕ) (width size : ℕ) (s : List ℕ) where
         go zero l = let z : ⊥ = omega arith in absurd z
         go (suc n) l = let e : suc n - 1 ≡ n = omega arith in rw (e, ← drop-drop width at index)
 
-    pull-field : 0 < left → (x : ℕ) → x ≡ fieldAt index at width → Pulled index width size s (x ∷ (at + width) ∷ (left - 1) ∷ from ∷ set ∷ [])
+    pub pull-field : 0 < left → (x : ℕ) → x ≡ fieldAt index at width → Pulled index width size s (x ∷ (at + width) ∷ (left - 1) ∷ from ∷ set ∷ [])
     pull-field h x e =
         let after : List ℕ = x ∷ (at + width) ∷ (left - 1) ∷ from ∷ set ∷ [] in
         pulled-on after r (number h x ∙ ap {B = List ℕ} (λ y. y ∷ unread index width after) (sym e)) (room h .1) (r .set)
 
-    pub field-is : 0 < left → (x : ℕ) → x ≡ fieldAt index at width → x ∷ (at + width) ∷ (left - 1) ∷ from ∷ set ∷ [] ≡ pulled index width size s
-    unfolding pulled
-    field-is h x e = rw (e, leb-true 1 left h)
-
-    pull-end : left ≤ 0 → set ≡ 0 → Pulled index width size s (size ∷ at ∷ left ∷ from ∷ set ∷ [])
+    pub pull-end : left ≤ 0 → set ≡ 0 → Pulled index width size s (size ∷ at ∷ left ∷ from ∷ set ∷ [])
     unfolding unread fieldsOf
     pull-end h e = let n : left ≡ 0 = omega arith in pulled-off (size ∷ at ∷ left ∷ from ∷ set ∷ []) r (rw (n, e, bits-none)) (omega arith) (r .inside) (r .set)
-
-    pub end-is : left ≤ 0 → set ≡ 0 → size ∷ at ∷ left ∷ from ∷ set ∷ [] ≡ pulled index width size s
-    unfolding pulled
-    end-is h e = let b : bits 32 from set ≡ [] = rw (e, bits-none) in rw (leb-false 1 left (omega arith), b)
 
     abbrev low : ℕ
     low = trailingZeros 32 set
@@ -121,26 +107,10 @@ module _ (index : List ℕ) (width size : ℕ) (s : List ℕ) where
         let after : List ℕ = (from + low) ∷ at ∷ left ∷ (from + low + 1) ∷ (set / 2 ^ low / 2) ∷ [] in
         below-head size (from + low) (unread index width after) (rw (start h p) at (r .under))
 
-    pull-start : left ≤ 0 → 0 < set → Pulled index width size s ((from + low) ∷ at ∷ left ∷ (from + low + 1) ∷ (set / 2 ^ low / 2) ∷ [])
+    pub pull-start : left ≤ 0 → 0 < set → Pulled index width size s ((from + low) ∷ at ∷ left ∷ (from + low + 1) ∷ (set / 2 ^ low / 2) ∷ [])
     pull-start h p =
         let after : List ℕ = (from + low) ∷ at ∷ left ∷ (from + low + 1) ∷ (set / 2 ^ low / 2) ∷ [] in
         pulled-on after r (start h p) (r .inside) (omega (arith, shr-le set low, r .set))
-
-    pub start-is : left ≤ 0 → 0 < set → (from + low) ∷ at ∷ left ∷ (from + low + 1) ∷ (set / 2 ^ low / 2) ∷ [] ≡ pulled index width size s
-    unfolding pulled
-    start-is h p =
-        let n : suc (from + low) ≡ from + low + 1 = omega arith in
-        let d : suc (from + low) - from ≡ low + 1 = omega arith in
-        rw (leb-false 1 left (omega arith), bits-first 32 from set p (r .set), d, n, ← shr-shr set low 1)
-
-    -- THE STREAM TAKEN ONE NUMBER ON gives what was unread
-    pub pulled-gives : Pulled index width size s (pulled index width size s)
-    pulled-gives = go (le-or-lt left 0) (le-or-lt set 0)
-      where
-        go : (left ≤ 0) ⊎ (0 < left) → (set ≤ 0) ⊎ (0 < set) → Pulled index width size s (pulled index width size s)
-        go (inr h) p = subst (Pulled index width size s) (field-is h _ refl) (pull-field h _ refl)
-        go (inl h) (inl p) = let e : set ≡ 0 = omega arith in subst (Pulled index width size s) (end-is h e) (pull-end h e)
-        go (inl h) (inr p) = subst (Pulled index width size s) (start-is h p) (pull-start h p)
 
 -- ---- an open stream that has not ended
 

@@ -1,26 +1,20 @@
 -- How many occurrences a place gives: as many as its streams have numbers. Assumes nothing.
 use mathlib.Core.Path.{_≡_, refl, sym, ap, ap₂, _∙_}
-use mathlib.Core.Logic.{_⊎_, inl, inr}
 use mathlib.Core.Bool.{Bool, true, false, _&&_}
 use mathlib.Core.List.{List, [], _∷_}
 use Prim.Native.Nat.{ℕ, zero, suc, _+_, _^_, _≤_, _<_}
 use native.Mathlib.Nat.{zero-add, add-zero}
 use native.Mathlib.Numerals.{add-one}
 use native.Mathlib.Omega.{arith}
-use borrow.Author.Tests.{le-ltb}
 use lib.ListN.{length, getD, set, drop, length-append}
 use lib.Seq.{getD-set-same, getD-set-other}
 use lib.Dec.{ltb}
 use Rattle.spec.specs.Bytes.{fieldsOf, each, keep, member, rising, sum}
 use Rattle.spec.specs.Join.{occurrencesAt}
-use Rattle.spec.proofs.Tests.{le-or-lt}
-use Rattle.spec.proofs.Tabulated.{tabulated-getD}
-use Rattle.spec.proofs.RecordLaws.{no-offsets}
 use Rattle.spec.proofs.FieldLists.{length-fieldsOf}
 use Rattle.spec.proofs.Rising.{allBelow, passing-member}
-use Rattle.listing.specs.Streams.{below, bits, unread, pulled, streamOf, unreadAt, occurrences, numbers, total, ReadableStreams, Fresh}
+use Rattle.listing.specs.Streams.{below, unread, streamOf, unreadAt, streamAt, occurrences, given, numbers, total, ReadableStreams, Held}
 use Rattle.listing.proofs.Digits.{bits-length}
-use Rattle.listing.proofs.Mapped.{mapped, mapped-same}
 
 pub below-same : (n : ℕ) (xs : List ℕ) → allBelow n xs ≡ below n xs
 below-same n [] = refl
@@ -97,6 +91,15 @@ module _ (index : List ℕ) (width size count : ℕ) (streams : List (List ℕ))
       sum-same _ _ 0 count (λ k u v. sym (unread-length index width (streamOf streams k) (ready .each k (omega arith) .set)))
       ∙ sym (sum-is size file count base (unreadAt index width streams) (λ k h. ready .each k h .up) (λ k h. ready .each k h .under))
 
+-- what open streams give is as long whatever the file's number and wherever the place starts
+pub given-length : (index : List ℕ) (width size count : ℕ) (streams : List (List ℕ)) → Held index width size count streams → (file base : ℕ)
+    → length (given index width size count streams) ≡ length (occurrences file count base size (streamAt index width size streams))
+given-length index width size count streams held file base = from 0 0 ∙ sym (from file base)
+  where
+    from : (file base : ℕ)
+        → length (occurrences file count base size (streamAt index width size streams)) ≡ sumUp (λ k. length (streamAt index width size streams k)) 0 count
+    from file base = sum-is size file count base (streamAt index width size streams) (λ k h. held .each k h .up) (λ k h. held .each k h .under)
+
 -- ---- filling one stream after the other
 
 pub total-set : (streams : List (List ℕ)) (k : ℕ) (new : List ℕ) → k < length streams → total (set streams k new) (k + 1) ≡ total streams k + numbers new
@@ -105,29 +108,3 @@ total-set streams k new h =
     ∙ ap₂ (λ (x y : ℕ). x + y)
     (sum-same _ _ 0 k (λ p u v. ap (λ (s : List ℕ). numbers s) (getD-set-other streams k p new [] (λ q. omega arith))))
     (ap (λ (s : List ℕ). numbers s) (getD-set-same streams k new [] h))
-
--- ---- streams without numbers
-
-sum-zero : (f : ℕ → ℕ) (a n : ℕ) → sumUp f a n ≡ 0 → (p : ℕ) → a ≤ p → p < a + n → f p ≡ 0
-sum-zero f a zero e p u v = let z : ⊥ = omega arith in absurd z
-sum-zero f a (suc n) e p u v = go (λ h. sum-zero f (suc a) n (omega arith) p h (omega arith)) (le-or-lt p a)
-  where
-    go : (a < p → f p ≡ 0) → (p ≤ a) ⊎ (a < p) → f p ≡ 0
-    go rest (inl h) = let q : p ≡ a = omega arith in omega (arith, ap f q)
-    go rest (inr h) = rest h
-
--- such a stream is taken to itself
-pulled-none : (index : List ℕ) (width size : ℕ) (s : List ℕ) → length s ≡ 5 → getD s 0 0 ≡ size → getD s 4 0 < 2 ^ 32 → numbers s ≡ 0
-    → pulled index width size s ≡ s
-unfolding pulled
-pulled-none index width size s five head small none =
-    let b : bits 32 (getD s 3 0) (getD s 4 0) ≡ [] = no-offsets _ (bits-length 32 (getD s 3 0) (getD s 4 0) small ∙ omega arith) in
-    rw (le-ltb 0 (getD s 2 0) (omega arith), b)
-    (ap {B = List ℕ} (λ (x : ℕ). x ∷ getD s 1 0 ∷ getD s 2 0 ∷ getD s 3 0 ∷ getD s 4 0 ∷ []) (sym head) ∙ tabulated-getD s 0 5 five)
-
-pub open-none : (index : List ℕ) (width size count : ℕ) (streams : List (List ℕ)) (many : ℕ)
-    → ReadableStreams index width size count streams → Fresh size count streams many → many ≡ 0 → streams ≡ mapped (pulled index width size) count streams
-open-none index width size count streams many ready fresh z =
-    mapped-same (pulled index width size) [] count streams (ready .long) (λ k h.
-    pulled-none index width size (streamOf streams k) (fresh .five k h) (fresh .heads k h) (ready .each k h .set)
-    (sum-zero (λ j. numbers (streamOf streams j)) 0 count (sym (fresh .all) ∙ z) k (omega arith) (omega arith)))

@@ -2,12 +2,13 @@
 use mathlib.Core.Path.{_≡_}
 use mathlib.Core.Bool.{Bool, true, cond}
 use mathlib.Core.List.{List, [], _∷_, _++_}
-use Prim.Native.Nat.{ℕ, zero, suc, _+_, _-_, _*_, _/_, _%_, _^_, _≤_, _<_}
-use lib.ListN.{length, drop, getD, set}
+use Prim.Native.Nat.{ℕ, zero, suc, _+_, _*_, _/_, _%_, _^_, _≤_, _<_}
+use lib.ListN.{length, drop, getD}
 use lib.Dec.{eqb, ltb}
 use lib.Count.{ones}
-use Rattle.spec.specs.Bytes.{fieldAt, fieldsOf, each, keep, member, rising, every, sum}
+use Rattle.spec.specs.Bytes.{fieldsOf, each, keep, member, rising, every, sum}
 use Rattle.spec.specs.Join.{Occurrence, occurrencesAt}
+use Rattle.listing.specs.declared.Place.{Place}
 
 -- Every number of the list is below the bound.
 abbrev pub below : ℕ → List ℕ → Bool
@@ -59,18 +60,10 @@ pub record Open (index : List ℕ) (width size : ℕ) (s : List ℕ) : Type 0 wh
   pub inside : getD s 1 0 + width * getD s 2 0 ≤ length index
   pub set : getD s 4 0 < 2 ^ 32
 
--- The stream taken one member of its set on, of which `starts` are the members: the first is its head, and the set is what is behind that. A
--- stream without members has ended.
-abbrev pub pulledStart : ℕ → List ℕ → List ℕ → List ℕ
-pulledStart size s [] = size ∷ getD s 1 0 ∷ getD s 2 0 ∷ getD s 3 0 ∷ getD s 4 0 ∷ []
-pulledStart size s (y ∷ starts) = y ∷ getD s 1 0 ∷ getD s 2 0 ∷ suc y ∷ (getD s 4 0 / 2 ^ (suc y - getD s 3 0)) ∷ []
-
--- The stream taken one number on: the next field of the index, else the least member of the set, else the size, which ends it.
-unfoldable pub pulled : List ℕ → ℕ → ℕ → List ℕ → List ℕ
-pulled index width size s =
-    cond (ltb 0 (getD s 2 0))
-    (fieldAt index (getD s 1 0) width ∷ (getD s 1 0 + width) ∷ (getD s 2 0 - 1) ∷ getD s 3 0 ∷ getD s 4 0 ∷ [])
-    (pulledStart size s (bits 32 (getD s 3 0) (getD s 4 0)))
+-- A stream that is opened, or taken one number on: it gives what was unread.
+pub record Pulled (index : List ℕ) (width size : ℕ) (s s′ : List ℕ) : Type 0 where
+  pub opened : Open index width size s′
+  pub same : stream index width size s′ ≡ unread index width s
 
 -- ---- the streams of all keywords
 
@@ -91,12 +84,6 @@ pub record ReadableStreams (index : List ℕ) (width size count : ℕ) (streams 
 abbrev pub total : List (List ℕ) → ℕ → ℕ
 total streams count = sum (each (λ k. numbers (streamOf streams k) ∷ []) 0 count)
 
--- Streams that are not open yet: five numbers each, their heads are the size, and `many` numbers are unread.
-pub record Fresh (size count : ℕ) (streams : List (List ℕ)) (many : ℕ) : Type 0 where
-  pub five : (k : ℕ) → k < count → length (streamOf streams k) ≡ 5
-  pub heads : (k : ℕ) → k < count → getD (streamOf streams k) 0 0 ≡ size
-  pub all : many ≡ total streams count
-
 pub record Held (index : List ℕ) (width size count : ℕ) (streams : List (List ℕ)) : Type 0 where
   pub long : count ≤ length streams
   pub each : (k : ℕ) → k < count → Open index width size (streamOf streams k)
@@ -107,32 +94,26 @@ pub record Least (streams : List (List ℕ)) (count k : ℕ) : Type 0 where
   pub low : (j : ℕ) → j < count → getD (streamOf streams k) 0 0 ≤ getD (streamOf streams j) 0 0
   pub first : (j : ℕ) → j < k → getD (streamOf streams k) 0 0 < getD (streamOf streams j) 0 0
 
--- ---- the next occurrence at a place
+-- ---- the occurrences of a place
 
--- What open streams give; the file's number and where the place starts do not bear on what is next, so they are 0 here.
-unfoldable pub given : List ℕ → ℕ → ℕ → ℕ → List (List ℕ) → List Occurrence
+-- Those at a place, by its streams, which are not open yet.
+abbrev pub placeList : Place → List ℕ → List (List ℕ) → List Occurrence
+placeList place index streams =
+    occurrences (place .file) (place .count) (place .base) (place .size) (unreadAt index (place .width) streams)
+
+-- What open streams give. The file's number and where the place starts do not bear on how many that are, so they are 0 here.
+abbrev pub given : List ℕ → ℕ → ℕ → ℕ → List (List ℕ) → List Occurrence
 given index width size count streams = occurrences 0 count 0 size (streamAt index width size streams)
 
--- Keyword and offset of the first of some occurrences; another number where there are none.
-abbrev pub firstKeyword : ℕ → List Occurrence → ℕ
-firstKeyword none [] = none
-firstKeyword none (o ∷ os) = o .keyword
+-- The streams are open, and give what was unread.
+pub record OpenedStreams (index : List ℕ) (width size count : ℕ) (streams streams′ : List (List ℕ)) : Type 0 where
+  pub held : Held index width size count streams′
+  pub same : (k : ℕ) → k < count → streamAt index width size streams′ k ≡ unreadAt index width streams k
 
-abbrev pub firstOffset : ℕ → List Occurrence → ℕ
-firstOffset none [] = none
-firstOffset none (o ∷ os) = o .offset
-
--- The streams after the first of the occurrences that they give: its keyword's stream is taken one number on.
-abbrev pub streamsBehind : List ℕ → ℕ → ℕ → List (List ℕ) → List Occurrence → List (List ℕ)
-streamsBehind index width size streams [] = streams
-streamsBehind index width size streams (o ∷ os) = set streams (o .keyword) (pulled index width size (streamOf streams (o .keyword)))
-
--- The same of what open streams give: keyword and offset are `count` and the size where they give nothing.
-unfoldable pub nextKeyword : List ℕ → ℕ → ℕ → ℕ → List (List ℕ) → ℕ
-nextKeyword index width size count streams = firstKeyword count (given index width size count streams)
-
-unfoldable pub nextOffset : List ℕ → ℕ → ℕ → ℕ → List (List ℕ) → ℕ
-nextOffset index width size count streams = firstOffset size (given index width size count streams)
-
-unfoldable pub streamsAfter : List ℕ → ℕ → ℕ → ℕ → List (List ℕ) → List (List ℕ)
-streamsAfter index width size count streams = streamsBehind index width size streams (given index width size count streams)
+-- The first occurrence is taken off open streams, whatever the file's number and wherever the place starts.
+pub record NextTaken (index : List ℕ) (width size count : ℕ) (streams streams′ : List (List ℕ)) (keyword offset : ℕ) : Type 0 where
+  pub held : Held index width size count streams′
+  pub named : keyword < count
+  pub bound : offset < size
+  pub found : (file base : ℕ) → occurrences file count base size (streamAt index width size streams)
+      ≡ record { file = file; offset = base + offset; keyword = keyword } ∷ occurrences file count base size (streamAt index width size streams′)

@@ -1,12 +1,12 @@
-// The occurrences at one place of a file, one after the other. Each keyword has a stream of offsets in the place's chunk: first its
-// offsets inside the chunk, as the index holds them, then its starts that cross into the next chunk, as a set. The streams are merged.
+// The occurrences at one place of a file. Each keyword has a stream of offsets in the place's chunk: first its offsets inside the chunk, as
+// the index holds them, then its starts that cross into the next chunk, as a set. The streams are merged.
 ghost use mathlib.Core.Path.{_≡_};
-ghost use mathlib.Core.List.{_++_, map};
-ghost use Prim.Native.Nat.{_+_, _≤_, _<_};
-ghost use lib.ListN.{length, take, drop};
+ghost use Prim.Native.Nat.{_+_, _*_, _^_, _≤_, _<_};
+ghost use lib.ListN.{length};
 ghost use Rattle.spec.specs.Bytes.{splice};
-ghost use Rattle.spec.specs.Join.{occurrenceBytes};
-ghost use Rattle.listing.specs.Streams.{ReadableStream, ReadableStreams, Fresh, Least, Held, pulled, nextKeyword, nextOffset, streamsAfter, numbers, small};
+ghost use Rattle.spec.specs.Join.{occurrenceBytes, listBytes};
+ghost use Rattle.listing.specs.Streams.{small, numbers, ReadableStream, Pulled, ReadableStreams, total, Held, Least};
+ghost use Rattle.listing.specs.Streams.{placeList, given, OpenedStreams, NextTaken};
 
 // A stream is five numbers: its next offset (the chunk's size where it has ended); where the index has the offsets behind that, and how
 // many; where the starts are counted from, and the set of those that are left.
@@ -23,14 +23,14 @@ const SET: usize = 4;
 // The stream whose next offset is taken off what is unread.
 fn pull(index: &[u8], width: usize, size: usize, stream: [usize; 5]) -> [usize; 5]
     requires { ⌜ (width ≤ 8) × ReadableStream (now index) width size stream ⌝ }
-    ensures { λ r. ⌜ r ≡ pulled (now (index .entry)) width size stream ⌝ }
+    ensures { λ r. ⌜ Pulled (now (index .entry)) width size stream r ⌝ }
 {
     let at = stream[AT];
     let left = stream[LEFT];
     let from = stream[FROM];
     let set = stream[SET];
     if 0 < left {
-        let x = field::read(index, at, width) as usize;
+        let x = field::read_offset(index, at, width) as usize;
         return [x, at + width, left - 1, from, set];
     }
     if set == 0 {
@@ -60,61 +60,61 @@ fn least(streams: &[[usize; 5]; 16], count: usize) -> usize
     k
 }
 
-// The next occurrence at a place: its keyword, and its offset in the chunk, which is the chunk's size where there is none.
-pub struct Taken {
-    pub keyword: usize,
-    pub offset: usize,
+// The streams of a place, opened: each has its first offset ready.
+fn open(
+    index: &[u8],
+    width: usize,
+    size: usize,
+    count: usize,
+    streams: &[[usize; 5]; 16],
+) -> [[usize; 5]; 16]
+    requires { ⌜ (count ≤ 16) × (width ≤ 8) × ReadableStreams (now index) width size count (now streams) ⌝ }
+    ensures { λ r. ⌜ OpenedStreams (now (index .entry)) width size count (now (streams .entry)) r ⌝ }
+{
+    let mut opened = [[0usize; 5]; 16];
+    let mut k: usize = 0;
+    while k < count {
+        opened[k] = pull(index, width, size, streams[k]);
+        k += 1;
+    }
+    opened
 }
 
-pub fn next(
+// An occurrence at a place: its keyword, and its offset in the chunk.
+struct Taken {
+    keyword: usize,
+    offset: usize,
+}
+
+// Takes the next occurrence off open streams that give one.
+fn next(
     index: &[u8],
     width: usize,
     size: usize,
     count: usize,
     streams: &mut [[usize; 5]; 16],
 ) -> Taken
-    requires { ⌜ (0 < count) × (count ≤ 16) × (width ≤ 8) × Held (now index) width size count (now streams) ⌝ }
-    ensures { λ r. ⌜ (r .keyword ≡ nextKeyword (now (index .entry)) width size count (now (streams .entry)))
-        × (r .offset ≡ nextOffset (now (index .entry)) width size count (now (streams .entry)))
-        × (now (streams .exit) ≡ streamsAfter (now (index .entry)) width size count (now (streams .entry))) ⌝ }
+    requires { ⌜ (0 < count) × (count ≤ 16) × (width ≤ 8) ⌝ }
+    requires { ⌜ Held (now index) width size count (now streams) × (0 < length (given (now index) width size count (now streams))) ⌝ }
+    ensures { λ r. ⌜ NextTaken (now (index .entry)) width size count (now (streams .entry)) (now (streams .exit)) (r .keyword) (r .offset) ⌝ }
 {
     let k = least(streams, count);
     let s = streams[k];
-    let y = s[HEAD];
-    if size <= y {
-        return Taken {
-            keyword: count,
-            offset: size,
-        };
-    }
     streams[k] = pull(index, width, size, s);
     Taken {
         keyword: k,
-        offset: y,
+        offset: s[HEAD],
     }
 }
 
-// Opens the streams of a place, which have `many` offsets: each has its first offset ready. Streams without offsets are open as they are.
-pub fn open(
-    index: &[u8],
-    width: usize,
-    size: usize,
-    count: usize,
-    many: usize,
-    streams: &mut [[usize; 5]; 16],
-)
-    requires { ⌜ (count ≤ 16) × (width ≤ 8) × ReadableStreams (now index) width size count (now streams) × Fresh size count (now streams) many ⌝ }
-    ensures { λ _. ⌜ now (streams .exit) ≡ map (pulled (now (index .entry)) width size) (take count (now (streams .entry))) ++ drop count (now (streams .entry)) ⌝ }
+// Writes an occurrence's 9 bytes.
+fn put(out: &mut [u8], place: usize, file: u64, offset: u64, keyword: usize)
+    requires { ⌜ (place + 9 ≤ length (now out)) × (keyword < 256) ⌝ }
+    ensures { λ _. ⌜ now (out .exit) ≡ splice (now (out .entry)) place (occurrenceBytes (record { file = file; offset = offset; keyword = keyword })) ⌝ }
 {
-    if many == 0 {
-        return;
-    }
-    let mut k: usize = 0;
-    while k < count {
-        let s = streams[k];
-        streams[k] = pull(index, width, size, s);
-        k += 1;
-    }
+    field::write(out, place, 4, file);
+    field::write(out, place + 4, 4, offset);
+    field::write(out, place + 8, 1, keyword as u64);
 }
 
 // How many offsets a stream that is not open yet has.
@@ -127,12 +127,38 @@ pub fn offsets_in(stream: [usize; 5]) -> usize
     left + u32::count_ones(set as u32) as usize
 }
 
-// Writes an occurrence's 9 bytes.
-pub fn put(out: &mut [u8], place: usize, file: u64, offset: u64, keyword: usize)
-    requires { ⌜ (place + 9 ≤ length (now out)) × (keyword < 256) ⌝ }
-    ensures { λ _. ⌜ now (out .exit) ≡ splice (now (out .entry)) place (occurrenceBytes (record { file = file; offset = offset; keyword = keyword })) ⌝ }
+// What is listed at a place of a file: the file's number, where the place starts in the file, the chunk's size, bytes of an offset, how many
+// keywords there are, how many occurrences, and where in the buffer their list starts.
+pub struct Place {
+    pub file: usize,
+    pub base: usize,
+    pub size: usize,
+    pub width: usize,
+    pub count: usize,
+    pub many: usize,
+    pub at: usize,
+}
+
+// Lists the occurrences at a place, and returns the place of the buffer behind them. The streams are not open yet.
+pub fn list_place(index: &[u8], place: Place, streams: &[[usize; 5]; 16], out: &mut [u8]) -> usize
+    requires { ⌜ (0 < place .count) × (place .count ≤ 16) × (place .width ≤ 8) × (place .base + place .size < 2 ^ 64) ⌝ }
+    requires { ⌜ ReadableStreams (now index) (place .width) (place .size) (place .count) (now streams) × (place .many ≡ total (now streams) (place .count)) ⌝ }
+    requires { ⌜ place .at + 9 * length (placeList place (now index) (now streams)) ≤ length (now out) ⌝ }
+    ensures { λ r. ⌜ (r ≡ place .at + 9 * length (placeList place (now (index .entry)) (now (streams .entry))))
+        × (now (out .exit) ≡ splice (now (out .entry)) (place .at) (listBytes (placeList place (now (index .entry)) (now (streams .entry))))) ⌝ }
 {
-    field::write(out, place, 4, file);
-    field::write(out, place + 4, 4, offset);
-    field::write(out, place + 8, 1, keyword as u64);
+    if place.many == 0 {
+        return place.at;
+    }
+    let mut opened = open(index, place.width, place.size, place.count, streams);
+    let mut p = place.at;
+    let mut left = place.many;
+    while 0 < left {
+        let t = next(index, place.width, place.size, place.count, &mut opened);
+        let offset = place.base + t.offset;
+        put(out, p, place.file as u64, offset as u64, t.keyword);
+        p += 9;
+        left -= 1;
+    }
+    p
 }

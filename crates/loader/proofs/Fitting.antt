@@ -9,11 +9,12 @@ use native.Mathlib.Omega.{arith}
 use lib.Dec.{ltb, leb·zero}
 use lib.ListN.{length, take, drop, length-take, take-append-drop}
 use Rattle.spec.specs.Bytes.{begins, same}
-use Rattle.spec.specs.Records.{MatchRecord, Form, form1, isEmpty, inRange, recordBytes, readRecord, recordSize, goodBody}
+use Rattle.spec.specs.Form.{Form}
+use Rattle.spec.specs.Records.{MatchRecord, isEmpty, inRange, recordBytes, readRecord, recordSize, goodBody}
 use Rattle.bodies.specs.Steps.{goodFrom, recordGood}
 use Rattle.spec.proofs.Tests.{bool-cases, and-left, and-right, le-of-and, leb-true}
 use Rattle.spec.proofs.Same.{same-eq}
-use Rattle.spec.proofs.RecordLaws.{FormGood, form1-good, allPositive, written-empty, size-written}
+use Rattle.spec.proofs.RecordLaws.{FormGood, allPositive, written-empty, size-written}
 use Rattle.bodies.proofs.StepLaws.{good-is-from, good-absent, good-here}
 use Rattle.loader.specs.Loaded.{sizeNext, fitsFrom}
 use Rattle.loader.proofs.Rows.{size-least}
@@ -69,6 +70,6 @@ module _ (f : Form) (good : FormGood f) (size : ℕ) (fit : size ≤ f .longestC
       go (inr t) ih = rw (t, leb·zero (length bytes)) (ih bytes (sym (good-absent f k n lengths size bytes t) ∙ e))
 
 -- what `load` asks of a body, from what the index check says of it
-pub good-body-fits : (lengths : List ℕ) (size : ℕ) (body : List ℕ) → allPositive lengths ≡ true → size ≤ 65535 → goodBody form1 lengths size body ≡ true
-    → fitsFrom form1 0 (length lengths) body ≡ true
-good-body-fits lengths size body p h e = good-fits form1 form1-good size h 0 lengths body p (sym (good-is-from form1 lengths size body) ∙ e)
+pub good-body-fits : (f : Form) → FormGood f → (lengths : List ℕ) (size : ℕ) (body : List ℕ) → allPositive lengths ≡ true
+    → size ≤ f .longestChunk → goodBody f lengths size body ≡ true → fitsFrom f 0 (length lengths) body ≡ true
+good-body-fits f good lengths size body p h e = good-fits f good size h 0 lengths body p (sym (good-is-from f lengths size body) ∙ e)

@@ -11,7 +11,9 @@ use lib.Dec.{leb}
 use lib.ListN.{length, take, drop, getD, set, length-append, length-take, length-set, take-append-drop, List·getD-append}
 use lib.Seq.{take-suc-set, drop-set-lt, append-snoc}
 use Rattle.spec.specs.Bytes.{part, begins}
-use Rattle.spec.specs.Records.{MatchRecord, Form, form1, emptyRecord, readFrom, readBody}
+use Rattle.spec.specs.declared.Format.{Format}
+use Rattle.spec.specs.Form.{Form, formIn}
+use Rattle.spec.specs.Records.{MatchRecord, emptyRecord, readFrom, readBody}
 use Rattle.spec.proofs.Tests.{bool-cases, and-right, le-of-and}
 use Rattle.loader.specs.Loaded.{recordNext, sizeNext, fitsFrom, Row, rowAt, rowsFrom, rowOf, Loadable}
 use Rattle.loader.proofs.Rows.{part-drop, next-holds}
@@ -92,53 +94,59 @@ rows-hold f index (suc count) at len k inside fits j h =
     go (suc j) m rest = rest j (omega arith)
 
 -- The record that a body says of keyword k.
-abbrev pub recordIn : List ℕ → ℕ → ℕ → MatchRecord
-recordIn body count k = getD (readBody form1 count body) k emptyRecord
+abbrev pub recordIn : Form → List ℕ → ℕ → ℕ → MatchRecord
+recordIn f body count k = getD (readBody f count body) k emptyRecord
 
 -- THE ROWS HOLD THE RECORDS that the body says.
-pub record Loaded (index : List ℕ) (at len count : ℕ) (rows : List (List ℕ)) : Type 0 where
+pub record Loaded (f : Form) (index : List ℕ) (at len count : ℕ) (rows : List (List ℕ)) : Type 0 where
   pub long : count ≤ length rows
-  pub each : (k : ℕ) → k < count → Row index (form1 .width) (rowOf rows k) (recordIn (part index at len) count k)
+  pub each : (k : ℕ) → k < count → Row index (f .width) (rowOf rows k) (recordIn f (part index at len) count k)
 
-pub loaded : (index : List ℕ) (at len count : ℕ) (rows₀ rows : List (List ℕ)) → Loadable index at len count rows₀
-    → rows ≡ rowsFrom form1 0 count at (part index at len) ++ drop count rows₀ → Loaded index at len count rows
-loaded index at len count rows₀ rows h e = subst (Loaded index at len count) (sym e) (record { long = long; each = each })
+pub loaded : (format : Format) (index : List ℕ) (at len count : ℕ) (rows₀ rows : List (List ℕ)) → Loadable format index at len count rows₀
+    → rows ≡ rowsFrom (formIn format) 0 count at (part index at len) ++ drop count rows₀ → Loaded (formIn format) index at len count rows
+loaded format index at len count rows₀ rows h e = subst (Loaded (formIn format) index at len count) (sym e) (record { long = long; each = each })
   where
     new : List (List ℕ)
-    new = rowsFrom form1 0 count at (part index at len)
+    new = rowsFrom (formIn format) 0 count at (part index at len)
 
     many : length new ≡ count
-    many = length-rows form1 0 count at (part index at len)
+    many = length-rows (formIn format) 0 count at (part index at len)
 
     long : count ≤ length (new ++ drop count rows₀)
     long = omega (arith, length-append new (drop count rows₀), many)
 
-    each : (k : ℕ) → k < count → Row index (form1 .width) (rowOf (new ++ drop count rows₀) k) (recordIn (part index at len) count k)
-    each k m = rw (List·getD-append new (drop count rows₀) [] k (omega (arith, many))) (rows-hold form1 index count at len 0 (h .inside) (h .whole) k m)
+    each : (k : ℕ) → k < count → Row index (format .width) (rowOf (new ++ drop count rows₀) k) (recordIn (formIn format) (part index at len) count k)
+    each k m =
+        rw (List·getD-append new (drop count rows₀) [] k (omega (arith, many)))
+        (rows-hold (formIn format) index count at len 0 (h .inside) (h .whole) k m)
 
 -- ---- the loop
 
 -- Keyword k is next; `place` is where its record would start.
-pub record Loading (index : List ℕ) (at len count : ℕ) (rows₀ rows : List (List ℕ)) (place k : ℕ) : Type 0 where
+pub record Loading (format : Format) (index : List ℕ) (at len count : ℕ) (rows₀ rows : List (List ℕ)) (place k : ℕ) : Type 0 where
+  pub wide : format .width ≤ 3
   pub long : count ≤ length rows
   pub inside : at + len ≤ length index
   pub within : place ≤ at + len
-  pub fits : fitsFrom form1 k (count - k) (part index place (at + len - place)) ≡ true
-  pub left : take k rows ++ rowsFrom form1 k (count - k) place (part index place (at + len - place)) ≡ rowsFrom form1 0 count at (part index at len)
+  pub fits : fitsFrom (formIn format) k (count - k) (part index place (at + len - place)) ≡ true
+  pub left : take k rows ++ rowsFrom (formIn format) k (count - k) place (part index place (at + len - place))
+      ≡ rowsFrom (formIn format) 0 count at (part index at len)
   pub rest : drop count rows ≡ drop count rows₀
 
-pub loading-start : (index : List ℕ) (at len count : ℕ) (rows : List (List ℕ)) → Loadable index at len count rows → Loading index at len count rows rows at 0
-loading-start index at len count rows h =
+pub loading-start : (format : Format) (index : List ℕ) (at len count : ℕ) (rows : List (List ℕ)) → Loadable format index at len count rows
+    → Loading format index at len count rows rows at 0
+loading-start format index at len count rows h =
     let n : count - 0 ≡ count = omega arith in
     let m : at + len - at ≡ len = omega arith in
-    record { long = h .long; inside = h .inside; within = omega arith; fits = rw (n, m) (h .whole); left = rw (n, m); rest = refl }
+    record { wide = h .wide; long = h .long; inside = h .inside; within = omega arith; fits = rw (n, m) (h .whole); left = rw (n, m); rest = refl }
 
-module _ (index : List ℕ) (at len count : ℕ) (rows₀ rows : List (List ℕ)) (place k : ℕ) (l : Loading index at len count rows₀ rows place k) where
-  pub loading-end : k ≡ count → rows ≡ rowsFrom form1 0 count at (part index at len) ++ drop count rows₀
+module _ (format : Format) (index : List ℕ) (at len count : ℕ) (rows₀ rows : List (List ℕ)) (place k : ℕ)
+    (l : Loading format index at len count rows₀ rows place k) where
+  pub loading-end : k ≡ count → rows ≡ rowsFrom (formIn format) 0 count at (part index at len) ++ drop count rows₀
   unfolding rowsFrom
   loading-end h =
       let z : count - k ≡ 0 = omega arith in
-      let e : take count rows ≡ rowsFrom form1 0 count at (part index at len) = rw (z, h, append-nil) at (l .left) in
+      let e : take count rows ≡ rowsFrom (formIn format) 0 count at (part index at len) = rw (z, h, append-nil) at (l .left) in
       sym (take-append-drop count rows) ∙ ap₂ {C = List (List ℕ)} (λ xs ys. xs ++ ys) e (l .rest)
 
   module _ (more : k < count) where
@@ -146,7 +154,7 @@ module _ (index : List ℕ) (at len count : ℕ) (rows₀ rows : List (List ℕ)
     here = part index place (at + len - place)
 
     abbrev taken : ℕ
-    taken = sizeNext form1 k here
+    taken = sizeNext (formIn format) k here
 
     inner : place + (at + len - place) ≤ length index
     inner = omega (arith, l .inside, l .within)
@@ -154,18 +162,18 @@ module _ (index : List ℕ) (at len count : ℕ) (rows₀ rows : List (List ℕ)
     step : count - k ≡ suc (count - suc k)
     step = omega arith
 
-    whole : fitsFrom form1 k (suc (count - suc k)) here ≡ true
+    whole : fitsFrom (formIn format) k (suc (count - suc k)) here ≡ true
     whole = rw step at (l .fits)
 
     pub size-room : taken ≤ at + len - place
-    size-room = room-next form1 index place (at + len - place) k (count - suc k) inner whole
+    size-room = room-next (formIn format) index place (at + len - place) k (count - suc k) inner whole
 
-    module _ (row : List ℕ) (r : row ≡ rowAt 2 place taken (recordNext form1 k here)) where
+    module _ (row : List ℕ) (r : row ≡ rowAt (format .width) place taken (recordNext (formIn format) k here)) where
       abbrev next : ℕ
-      next = getD row 2 0 + 2 * getD row 3 0
+      next = getD row 2 0 + format .width * getD row 3 0
 
       ends : next ≡ place + taken
-      ends = row-ends form1 index place (at + len - place) k (count - suc k) inner whole row r
+      ends = row-ends (formIn format) index place (at + len - place) k (count - suc k) inner whole row r
 
       pub next-room : next ≤ length index
       next-room = omega (arith, ends, size-room, inner)
@@ -173,23 +181,25 @@ module _ (index : List ℕ) (at len count : ℕ) (rows₀ rows : List (List ℕ)
       shorter : at + len - place - taken ≡ at + len - next
       shorter = omega (arith, ends)
 
-      fits-on : fitsFrom form1 (suc k) (count - suc k) (part index next (at + len - next)) ≡ true
-      fits-on = rw (← shorter, ends) (fits-behind form1 index place (at + len - place) k (count - suc k) inner whole)
+      fits-on : fitsFrom (formIn format) (suc k) (count - suc k) (part index next (at + len - next)) ≡ true
+      fits-on = rw (← shorter, ends) (fits-behind (formIn format) index place (at + len - place) k (count - suc k) inner whole)
 
-      rows-on : rowsFrom form1 k (count - k) place here ≡ row ∷ rowsFrom form1 (suc k) (count - suc k) next (part index next (at + len - next))
-      rows-on = rw (← shorter, ends, step, r) (rows-next form1 index place (at + len - place) k (count - suc k) inner whole)
+      rows-on : rowsFrom (formIn format) k (count - k) place here
+          ≡ row ∷ rowsFrom (formIn format) (suc k) (count - suc k) next (part index next (at + len - next))
+      rows-on = rw (← shorter, ends, step, r) (rows-next (formIn format) index place (at + len - place) k (count - suc k) inner whole)
 
       abbrev rows-left : List (List ℕ)
-      rows-left = rowsFrom form1 (suc k) (count - suc k) next (part index next (at + len - next))
+      rows-left = rowsFrom (formIn format) (suc k) (count - suc k) next (part index next (at + len - next))
 
-      left-on : take (suc k) (set rows k row) ++ rows-left ≡ rowsFrom form1 0 count at (part index at len)
+      left-on : take (suc k) (set rows k row) ++ rows-left ≡ rowsFrom (formIn format) 0 count at (part index at len)
       left-on =
           ap {B = List (List ℕ)} (λ xs. xs ++ rows-left) (take-suc-set rows k row (omega (arith, l .long)))
           ∙ append-snoc (take k rows) row _ ∙ ap {B = List (List ℕ)} (λ xs. take k rows ++ xs) (sym rows-on) ∙ l .left
 
-      pub loading-on : Loading index at len count rows₀ (set rows k row) next (k + 1)
+      pub loading-on : Loading format index at len count rows₀ (set rows k row) next (k + 1)
       loading-on =
           record {
+            wide = l .wide;
             long = simp length-set (l .long);
             inside = l .inside;
             within = omega (arith, ends, size-room, l .within);

@@ -11,7 +11,8 @@ use lib.Dec.{eqb}
 use lib.ListN.{length, take, drop, getD, length-drop}
 use lib.Seq.{length-take-le, take-take, drop-drop, getD-take, getD-drop}
 use Rattle.spec.specs.Bytes.{part, leValue, fieldAt, fieldsOf, begins}
-use Rattle.spec.specs.Records.{MatchRecord, Form, readOffsets, readRecord, recordSize}
+use Rattle.spec.specs.Form.{Form}
+use Rattle.spec.specs.Records.{MatchRecord, readOffsets, readRecord, recordSize}
 use Rattle.spec.proofs.Tests.{eqb-same, eqb-ne, cond-elim, bool-cases}
 use Rattle.spec.proofs.Splices.{drop-take}
 use Rattle.spec.proofs.FieldLists.{length-fieldsOf}

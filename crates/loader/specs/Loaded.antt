@@ -6,7 +6,9 @@ use Prim.Native.Nat.{ℕ, zero, suc, _+_, _-_, _*_, _≤_}
 use lib.ListN.{length, drop, getD}
 use lib.Dec.{leb}
 use Rattle.spec.specs.Bytes.{part, begins, fieldsOf}
-use Rattle.spec.specs.Records.{MatchRecord, Form, form1, emptyRecord, readRecord, recordSize}
+use Rattle.spec.specs.declared.Format.{Format}
+use Rattle.spec.specs.Form.{Form, formIn}
+use Rattle.spec.specs.Records.{MatchRecord, emptyRecord, readRecord, recordSize}
 
 -- ---- what bytes say of the next keyword
 
@@ -48,9 +50,10 @@ rowsFrom f k zero at bytes = []
 rowsFrom f k (suc count) at bytes =
     rowAt (f .width) at (sizeNext f k bytes) (recordNext f k bytes) ∷ rowsFrom f (suc k) count (at + sizeNext f k bytes) (drop (sizeNext f k bytes) bytes)
 
--- What `load` asks: the body lies in the index, and its records lie whole in it.
-pub record Loadable (index : List ℕ) (at len count : ℕ) (rows : List (List ℕ)) : Type 0 where
+-- What `load` asks: fields are at most 3 bytes wide, the body lies in the index, and its records lie whole in it.
+pub record Loadable (format : Format) (index : List ℕ) (at len count : ℕ) (rows : List (List ℕ)) : Type 0 where
+  pub wide : format .width ≤ 3
   pub few : count ≤ 16
   pub long : count ≤ length rows
   pub inside : at + len ≤ length index
-  pub whole : fitsFrom form1 0 count (part index at len) ≡ true
+  pub whole : fitsFrom (formIn format) 0 count (part index at len) ≡ true

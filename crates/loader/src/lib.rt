@@ -5,11 +5,10 @@ ghost use mathlib.Core.List.{_++_};
 ghost use Prim.Native.Nat.{_+_, _≤_};
 ghost use lib.ListN.{length, drop};
 ghost use Rattle.spec.specs.Bytes.{part};
-ghost use Rattle.spec.specs.Records.{form1, readRecord, recordSize};
+ghost use Rattle.spec.specs.Form.{formIn};
+ghost use Rattle.spec.specs.Records.{readRecord, recordSize};
 ghost use Rattle.loader.specs.Loaded.{recordNext, sizeNext, rowAt, rowsFrom, Loadable};
-
-// Bytes of an offset, and of the exact count.
-const WIDTH: usize = 2;
+use spec::Format;
 
 // What a suffix of length 1 adds to the tiny byte.
 const TINY_STEP: usize = 2;
@@ -20,10 +19,12 @@ const PLACE: usize = 2;
 const LEFT: usize = 3;
 
 // The row of the record that starts at `at`; `len` bytes of the body are left from there.
-fn record_at(index: &[u8], at: usize, len: usize) -> [usize; 4]
-    requires { ⌜ (at + len ≤ length (now index)) × (recordSize form1 (part (now index) at len) ≤ len) ⌝ }
-    ensures { λ r. ⌜ r ≡ rowAt 2 at (recordSize form1 (part (now (index .entry)) at len)) (readRecord form1 (part (now (index .entry)) at len)) ⌝ }
+fn record_at(index: &[u8], format: Format, at: usize, len: usize) -> [usize; 4]
+    requires { ⌜ (at + len ≤ length (now index)) × (recordSize (formIn format) (part (now index) at len) ≤ len) × (format .width ≤ 3) ⌝ }
+    ensures { λ r. ⌜ r ≡ rowAt (format .width) at (recordSize (formIn format) (part (now (index .entry)) at len))
+        (readRecord (formIn format) (part (now (index .entry)) at len)) ⌝ }
 {
+    let width = format.width;
     let kind = index[at + 1];
     let prefix = index[at + 2] as usize;
     if kind == 0 {
@@ -33,21 +34,22 @@ fn record_at(index: &[u8], at: usize, len: usize) -> [usize; 4]
     let count = index[at + 4] as usize;
     if kind == 1 {
         if count == 0 {
-            return [prefix, suffix, at + (5 + WIDTH), 0];
+            return [prefix, suffix, at + (5 + width), 0];
         }
         return [prefix, suffix, at + 5, 1];
     }
     if kind == 2 {
-        return [prefix, suffix, at + (5 + WIDTH), count];
+        return [prefix, suffix, at + (5 + width), count];
     }
-    let exact = field::read(index, at + (5 + WIDTH), WIDTH) as usize;
-    [prefix, suffix, at + (5 + 2 * WIDTH), exact]
+    let exact = field::read_offset(index, at + (5 + width), width) as usize;
+    [prefix, suffix, at + (5 + 2 * width), exact]
 }
 
 // The row of keyword k: no prefix, suffix or offset where its number is not next.
-fn row_at(index: &[u8], at: usize, len: usize, k: usize) -> [usize; 4]
-    requires { ⌜ (at + len ≤ length (now index)) × (sizeNext form1 k (part (now index) at len) ≤ len) ⌝ }
-    ensures { λ r. ⌜ r ≡ rowAt 2 at (sizeNext form1 k (part (now (index .entry)) at len)) (recordNext form1 k (part (now (index .entry)) at len)) ⌝ }
+fn row_at(index: &[u8], format: Format, at: usize, len: usize, k: usize) -> [usize; 4]
+    requires { ⌜ (at + len ≤ length (now index)) × (sizeNext (formIn format) k (part (now index) at len) ≤ len) × (format .width ≤ 3) ⌝ }
+    ensures { λ r. ⌜ r ≡ rowAt (format .width) at (sizeNext (formIn format) k (part (now (index .entry)) at len))
+        (recordNext (formIn format) k (part (now (index .entry)) at len)) ⌝ }
 {
     if len == 0 {
         return [0, 0, at, 0];
@@ -56,21 +58,29 @@ fn row_at(index: &[u8], at: usize, len: usize, k: usize) -> [usize; 4]
     if number != k {
         return [0, 0, at, 0];
     }
-    record_at(index, at, len)
+    record_at(index, format, at, len)
 }
 
 // The rows of `count` keywords, from the body of `len` bytes at `at`. A record ends where its list of offsets does.
-pub fn load(index: &[u8], at: usize, len: usize, count: usize, rows: &mut [[usize; 4]; 16])
-    requires { ⌜ Loadable (now index) at len count (now rows) ⌝ }
-    ensures { λ _. ⌜ now (rows .exit) ≡ rowsFrom form1 0 count at (part (now (index .entry)) at len) ++ drop count (now (rows .entry)) ⌝ }
+pub fn load(
+    index: &[u8],
+    format: Format,
+    at: usize,
+    len: usize,
+    count: usize,
+    rows: &mut [[usize; 4]; 16],
+)
+    requires { ⌜ Loadable format (now index) at len count (now rows) ⌝ }
+    ensures { λ _. ⌜ now (rows .exit) ≡ rowsFrom (formIn format) 0 count at (part (now (index .entry)) at len) ++ drop count (now (rows .entry)) ⌝ }
 {
+    let width = format.width;
     let end = at + len;
     let mut place = at;
     let mut k: usize = 0;
     while k < count {
-        let row = row_at(index, place, end - place, k);
+        let row = row_at(index, format, place, end - place, k);
         rows[k] = row;
-        place = row[PLACE] + WIDTH * row[LEFT];
+        place = row[PLACE] + width * row[LEFT];
         k += 1;
     }
 }

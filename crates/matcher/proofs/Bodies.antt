@@ -10,7 +10,8 @@ use lib.ListN.{length, take, drop, getD, length-append, length-take, length-drop
 use lib.Seq.{drop-cons}
 use Rattle.spec.specs.Bytes.{splice}
 use Rattle.spec.specs.Keywords.{folded, foldedKeywords, keywordsOf, flagOf, countOf, keywordFrontCode}
-use Rattle.spec.specs.Records.{Form, MatchRecord, form1, recordOf, recordsOf, isEmpty, isTiny, fullBytes, recordBytes, bodyFrom}
+use Rattle.spec.specs.Form.{Form, newest}
+use Rattle.spec.specs.Records.{MatchRecord, recordOf, recordsOf, isEmpty, isTiny, fullBytes, recordBytes, bodyFrom}
 use Rattle.spec.specs.Scan.{scanRecords, scanBody}
 use Rattle.spec.proofs.Tests.{bool-cases, le-or-lt}
 use Rattle.spec.proofs.Folding.{folded-length}
@@ -63,7 +64,7 @@ module _ (f : Form) (list chunk : List ℕ) where
 
 -- ---- lengths
 
-full-most : (k : ℕ) (m : MatchRecord) → length (fullBytes form1 k m) ≤ 9 + 2 * length (m .offsets)
+full-most : (k : ℕ) (m : MatchRecord) → length (fullBytes newest k m) ≤ 9 + 2 * length (m .offsets)
 full-most k m = ⊎-elim
     (λ h. omega (arith, size-one (length (m .offsets)) k m refl h))
     (λ l. ⊎-elim
@@ -72,37 +73,37 @@ full-most k m = ⊎-elim
     (le-or-lt (length (m .offsets)) 254))
     (le-or-lt (length (m .offsets)) 1)
 
-record-most : (n k : ℕ) (m : MatchRecord) → length (recordBytes form1 n k m) ≤ 9 + 2 * length (m .offsets)
+record-most : (n k : ℕ) (m : MatchRecord) → length (recordBytes newest n k m) ≤ 9 + 2 * length (m .offsets)
 record-most n k m = ⊎-elim
-    (λ e. omega (arith, ap length (written-empty form1 n k m e)))
+    (λ e. omega (arith, ap length (written-empty newest n k m e)))
     (λ e. ⊎-elim
-    (λ t. omega (arith, ap length (written-tiny form1 n k m t)))
-    (λ t. omega (arith, ap length (written-full form1 n k m e t), full-most k m))
-    (bool-cases (isTiny form1 n m)))
+    (λ t. omega (arith, ap length (written-tiny newest n k m t)))
+    (λ t. omega (arith, ap length (written-full newest n k m e t), full-most k m))
+    (bool-cases (isTiny newest n m)))
     (bool-cases (isEmpty m))
 
-recorded-most : (n k : ℕ) (keyword chunk : List ℕ) → length chunk ≤ 65535 → length (recordBytes form1 n k (recordOf keyword chunk)) ≤ 131079
+recorded-most : (n k : ℕ) (keyword chunk : List ℕ) → length chunk ≤ 65535 → length (recordBytes newest n k (recordOf keyword chunk)) ≤ 131079
 unfolding recordOf
 recorded-most n k keyword chunk h =
     omega (arith, record-most n k (recordOf keyword chunk), ap length (offsets-all keyword chunk), offsets-length keyword chunk 0)
 
 body-from-most : (k : ℕ) (keywords : List (List ℕ)) (chunk : List ℕ) → length chunk ≤ 65535
-    → length (bodyFrom form1 k (map length keywords) (map (λ keyword. recordOf keyword chunk) keywords)) ≤ 131079 * length keywords
+    → length (bodyFrom newest k (map length keywords) (map (λ keyword. recordOf keyword chunk) keywords)) ≤ 131079 * length keywords
 unfolding bodyFrom
 body-from-most k [] chunk h = omega arith
 body-from-most k (w ∷ keywords) chunk h =
-    let first : List ℕ = recordBytes form1 (length w) k (recordOf w chunk) in
-    let rest : List ℕ = bodyFrom form1 (suc k) (map length keywords) (map (λ keyword. recordOf keyword chunk) keywords) in
+    let first : List ℕ = recordBytes newest (length w) k (recordOf w chunk) in
+    let rest : List ℕ = bodyFrom newest (suc k) (map length keywords) (map (λ keyword. recordOf keyword chunk) keywords) in
     omega (arith, length-append first rest, recorded-most (length w) k w chunk h, body-from-most (suc k) keywords chunk h)
 
 -- a body has at most 16 records
-pub body-most : (list chunk : List ℕ) → keywordFrontCode list ≡ 0 → length chunk ≤ 65535 → length (scanBody form1 list chunk) ≤ 2097264
+pub body-most : (list chunk : List ℕ) → keywordFrontCode list ≡ 0 → length chunk ≤ 65535 → length (scanBody newest list chunk) ≤ 2097264
 body-most list chunk a h =
     omega (
       arith,
-      ap length (rest-start form1 list chunk),
+      ap length (rest-start newest list chunk),
       body-from-most 0 (foldedKeywords list) (folded (flagOf list) chunk) (rw folded-length h),
-      words-count form1 list chunk a,
+      words-count newest list chunk a,
       accepted list a .most,
     )
 

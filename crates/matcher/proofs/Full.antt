@@ -5,7 +5,8 @@ use Prim.Native.Nat.{ℕ, _+_, _*_, _-_, _≤_, _<_}
 use native.Mathlib.Omega.{arith}
 use lib.ListN.{length, getD}
 use Rattle.spec.specs.Bytes.{leBytes, splice, fieldsBytes}
-use Rattle.spec.specs.Records.{MatchRecord, form1, fullBytes, offsetsBytes, headBytes}
+use Rattle.spec.specs.Form.{newest}
+use Rattle.spec.specs.Records.{MatchRecord, fullBytes, offsetsBytes, headBytes}
 use Rattle.spec.proofs.Tests.{le-or-lt}
 use Rattle.spec.proofs.Fields.{length-leBytes}
 use Rattle.spec.proofs.RecordLaws.{length-full, offsets-one, offsets-two, offsets-three}
@@ -44,50 +45,50 @@ module _ (flag : ℕ) (keyword chunk : List ℕ) (k : ℕ) (s : Summary) (e : s 
       none : length chunk ≤ s .first → ⊥
       none l = omega (arith, counted, ap length (left-ended flag keyword chunk 0 (s .first) first l))
 
-  split : fullBytes form1 k m ≡ headBytes form1 k m ++ offsetsBytes form1 (m .offsets)
+  split : fullBytes newest k m ≡ headBytes newest k m ++ offsetsBytes newest (m .offsets)
   unfolding fullBytes headBytes
   split = refl
 
-  few : s .count ≤ 1 → fullBytes form1 k m ≡ headBytes form1 k m
-  few h = split ∙ rw (offsets-one form1 (m .offsets) (omega (arith, at-count s m e)), append-nil)
+  few : s .count ≤ 1 → fullBytes newest k m ≡ headBytes newest k m
+  few h = split ∙ rw (offsets-one newest (m .offsets) (omega (arith, at-count s m e)), append-nil)
 
-  several : 1 < s .count → s .count ≤ 254 → fullBytes form1 k m ≡ headBytes form1 k m ++ fieldsBytes 2 (left flag keyword chunk (s .first))
-  several l h = split ∙ rw (offsets-two form1 (m .offsets) (omega (arith, at-count s m e)) (omega (arith, at-count s m e)), left-first (omega arith))
+  several : 1 < s .count → s .count ≤ 254 → fullBytes newest k m ≡ headBytes newest k m ++ fieldsBytes 2 (left flag keyword chunk (s .first))
+  several l h = split ∙ rw (offsets-two newest (m .offsets) (omega (arith, at-count s m e)) (omega (arith, at-count s m e)), left-first (omega arith))
 
-  many : 254 < s .count → fullBytes form1 k m ≡ headBytes form1 k m ++ leBytes 2 (s .count) ++ fieldsBytes 2 (left flag keyword chunk (s .first))
-  many h = split ∙ rw (offsets-three form1 (m .offsets) (omega (arith, at-count s m e)), left-first (omega arith), at-count s m e, append-assoc)
+  many : 254 < s .count → fullBytes newest k m ≡ headBytes newest k m ++ leBytes 2 (s .count) ++ fieldsBytes 2 (left flag keyword chunk (s .first))
+  many h = split ∙ rw (offsets-three newest (m .offsets) (omega (arith, at-count s m e)), left-first (omega arith), at-count s m e, append-assoc)
 
   -- ---- room
 
-  pub room-head : (n : ℕ) → length (fullBytes form1 k m) ≤ n → 7 ≤ n
-  room-head n h = omega (arith, length-full form1 k m)
+  pub room-head : (n : ℕ) → length (fullBytes newest k m) ≤ n → 7 ≤ n
+  room-head n h = omega (arith, length-full newest k m)
 
-  pub room-two : (head n : ℕ) {l after : List ℕ} → Wrote l 0 (headBytes form1 k m) after head → 1 < s .count → s .count ≤ 254
-      → length (fullBytes form1 k m) ≤ n → head + 2 * length (left flag keyword chunk (s .first)) ≤ n
+  pub room-two : (head n : ℕ) {l after : List ℕ} → Wrote l 0 (headBytes newest k m) after head → 1 < s .count → s .count ≤ 254
+      → length (fullBytes newest k m) ≤ n → head + 2 * length (left flag keyword chunk (s .first)) ≤ n
   room-two head n w l h f =
       omega (arith, w .ends, length-head k m, size-two (s .count) k m (at-count s m e) l h, ap length (left-first (omega arith)), at-count s m e)
 
-  pub room-three : (head n : ℕ) {l after : List ℕ} → Wrote l 0 (headBytes form1 k m) after head → 254 < s .count → length (fullBytes form1 k m) ≤ n
+  pub room-three : (head n : ℕ) {l after : List ℕ} → Wrote l 0 (headBytes newest k m) after head → 254 < s .count → length (fullBytes newest k m) ≤ n
       → head + 2 + 2 * length (left flag keyword chunk (s .first)) ≤ n
   room-three head n w h f =
       omega (arith, w .ends, length-head k m, size-three (s .count) k m (at-count s m e) h, ap length (left-first (omega arith)), at-count s m e)
 
   -- ---- the writes of each kind
 
-  pub put-one : (l after : List ℕ) (head : ℕ) → s .count ≤ 1 → Wrote l 0 (headBytes form1 k m) after head → Wrote l 0 (fullBytes form1 k m) after head
+  pub put-one : (l after : List ℕ) (head : ℕ) → s .count ≤ 1 → Wrote l 0 (headBytes newest k m) after head → Wrote l 0 (fullBytes newest k m) after head
   put-one l after head h w = rw (few h) w
 
-  pub put-two : (l l₁ l₂ : List ℕ) (head end : ℕ) → 1 < s .count → s .count ≤ 254 → Wrote l 0 (headBytes form1 k m) l₁ head
-      → Wrote l₁ head (fieldsBytes 2 (left flag keyword chunk (s .first))) l₂ end → Wrote l 0 (fullBytes form1 k m) l₂ end
+  pub put-two : (l l₁ l₂ : List ℕ) (head end : ℕ) → 1 < s .count → s .count ≤ 254 → Wrote l 0 (headBytes newest k m) l₁ head
+      → Wrote l₁ head (fieldsBytes 2 (left flag keyword chunk (s .first))) l₂ end → Wrote l 0 (fullBytes newest k m) l₂ end
   put-two l l₁ l₂ head end n h v w =
-      rw (several n h) (wrote-then l l₁ l₂ 0 head end (headBytes form1 k m) (fieldsBytes 2 (left flag keyword chunk (s .first))) (omega arith) v w)
+      rw (several n h) (wrote-then l l₁ l₂ 0 head end (headBytes newest k m) (fieldsBytes 2 (left flag keyword chunk (s .first))) (omega arith) v w)
 
-  pub put-three : (l l₁ l₂ l₃ : List ℕ) (head end : ℕ) → 254 < s .count → Wrote l 0 (headBytes form1 k m) l₁ head
+  pub put-three : (l l₁ l₂ l₃ : List ℕ) (head end : ℕ) → 254 < s .count → Wrote l 0 (headBytes newest k m) l₁ head
       → l₂ ≡ splice l₁ head (leBytes 2 (s .count)) → Wrote l₂ (head + 2) (fieldsBytes 2 (left flag keyword chunk (s .first))) l₃ end
-      → Wrote l 0 (fullBytes form1 k m) l₃ end
+      → Wrote l 0 (fullBytes newest k m) l₃ end
   put-three l l₁ l₂ l₃ head end h v x w =
       let count : List ℕ = leBytes 2 (s .count) in
       let offsets : List ℕ = fieldsBytes 2 (left flag keyword chunk (s .first)) in
       let c : Wrote l₁ head count l₂ (head + 2) = record { written = x; ends = ap (λ (n : ℕ). head + n) (sym (length-leBytes 2 (s .count))) } in
-      let p = wrote-then l l₁ l₂ 0 head (head + 2) (headBytes form1 k m) count (omega arith) v c in
-      rw (many h) (wrote-then l l₂ l₃ 0 (head + 2) end (headBytes form1 k m ++ count) offsets (omega arith) p w)
+      let p = wrote-then l l₁ l₂ 0 head (head + 2) (headBytes newest k m) count (omega arith) v c in
+      rw (many h) (wrote-then l l₂ l₃ 0 (head + 2) end (headBytes newest k m ++ count) offsets (omega arith) p w)

@@ -7,7 +7,8 @@ use native.Mathlib.Omega.{arith}
 use lib.ListN.{length}
 use lib.Dec.{eqb, leb}
 use Rattle.spec.specs.Keywords.{folded}
-use Rattle.spec.specs.Records.{MatchRecord, form1, reach, isEmpty, isTiny, tinyBytes, fullBytes, recordBytes}
+use Rattle.spec.specs.Form.{newest}
+use Rattle.spec.specs.Records.{MatchRecord, reach, isEmpty, isTiny, tinyBytes, fullBytes, recordBytes}
 use Rattle.spec.proofs.Tests.{and-left, and-right}
 use Rattle.spec.proofs.Folding.{folded-length}
 use Rattle.spec.proofs.Splices.{splice-nil}
@@ -38,14 +39,14 @@ module _ (flag : ℕ) (keyword chunk : List ℕ) (s : Summary) (e : s ≡ summar
       let c : List ℕ = folded flag chunk in
       omega (arith, at-suffix s m e, folded-length flag keyword, suffix-in (length w) (length c) m (record-in-range w c))
 
-  pub tiny-prefix-most : isTiny form1 (length keyword) m ≡ true → s .prefix ≤ 1
+  pub tiny-prefix-most : isTiny newest (length keyword) m ≡ true → s .prefix ≤ 1
   tiny-prefix-most t =
       let none : Bool = eqb (length (m .offsets)) 0 in
       let p : Bool = leb (m .prefix) 1 in
       let q : Bool = leb (m .suffix) 1 in
       omega (arith, at-prefix s m e, le-of (m .prefix) 1 (and-right none p (and-left (none && p) q (and-left (none && p && q) (not (isEmpty m)) t))))
 
-  pub tiny-suffix-most : isTiny form1 (length keyword) m ≡ true → s .suffix ≤ 1
+  pub tiny-suffix-most : isTiny newest (length keyword) m ≡ true → s .suffix ≤ 1
   tiny-suffix-most t =
       let p : Bool = eqb (length (m .offsets)) 0 && leb (m .prefix) 1 in
       let q : Bool = leb (m .suffix) 1 in
@@ -54,13 +55,13 @@ module _ (flag : ℕ) (keyword chunk : List ℕ) (s : Summary) (e : s ≡ summar
 -- ---- the three forms
 
 module _ (n k : ℕ) (m : MatchRecord) (l : List ℕ) where
-  pub put-nothing : isEmpty m ≡ true → Wrote l 0 (recordBytes form1 n k m) l 0
-  put-nothing h = rw (written-empty form1 n k m h) (record { written = sym (splice-nil l 0); ends = refl })
+  pub put-nothing : isEmpty m ≡ true → Wrote l 0 (recordBytes newest n k m) l 0
+  put-nothing h = rw (written-empty newest n k m h) (record { written = sym (splice-nil l 0); ends = refl })
 
-  pub put-as-tiny : (after : List ℕ) (end : ℕ) → isTiny form1 n m ≡ true → Wrote l 0 (tinyBytes form1 k m) after end
-      → Wrote l 0 (recordBytes form1 n k m) after end
-  put-as-tiny after end h w = rw (written-tiny form1 n k m h) w
+  pub put-as-tiny : (after : List ℕ) (end : ℕ) → isTiny newest n m ≡ true → Wrote l 0 (tinyBytes newest k m) after end
+      → Wrote l 0 (recordBytes newest n k m) after end
+  put-as-tiny after end h w = rw (written-tiny newest n k m h) w
 
-  pub put-as-full : (after : List ℕ) (end : ℕ) → isEmpty m ≡ false → isTiny form1 n m ≡ false → Wrote l 0 (fullBytes form1 k m) after end
-      → Wrote l 0 (recordBytes form1 n k m) after end
-  put-as-full after end h t w = rw (written-full form1 n k m h t) w
+  pub put-as-full : (after : List ℕ) (end : ℕ) → isEmpty m ≡ false → isTiny newest n m ≡ false → Wrote l 0 (fullBytes newest k m) after end
+      → Wrote l 0 (recordBytes newest n k m) after end
+  put-as-full after end h t w = rw (written-full newest n k m h t) w

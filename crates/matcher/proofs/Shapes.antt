@@ -8,7 +8,8 @@ use native.Mathlib.Omega.{arith}
 use lib.ListN.{length, getD, set, length-append}
 use lib.Dec.{eqb}
 use Rattle.spec.specs.Bytes.{leBytes, splice, fieldsBytes}
-use Rattle.spec.specs.Records.{MatchRecord, form1, isEmpty, isTiny, kindOf, tinyBytes, fullBytes, headBytes}
+use Rattle.spec.specs.Form.{newest}
+use Rattle.spec.specs.Records.{MatchRecord, isEmpty, isTiny, kindOf, tinyBytes, fullBytes, headBytes}
 use Rattle.spec.proofs.Tests.{eqb-ne, leb-true, leb-false}
 use Rattle.spec.proofs.Fields.{length-leBytes}
 use Rattle.spec.proofs.FieldLists.{length-fieldsBytes}
@@ -49,16 +50,16 @@ module _ (s : Summary) (m : MatchRecord) (e : s ≡ summaryOf m) where
 
   -- ---- tiny
 
-  pub tiny-count : (n : ℕ) → (s .count ≡ 0 → ⊥) → false ≡ isTiny form1 n m
+  pub tiny-count : (n : ℕ) → (s .count ≡ 0 → ⊥) → false ≡ isTiny newest n m
   tiny-count n h = rw (eqb-ne (length (m .offsets)) 0 (λ q. h (at-count ∙ q)))
 
-  pub tiny-prefix : (n : ℕ) → s .count ≡ 0 → 1 < s .prefix → false ≡ isTiny form1 n m
+  pub tiny-prefix : (n : ℕ) → s .count ≡ 0 → 1 < s .prefix → false ≡ isTiny newest n m
   tiny-prefix n c h = rw (sym at-count ∙ c, leb-false (m .prefix) 1 (omega (arith, at-prefix)))
 
-  pub tiny-suffix : (n : ℕ) → s .count ≡ 0 → s .prefix ≤ 1 → 1 < s .suffix → false ≡ isTiny form1 n m
+  pub tiny-suffix : (n : ℕ) → s .count ≡ 0 → s .prefix ≤ 1 → 1 < s .suffix → false ≡ isTiny newest n m
   tiny-suffix n c p h = rw (sym at-count ∙ c, leb-true (m .prefix) 1 (omega (arith, at-prefix)), leb-false (m .suffix) 1 (omega (arith, at-suffix)))
 
-  pub tiny-some : (n : ℕ) (b : Bool) → s .count ≡ 0 → s .prefix ≤ 1 → s .suffix ≤ 1 → b ≡ isEmpty m → not b ≡ isTiny form1 n m
+  pub tiny-some : (n : ℕ) (b : Bool) → s .count ≡ 0 → s .prefix ≤ 1 → s .suffix ≤ 1 → b ≡ isEmpty m → not b ≡ isTiny newest n m
   tiny-some n b c p q h =
       rw (h, sym at-count ∙ c, leb-true (m .prefix) 1 (omega (arith, at-prefix)), leb-true (m .suffix) 1 (omega (arith, at-suffix)))
 
@@ -74,18 +75,19 @@ pub kind-three : (count : ℕ) → 254 < count → 3 ≡ kindOf count
 kind-three count h = rw (leb-false count 1 (omega arith), leb-false count 254 h)
 
 module _ (count k : ℕ) (m : MatchRecord) (e : count ≡ length (m .offsets)) where
-  pub size-one : count ≤ 1 → 7 ≡ length (fullBytes form1 k m)
-  size-one h = omega (arith, length-full form1 k m, ap length (offsets-one form1 (m .offsets) (omega arith)))
+  pub size-one : count ≤ 1 → 7 ≡ length (fullBytes newest k m)
+  size-one h = omega (arith, length-full newest k m, ap length (offsets-one newest (m .offsets) (omega arith)))
 
-  pub size-two : 1 < count → count ≤ 254 → 7 + 2 * count ≡ length (fullBytes form1 k m)
-  size-two l h = omega (arith, length-full form1 k m, ap length (offsets-two form1 (m .offsets) (omega arith) (omega arith)), length-fieldsBytes 2 (m .offsets))
+  pub size-two : 1 < count → count ≤ 254 → 7 + 2 * count ≡ length (fullBytes newest k m)
+  size-two l h =
+      omega (arith, length-full newest k m, ap length (offsets-two newest (m .offsets) (omega arith) (omega arith)), length-fieldsBytes 2 (m .offsets))
 
-  pub size-three : 254 < count → 9 + 2 * count ≡ length (fullBytes form1 k m)
+  pub size-three : 254 < count → 9 + 2 * count ≡ length (fullBytes newest k m)
   size-three h =
       omega (
         arith,
-        length-full form1 k m,
-        ap length (offsets-three form1 (m .offsets) (omega arith)),
+        length-full newest k m,
+        ap length (offsets-three newest (m .offsets) (omega arith)),
         length-fieldsBytes 2 (m .offsets),
         length-leBytes 2 (length (m .offsets)),
         length-append (leBytes 2 (length (m .offsets))) (fieldsBytes 2 (m .offsets)),
@@ -94,7 +96,7 @@ module _ (count k : ℕ) (m : MatchRecord) (e : count ≡ length (m .offsets)) w
 -- ---- stores into a buffer
 
 module _ (l : List ℕ) (k : ℕ) (s : Summary) (m : MatchRecord) (e : s ≡ summaryOf m) where
-  pub tiny-put : 3 ≤ length l → Wrote l 0 (tinyBytes form1 k m) (set (set (set l 0 k) 1 0) 2 (s .prefix + 2 * s .suffix)) 3
+  pub tiny-put : 3 ≤ length l → Wrote l 0 (tinyBytes newest k m) (set (set (set l 0 k) 1 0) 2 (s .prefix + 2 * s .suffix)) 3
   tiny-put h = record {
     written = rw (at-prefix s m e, at-suffix s m e) (sets-splice (k ∷ 0 ∷ (m .prefix + 2 * m .suffix) ∷ []) l 0 h);
     ends = refl;
@@ -102,7 +104,7 @@ module _ (l : List ℕ) (k : ℕ) (s : Summary) (m : MatchRecord) (e : s ≡ sum
 
   pub head-put : (kind count : ℕ) (after : List ℕ) → kind ≡ kindOf (s .count) → count ≡ min (s .count) 255 → 7 ≤ length l
       → after ≡ splice (set (set (set (set (set l 0 k) 1 kind) 2 (s .prefix)) 3 (s .suffix)) 4 count) 5 (leBytes 2 (s .first))
-      → Wrote l 0 (headBytes form1 k m) after 7
+      → Wrote l 0 (headBytes newest k m) after 7
   unfolding headBytes
   head-put kind count after p q h w =
       let v : List ℕ = k ∷ kindOf (length (m .offsets)) ∷ m .prefix ∷ m .suffix ∷ min (length (m .offsets)) 255 ∷ [] in
@@ -130,6 +132,6 @@ wrote-then l l₁ l₂ at end end₂ v w h p q = record {
   ends = omega (arith, p .ends, q .ends, length-append v w);
 }
 
-pub length-head : (k : ℕ) (m : MatchRecord) → length (headBytes form1 k m) ≡ 7
+pub length-head : (k : ℕ) (m : MatchRecord) → length (headBytes newest k m) ≡ 7
 unfolding headBytes
 length-head k m = omega (arith, length-leBytes 2 (getD (m .offsets) 0 0))

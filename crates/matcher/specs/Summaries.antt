@@ -5,7 +5,8 @@ use mathlib.Core.List.{List}
 use Prim.Native.Nat.{ℕ, _+_, _-_, _≤_, _<_}
 use lib.ListN.{length, getD}
 use Rattle.spec.specs.Bytes.{splice, occursAt, each, keep}
-use Rattle.spec.specs.Records.{MatchRecord, form1, recordOf, fullBytes, recordBytes}
+use Rattle.spec.specs.Form.{newest}
+use Rattle.spec.specs.Records.{MatchRecord, recordOf, fullBytes, recordBytes}
 use Rattle.spec.specs.Scan.{scanBody}
 use Rattle.keywords.specs.declared.Keywords.{Keywords}
 use Rattle.keywords.specs.Parsed.{Reads}
@@ -31,23 +32,23 @@ pub record CanPutFull (buffer : List ℕ) (k : ℕ) (s : Summary) (keyword chunk
   pub prefixed : s .prefix < 256
   pub suffixed : s .suffix < 256
   pub summed : s ≡ summaryOf (recordOf keyword chunk)
-  pub room : length (fullBytes form1 k (recordOf keyword chunk)) ≤ length buffer
+  pub room : length (fullBytes newest k (recordOf keyword chunk)) ≤ length buffer
 
 -- What the writer of any record asks, for a keyword of length n.
 pub record CanPut (buffer : List ℕ) (k n : ℕ) (m : MatchRecord) : Type 0 where
   pub nonempty : 1 ≤ n
   pub short : n ≤ 32
   pub number : k < 256
-  pub room : length (recordBytes form1 n k m) ≤ length buffer
+  pub room : length (recordBytes newest n k m) ≤ length buffer
 
 -- ---- bodies
 
 -- What measuring a body asks: the list is read, and the chunk is not longer than chunks are.
 pub record CanSize (list : List ℕ) (words : Keywords) (chunk : List ℕ) : Type 0 where
   pub reads : Reads list words
-  pub short : length chunk ≤ form1 .longestChunk
+  pub short : length chunk ≤ newest .longestChunk
 
 -- What writing a body asks: the list is read, and the body fits.
 pub record CanPutBody (buffer list : List ℕ) (words : Keywords) (chunk : List ℕ) : Type 0 where
   pub reads : Reads list words
-  pub room : length (scanBody form1 list chunk) ≤ length buffer
+  pub room : length (scanBody newest list chunk) ≤ length buffer

@@ -5,7 +5,8 @@ ghost use Prim.Native.Nat.{ℕ, _+_, _*_, _≤_, _<_, min};
 ghost use lib.ListN.{length, getD};
 ghost use Rattle.spec.specs.Bytes.{fieldsBytes, occursAt, written};
 ghost use Rattle.spec.specs.Keywords.{folded};
-ghost use Rattle.spec.specs.Records.{MatchRecord, reach, prefixOf, suffixOf, recordOf, form1, isEmpty, isTiny, kindOf, tinyBytes, fullBytes, recordBytes, headBytes};
+ghost use Rattle.spec.specs.Form.{newest};
+ghost use Rattle.spec.specs.Records.{MatchRecord, reach, prefixOf, suffixOf, recordOf, isEmpty, isTiny, kindOf, tinyBytes, fullBytes, recordBytes, headBytes};
 ghost use Rattle.matcher.specs.Summaries.{offsetsFrom, summaryOf, Wrote, CanPutFull, CanPut, CanSize, CanPutBody};
 ghost use Rattle.spec.specs.Scan.{scanBody};
 
@@ -171,7 +172,7 @@ const TINY_STEP: usize = 2;
 
 // The record is tiny.
 fn is_tiny(s: Summary) -> bool
-    ensures { λ r. ⌜ ((n : ℕ) (m : MatchRecord) → s ≡ summaryOf m → r ≡ isTiny form1 n m) ⌝ }
+    ensures { λ r. ⌜ ((n : ℕ) (m : MatchRecord) → s ≡ summaryOf m → r ≡ isTiny newest n m) ⌝ }
 {
     if s.count != 0 {
         return false;
@@ -220,8 +221,8 @@ const HEAD: usize = 7;
 
 // The length of a full record with so many offsets.
 fn full_size(count: usize) -> usize
-    requires { ⌜ count ≤ form1 .longestChunk ⌝ }
-    ensures { λ r. ⌜ ((k : ℕ) (m : MatchRecord) → count ≡ length (m .offsets) → r ≡ length (fullBytes form1 k m)) ⌝ }
+    requires { ⌜ count ≤ newest .longestChunk ⌝ }
+    ensures { λ r. ⌜ ((k : ℕ) (m : MatchRecord) → count ≡ length (m .offsets) → r ≡ length (fullBytes newest k m)) ⌝ }
 {
     if count <= 1 {
         return HEAD;
@@ -234,8 +235,9 @@ fn full_size(count: usize) -> usize
 
 // The length of the record as it is written.
 fn record_size(keyword: &[u8], chunk: &[u8], flag: u8) -> usize
-    requires { ⌜ (1 ≤ length (now keyword)) × (length (now chunk) ≤ form1 .longestChunk) ⌝ }
-    ensures { λ r. ⌜ ((k : ℕ) → r ≡ length (recordBytes form1 (length (now (keyword .entry))) k (recordOf (folded flag (now (keyword .entry))) (folded flag (now (chunk .entry)))))) ⌝ }
+    requires { ⌜ (1 ≤ length (now keyword)) × (length (now chunk) ≤ newest .longestChunk) ⌝ }
+    ensures { λ r. ⌜ ((k : ℕ) → r ≡ length (recordBytes newest (length (now (keyword .entry))) k
+        (recordOf (folded flag (now (keyword .entry))) (folded flag (now (chunk .entry)))))) ⌝ }
 {
     let s = summary_of(keyword, chunk, flag);
     if is_empty(s) {
@@ -252,7 +254,7 @@ fn record_size(keyword: &[u8], chunk: &[u8], flag: u8) -> usize
 // Writes a tiny record at the buffer's start.
 fn put_tiny(out: &mut [u8], k: usize, s: Summary) -> usize
     requires { ⌜ (3 ≤ length (now out)) × (k < 256) × (s .prefix ≤ 1) × (s .suffix ≤ 1) ⌝ }
-    ensures { λ r. ⌜ ((m : MatchRecord) → s ≡ summaryOf m → Wrote (now (out .entry)) 0 (tinyBytes form1 k m) (now (out .exit)) r) ⌝ }
+    ensures { λ r. ⌜ ((m : MatchRecord) → s ≡ summaryOf m → Wrote (now (out .entry)) 0 (tinyBytes newest k m) (now (out .exit)) r) ⌝ }
 {
     out[0] = k as u8;
     out[1] = 0;
@@ -263,7 +265,7 @@ fn put_tiny(out: &mut [u8], k: usize, s: Summary) -> usize
 // Writes the head of a full record at the buffer's start.
 fn put_head(out: &mut [u8], k: usize, s: Summary) -> usize
     requires { ⌜ (7 ≤ length (now out)) × (k < 256) × (s .prefix < 256) × (s .suffix < 256) ⌝ }
-    ensures { λ r. ⌜ ((m : MatchRecord) → s ≡ summaryOf m → Wrote (now (out .entry)) 0 (headBytes form1 k m) (now (out .exit)) r) ⌝ }
+    ensures { λ r. ⌜ ((m : MatchRecord) → s ≡ summaryOf m → Wrote (now (out .entry)) 0 (headBytes newest k m) (now (out .exit)) r) ⌝ }
 {
     let kind = kind_of(s.count);
     let count = count_byte(s.count);
@@ -304,7 +306,8 @@ fn put_offsets(
 // Writes a full record at the buffer's start.
 fn put_full(out: &mut [u8], k: usize, s: Summary, keyword: &[u8], chunk: &[u8], flag: u8) -> usize
     requires { ⌜ CanPutFull (now out) k s (folded flag (now keyword)) (folded flag (now chunk)) ⌝ }
-    ensures { λ r. ⌜ Wrote (now (out .entry)) 0 (fullBytes form1 k (recordOf (folded flag (now (keyword .entry))) (folded flag (now (chunk .entry))))) (now (out .exit)) r ⌝ }
+    ensures { λ r. ⌜ Wrote (now (out .entry)) 0 (fullBytes newest k (recordOf (folded flag (now (keyword .entry))) (folded flag (now (chunk .entry)))))
+        (now (out .exit)) r ⌝ }
 {
     let head = put_head(out, k, s);
     let count = s.count;
@@ -322,7 +325,8 @@ fn put_full(out: &mut [u8], k: usize, s: Summary, keyword: &[u8], chunk: &[u8], 
 // Writes the record of keyword k at the buffer's start: nothing where it is empty.
 fn put_record(out: &mut [u8], k: usize, keyword: &[u8], chunk: &[u8], flag: u8) -> usize
     requires { ⌜ CanPut (now out) k (length (now keyword)) (recordOf (folded flag (now keyword)) (folded flag (now chunk))) ⌝ }
-    ensures { λ r. ⌜ Wrote (now (out .entry)) 0 (recordBytes form1 (length (now (keyword .entry))) k (recordOf (folded flag (now (keyword .entry))) (folded flag (now (chunk .entry))))) (now (out .exit)) r ⌝ }
+    ensures { λ r. ⌜ Wrote (now (out .entry)) 0 (recordBytes newest (length (now (keyword .entry))) k
+        (recordOf (folded flag (now (keyword .entry))) (folded flag (now (chunk .entry))))) (now (out .exit)) r ⌝ }
 {
     let s = summary_of(keyword, chunk, flag);
     if is_empty(s) {
@@ -339,7 +343,7 @@ fn put_record(out: &mut [u8], k: usize, keyword: &[u8], chunk: &[u8], flag: u8) 
 // The length of the chunk's body.
 pub fn body_size(list: &[u8], words: keywords::Keywords, chunk: &[u8]) -> usize
     requires { ⌜ CanSize (now list) words (now chunk) ⌝ }
-    ensures { λ r. ⌜ r ≡ length (scanBody form1 (now (list .entry)) (now (chunk .entry))) ⌝ }
+    ensures { λ r. ⌜ r ≡ length (scanBody newest (now (list .entry)) (now (chunk .entry))) ⌝ }
 {
     let start = words.start;
     let len = words.len;
@@ -359,7 +363,8 @@ pub fn body_size(list: &[u8], words: keywords::Keywords, chunk: &[u8]) -> usize
 // Writes the chunk's body at the buffer's start.
 pub fn put_body(out: &mut [u8], list: &[u8], words: keywords::Keywords, chunk: &[u8]) -> usize
     requires { ⌜ CanPutBody (now out) (now list) words (now chunk) ⌝ }
-    ensures { λ r. ⌜ (now (out .exit) ≡ written (now (out .entry)) (scanBody form1 (now (list .entry)) (now (chunk .entry)))) × (r ≡ length (scanBody form1 (now (list .entry)) (now (chunk .entry)))) ⌝ }
+    ensures { λ r. ⌜ (now (out .exit) ≡ written (now (out .entry)) (scanBody newest (now (list .entry)) (now (chunk .entry))))
+        × (r ≡ length (scanBody newest (now (list .entry)) (now (chunk .entry)))) ⌝ }
 {
     let start = words.start;
     let len = words.len;

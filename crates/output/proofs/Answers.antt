@@ -12,13 +12,14 @@ use Rattle.spec.specs.declared.Searched.{Searched}
 use Rattle.spec.specs.declared.Searched.the-variants.{ScanRefused, JoinRefused, Found}
 use Rattle.spec.specs.Bytes.{splice}
 use Rattle.spec.specs.Outcome.{firstOf, whole, unlessRefused}
-use Rattle.spec.specs.Records.{form1}
+use Rattle.spec.specs.Form.{newest}
 use Rattle.spec.specs.Join.{Occurrence, listBytes, readList}
 use Rattle.spec.specs.Scan.{scanIndex, scanCode}
 use Rattle.spec.specs.Search.{directSearch, searchJoinCode, searchCode, searchOutcome, searchBuffer, searchedCode, searchedCount}
 use Rattle.spec.proofs.Codes.{passed-whole}
 use Rattle.spec.proofs.ListBytes.{length-list}
-use Rattle.spec.proofs.ScanLaws.{form1-scans, scan-reads}
+use Rattle.spec.proofs.Forms.{newest-read}
+use Rattle.spec.proofs.ScanLaws.{newest-scans, scan-reads}
 use Rattle.theory.specs.Demand3.{NoScanRefusal, NoJoinRefusal}
 use Rattle.theory.specs.SearchList.{isIn}
 use Rattle.theory.proofs.Demand3.{scan-done, search-done}
@@ -56,25 +57,25 @@ count-told s j size count a b = rw (a, b) refl
 
 module _ (store words recipes : List ℕ) where
   abbrev code : ℕ
-  code = searchCode form1 words store recipes programRoom programRoom
+  code = searchCode newest words store recipes programRoom programRoom
 
   abbrev answered : Searched
-  answered = searchOutcome form1 words store recipes programRoom programRoom
+  answered = searchOutcome newest words store recipes programRoom programRoom
 
   abbrev found : List Occurrence
   found = directSearch words store recipes
 
   -- the two buffers have 65,536 bytes each
   pub answered-as : (index list : List ℕ) (o r : Searched) → programRoom ≡ length index → programRoom ≡ length list → r ≡ o
-      → r ≡ searchOutcome form1 words store recipes (length index) (length list) → o ≡ answered
-  answered-as index list o r a b k e = sym k ∙ e ∙ ap₂ (searchOutcome form1 words store recipes) (sym a) (sym b)
+      → r ≡ searchOutcome newest words store recipes (length index) (length list) → o ≡ answered
+  answered-as index list o r a b k e = sym k ∙ e ∙ ap₂ (searchOutcome newest words store recipes) (sym a) (sym b)
 
   found-is : (o : Searched) → o ≡ answered → isFound o ≡ eqb code 0
   unfolding searchOutcome searchCode
   found-is o e =
       ap isFound e
-      ∙ found-told (scanCode form1 words store programRoom) (searchJoinCode form1 words store recipes programRoom)
-      (length (scanIndex form1 words store)) (length found)
+      ∙ found-told (scanCode newest words store programRoom) (searchJoinCode newest words store recipes programRoom)
+      (length (scanIndex newest words store)) (length found)
 
   -- ---- a refusal
 
@@ -82,8 +83,8 @@ module _ (store words recipes : List ℕ) where
   unfolding searchOutcome searchCode
   code-is o e =
       ap searchedCode e
-      ∙ code-told (scanCode form1 words store programRoom) (searchJoinCode form1 words store recipes programRoom)
-      (length (scanIndex form1 words store)) (length found)
+      ∙ code-told (scanCode newest words store programRoom) (searchJoinCode newest words store recipes programRoom)
+      (length (scanIndex newest words store)) (length found)
 
   pub refused-text : (o : Searched) → o ≡ answered → isFound o ≡ false → searchText store words recipes ≡ refusedText (searchedCode o)
   unfolding searchText
@@ -92,11 +93,11 @@ module _ (store words recipes : List ℕ) where
   -- ---- a list
 
   module _ (z : code ≡ 0) where
-    parts : (scanCode form1 words store programRoom ≡ 0) × (searchJoinCode form1 words store recipes programRoom ≡ 0)
+    parts : (scanCode newest words store programRoom ≡ 0) × (searchJoinCode newest words store recipes programRoom ≡ 0)
     unfolding searchCode
     parts =
-        let a = passed-whole (scanCode form1 words store programRoom) _ z in
-        (a .0, passed-whole (searchJoinCode form1 words store recipes programRoom) _ (a .1) .0)
+        let a = passed-whole (scanCode newest words store programRoom) _ z in
+        (a .0, passed-whole (searchJoinCode newest words store recipes programRoom) _ (a .1) .0)
 
     joins : NoJoinRefusal words store recipes programRoom
     joins = search-done words store recipes programRoom .0 (parts .1)
@@ -104,8 +105,8 @@ module _ (store words recipes : List ℕ) where
     pub fits : (o : Occurrence) → isIn o found ≡ true → Fits o
     fits =
         let n : NoScanRefusal words store programRoom = scan-done words store programRoom .0 (parts .0) in
-        occurrence-fits form1 refl words store (scanIndex form1 words store) recipes (n .0)
-        (scan-reads form1 form1-scans words store (n .0) (n .1) (n .3)) (joins .0) (joins .1)
+        occurrence-fits newest (newest-read .sets) words store (scanIndex newest words store) recipes (n .0)
+        (scan-reads newest newest-scans words store (n .0) (n .1) (n .3)) (joins .0) (joins .1)
 
     pub few : 9 * length found ≤ programRoom
     few = joins .2
@@ -114,20 +115,20 @@ module _ (store words recipes : List ℕ) where
     unfolding searchOutcome
     count-is o e =
         ap searchedCount e
-        ∙ count-told (scanCode form1 words store programRoom) (searchJoinCode form1 words store recipes programRoom)
-        (length (scanIndex form1 words store)) (length found)
+        ∙ count-told (scanCode newest words store programRoom) (searchJoinCode newest words store recipes programRoom)
+        (length (scanIndex newest words store)) (length found)
         (parts .0) (parts .1)
 
     -- the list buffer begins with the list
     buffer-is : (list : List ℕ) → programRoom ≡ length list
-        → searchBuffer form1 words store recipes programRoom list ≡ listBytes found ++ drop (0 + length (listBytes found)) list
+        → searchBuffer newest words store recipes programRoom list ≡ listBytes found ++ drop (0 + length (listBytes found)) list
     unfolding searchBuffer unlessRefused splice
     buffer-is list q =
-        let e : searchCode form1 words store recipes programRoom (length list) ≡ 0 = ap (searchCode form1 words store recipes programRoom) (sym q) ∙ z in
+        let e : searchCode newest words store recipes programRoom (length list) ≡ 0 = ap (searchCode newest words store recipes programRoom) (sym q) ∙ z in
         rw e refl
 
   module _ (list list′ : List ℕ) (o : Searched) (e : o ≡ answered) (f : isFound o ≡ true) (q : programRoom ≡ length list)
-      (b : list′ ≡ searchBuffer form1 words store recipes programRoom list) where
+      (b : list′ ≡ searchBuffer newest words store recipes programRoom list) where
     passed : code ≡ 0
     passed = eqb-true code 0 (sym (found-is o e) ∙ f)
 

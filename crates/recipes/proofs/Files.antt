@@ -3,11 +3,11 @@ use mathlib.Core.Path.{_≡_, refl, sym, ap, _∙_}
 use mathlib.Core.Bool.{Bool, true, false, cond, _&&_, not, and-false}
 use mathlib.Core.List.{List, [], _∷_}
 use Prim.Native.Nat.{ℕ, suc, _+_, _-_, _*_, _/_, _≤_, _<_}
-use native.Mathlib.Nat.{sub-zero}
+use native.Mathlib.Nat.{sub-zero, add-sub-cancel-left}
 use native.Mathlib.Omega.{arith}
 use borrow.Author.Tests.{le-leb, lt-leb, leb-true, ltb-false, not-false, lt-ltb, le-ltb}
 use lib.Dec.{leb}
-use lib.ListN.{length, drop, getD, length-drop, drop-of-length-le}
+use lib.ListN.{length, take, drop, getD, length-drop, drop-of-length-le}
 use lib.Seq.{drop-drop}
 use Rattle.spec.specs.Bytes.{part, fieldAt}
 use Rattle.spec.specs.Directory.{keysOf}
@@ -46,6 +46,11 @@ file-at recipes left at n e w =
       rest = and-right (four && long) behind t;
       files = files-step recipes left at n e;
     }
+
+-- a file's slice, as `file_at` cuts it
+pub slice-is : (recipes : List ℕ) (at n : ℕ) → n ≡ fieldAt recipes at 4
+    → take (at + 4 + 20 * n - (at + 4)) (drop (at + 4) recipes) ≡ part recipes (at + 4) (20 * fieldAt recipes at 4)
+slice-is recipes at n e = ap (λ (m : ℕ). take m (drop (at + 4) recipes)) (add-sub-cancel-left (at + 4) (20 * n) ∙ ap (λ (m : ℕ). 20 * m) e)
 
 -- ---- the check's turn: the files from k on, at their place
 

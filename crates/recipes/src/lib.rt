@@ -1,8 +1,8 @@
 // Recipes: their check (document 01, refusal 14), and the files one after the other.
 ghost use mathlib.Core.Path.{_≡_};
-ghost use Prim.Native.Nat.{_+_, _≤_};
+ghost use Prim.Native.Nat.{_+_, _*_, _≤_};
 ghost use lib.ListN.{length, drop};
-ghost use Rattle.spec.specs.Bytes.{fieldAt};
+ghost use Rattle.spec.specs.Bytes.{part, fieldAt};
 ghost use Rattle.spec.specs.Recipes.{filesWhole, recipesCode};
 
 // The chunk count of the file at `at`; at 0, the file count.
@@ -11,6 +11,16 @@ pub fn count_at(recipes: &[u8], at: usize) -> usize
     ensures { λ r. ⌜ r ≡ fieldAt (now (recipes .entry)) at 4 ⌝ }
 {
     field::read(recipes, at, 4) as usize
+}
+
+// The fingerprints of the file at `at`, a slice of the recipes.
+pub fn file_at(recipes: &[u8], at: usize) -> &[u8]
+    requires { ⌜ at + 4 + 20 * fieldAt (now recipes) at 4 ≤ length (now recipes) ⌝ }
+    ensures { λ r. ⌜ now r ≡ part (now (recipes .entry)) (at + 4) (20 * fieldAt (now (recipes .entry)) at 4) ⌝ }
+{
+    let n = count_at(recipes, at);
+    let from = at + 4;
+    &recipes[from..from + 20 * n]
 }
 
 // `count` files are there from the fourth byte on, whole, and nothing else.

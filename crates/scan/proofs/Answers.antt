@@ -13,7 +13,7 @@ use Rattle.spec.specs.declared.Outcome.the-variants.{Done, Refused}
 use Rattle.spec.specs.Bytes.{leBytes, splice}
 use Rattle.spec.specs.Outcome.{answer}
 use Rattle.spec.specs.Store.{chunkCount}
-use Rattle.spec.specs.Records.{form1}
+use Rattle.spec.specs.Form.{newest}
 use Rattle.spec.specs.Recipes.{largest32}
 use Rattle.spec.specs.Scan.{scanIndex, scannableCode, scanCode, scanOutcome, scanBuffer, sizeOutcome}
 use Rattle.spec.proofs.Codes.{refused-whole, next-whole, refused, next-test, answer-done, answer-refused, buffer-done, buffer-refused}
@@ -25,40 +25,40 @@ use Rattle.scan.proofs.Parts.{index-parts}
 module _ (list store : List ℕ) where
   -- the index's length
   abbrev pub long : ℕ
-  long = length (scanIndex form1 list store)
+  long = length (scanIndex newest list store)
 
   module _ (code : ℕ) (e : code ≡ scannableCode list store) where
-    pub size-refused : code ≢ 0 → Refused code ≡ sizeOutcome form1 list store
+    pub size-refused : code ≢ 0 → Refused code ≡ sizeOutcome newest list store
     unfolding sizeOutcome
     size-refused h = ap Refused e ∙ answer-refused (scannableCode list store) long (λ z. h (e ∙ z))
 
-    pub size-done : (len : ℕ) → code ≡ 0 → len ≡ long → Done len ≡ sizeOutcome form1 list store
+    pub size-done : (len : ℕ) → code ≡ 0 → len ≡ long → Done len ≡ sizeOutcome newest list store
     unfolding sizeOutcome
     size-done len z n = ap Done n ∙ answer-done (scannableCode list store) long (sym e ∙ z)
 
     module _ (before : List ℕ) where
       -- what a scan promises: its answer, and every byte of its buffer
       abbrev Scans : List ℕ → Outcome → Type 0
-      Scans after r = (r ≡ scanOutcome form1 list store (length before)) × (after ≡ scanBuffer form1 list store before)
+      Scans after r = (r ≡ scanOutcome newest list store (length before)) × (after ≡ scanBuffer newest list store before)
 
       -- the whole refusal, by the way taken
-      code-first : code ≢ 0 → code ≡ scanCode form1 list store (length before)
+      code-first : code ≢ 0 → code ≡ scanCode newest list store (length before)
       unfolding scanCode
       code-first h = e ∙ refused-whole (scannableCode list store) _ (λ z. h (e ∙ z))
 
-      code-nine : code ≡ 0 → (ltb (length before) long || ltb largest32 long) ≡ true → 9 ≡ scanCode form1 list store (length before)
+      code-nine : code ≡ 0 → (ltb (length before) long || ltb largest32 long) ≡ true → 9 ≡ scanCode newest list store (length before)
       unfolding scanCode
       code-nine z t = refused _ 9 0 t ∙ sym (next-whole (scannableCode list store) _ (sym e ∙ z))
 
-      code-none : code ≡ 0 → (ltb (length before) long || ltb largest32 long) ≡ false → scanCode form1 list store (length before) ≡ 0
+      code-none : code ≡ 0 → (ltb (length before) long || ltb largest32 long) ≡ false → scanCode newest list store (length before) ≡ 0
       unfolding scanCode
       code-none z t = next-whole (scannableCode list store) _ (sym e ∙ z) ∙ next-test _ 9 0 t
 
-      refusal : (n : ℕ) → n ≡ scanCode form1 list store (length before) → n ≢ 0 → Scans before (Refused n)
+      refusal : (n : ℕ) → n ≡ scanCode newest list store (length before) → n ≢ 0 → Scans before (Refused n)
       unfolding scanOutcome scanBuffer
       refusal n p h = (
-        ap Refused p ∙ answer-refused (scanCode form1 list store (length before)) long (λ z. h (p ∙ z)),
-        buffer-refused (scanCode form1 list store (length before)) (splice before 0 (scanIndex form1 list store)) before (λ z. h (p ∙ z)),
+        ap Refused p ∙ answer-refused (scanCode newest list store (length before)) long (λ z. h (p ∙ z)),
+        buffer-refused (scanCode newest list store (length before)) (splice before 0 (scanIndex newest list store)) before (λ z. h (p ∙ z)),
       )
 
       pub scan-refused : code ≢ 0 → Scans before (Refused code)
@@ -71,25 +71,25 @@ module _ (list store : List ℕ) where
       scan-large len z n h = refusal 9 (code-nine z (rw (lt-ltb largest32 long (omega arith), or-true))) (omega arith)
 
       pub scan-done : (len : ℕ) (after : List ℕ) → code ≡ 0 → len ≡ long → len ≤ length before → len ≤ 4294967295
-          → after ≡ splice before 0 (scanIndex form1 list store)
+          → after ≡ splice before 0 (scanIndex newest list store)
           → Scans after (Done len)
       unfolding scanOutcome scanBuffer
       scan-done len after z n h l w =
           let room = le-ltb (length before) long (omega arith) in
           let small = le-ltb largest32 long (omega arith) in
-          let c : scanCode form1 list store (length before) ≡ 0 = code-none z (rw (room, small)) in (
-            ap Done n ∙ answer-done (scanCode form1 list store (length before)) long c,
-            w ∙ buffer-done (scanCode form1 list store (length before)) (splice before 0 (scanIndex form1 list store)) before c,
+          let c : scanCode newest list store (length before) ≡ 0 = code-none z (rw (room, small)) in (
+            ap Done n ∙ answer-done (scanCode newest list store (length before)) long c,
+            w ∙ buffer-done (scanCode newest list store (length before)) (splice before 0 (scanIndex newest list store)) before c,
           )
 
   -- mark, chunk count, keyword list, and the rest, each where the one before ends
   pub index-put : (l l₁ l₂ l₃ l₄ : List ℕ) (count : ℕ) → count ≡ chunkCount store
-      → l₁ ≡ splice l 0 (form1 .mark) → l₂ ≡ splice l₁ 4 (leBytes 4 count) → l₃ ≡ splice l₂ 8 list
-      → l₄ ≡ splice l₃ (8 + length list) (tailBytes form1 list store) → l₄ ≡ splice l 0 (scanIndex form1 list store)
+      → l₁ ≡ splice l 0 (newest .mark) → l₂ ≡ splice l₁ 4 (leBytes 4 count) → l₃ ≡ splice l₂ 8 list
+      → l₄ ≡ splice l₃ (8 + length list) (tailBytes newest list store) → l₄ ≡ splice l 0 (scanIndex newest list store)
   index-put l l₁ l₂ l₃ l₄ count c p q r s =
-      let two = splice-then l 0 (form1 .mark) (leBytes 4 count) (omega arith) p refl q in
-      let m : 8 ≡ 0 + length (form1 .mark ++ leBytes 4 count) = omega (arith, length-append (form1 .mark) (leBytes 4 count), length-leBytes 4 count) in
-      let three = splice-then l 0 (form1 .mark ++ leBytes 4 count) list (omega arith) two m r in
-      let n : 8 + length list ≡ 0 + length (form1 .mark ++ leBytes 4 count ++ list) = omega (arith, m, length-append (form1 .mark ++ leBytes 4 count) list) in
-      splice-then l 0 (form1 .mark ++ leBytes 4 count ++ list) (tailBytes form1 list store) (omega arith) three n s
-      ∙ rw c (ap (splice l 0) (sym (index-parts form1 list store)))
+      let two = splice-then l 0 (newest .mark) (leBytes 4 count) (omega arith) p refl q in
+      let m : 8 ≡ 0 + length (newest .mark ++ leBytes 4 count) = omega (arith, length-append (newest .mark) (leBytes 4 count), length-leBytes 4 count) in
+      let three = splice-then l 0 (newest .mark ++ leBytes 4 count) list (omega arith) two m r in
+      let n : 8 + length list ≡ 0 + length (newest .mark ++ leBytes 4 count ++ list) = omega (arith, m, length-append (newest .mark ++ leBytes 4 count) list) in
+      splice-then l 0 (newest .mark ++ leBytes 4 count ++ list) (tailBytes newest list store) (omega arith) three n s
+      ∙ rw c (ap (splice l 0) (sym (index-parts newest list store)))

@@ -11,7 +11,7 @@ use Rattle.spec.specs.Directory.{sizeAt}
 use Rattle.spec.specs.Store.{storeLayout, storeKeys, chunkCount, chunkAt, storeCode}
 use Rattle.spec.specs.Outcome.{firstOf, whole}
 use Rattle.spec.specs.Keywords.{keywordCode, keywordFrontCode}
-use Rattle.spec.specs.Records.{Form, form1}
+use Rattle.spec.specs.Form.{Form, newest}
 use Rattle.spec.specs.Index.{Entry, directoryBytes, indexBytes, entryBytes}
 use Rattle.spec.specs.Scan.{scanBody, scanEntry, scanIndex, scannableCode}
 use Rattle.spec.proofs.Codes.{refused-whole, next-whole, last-whole, passed-whole}
@@ -87,15 +87,15 @@ module _ (f : Form) (list store : List ℕ) where
   index-parts = rw (sub-zero, length-tabulated (scanEntry f list store) 0 (chunkCount store)) (simp append-assoc)
 
 module _ (list store : List ℕ) (good : storeCode store ≡ 0) where
-  pub tail-length : length (tailBytes form1 list store) ≡ 32 * chunkCount store + length (bodiesFrom form1 list store 0)
+  pub tail-length : length (tailBytes newest list store) ≡ 32 * chunkCount store + length (bodiesFrom newest list store 0)
   unfolding tailBytes
   tail-length =
       let at = 8 + length list + 32 * chunkCount store in
-      omega (arith, length-append (directoryFrom form1 list store at 0) (bodiesFrom form1 list store 0), directory-length form1 list store good at 0)
+      omega (arith, length-append (directoryFrom newest list store at 0) (bodiesFrom newest list store 0), directory-length newest list store good at 0)
 
-  pub index-length : length (scanIndex form1 list store) ≡ 8 + length list + 32 * chunkCount store + length (bodiesFrom form1 list store 0)
+  pub index-length : length (scanIndex newest list store) ≡ 8 + length list + 32 * chunkCount store + length (bodiesFrom newest list store 0)
   index-length =
-      ap length (index-parts form1 list store)
+      ap length (index-parts newest list store)
       ∙ rw (length-append, length-append, length-append, length-leBytes, tail-length) (omega arith)
 
   -- each body is short
@@ -103,13 +103,13 @@ module _ (list store : List ℕ) (good : storeCode store ≡ 0) where
     pub body-short : (k : ℕ) → k < chunkCount store → length (chunkAt store k) ≤ 65535
     body-short k l = omega (arith, chunk-length store (store-good store good) k l, store-size-most store (store-good store good) k l)
 
-    bodies-short : (n k : ℕ) → n + k ≡ chunkCount store → length (bodiesFrom form1 list store k) ≤ 2097264 * n
-    bodies-short zero k e = omega (arith, ap length (bodies-end form1 list store k (omega arith)))
+    bodies-short : (n k : ℕ) → n + k ≡ chunkCount store → length (bodiesFrom newest list store k) ≤ 2097264 * n
+    bodies-short zero k e = omega (arith, ap length (bodies-end newest list store k (omega arith)))
     bodies-short (suc n) k e =
         let one = body-most list (chunkAt store k) accept (body-short k (omega arith)) in
-        omega (arith, bodies-length form1 list store k (omega arith), one, bodies-short n (k + 1) (omega arith))
+        omega (arith, bodies-length newest list store k (omega arith), one, bodies-short n (k + 1) (omega arith))
 
-    pub bodies-most : length (bodiesFrom form1 list store 0) ≤ 2097264 * chunkCount store
+    pub bodies-most : length (bodiesFrom newest list store 0) ≤ 2097264 * chunkCount store
     bodies-most = bodies-short (chunkCount store) 0 (omega arith)
 
 -- ---- the refusals before 9

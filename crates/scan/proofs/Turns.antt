@@ -7,7 +7,7 @@ use lib.ListN.{length, getD, length-append}
 use borrow.Rule.Slice.PartMut.{midOf, putMid}
 use Rattle.spec.specs.Bytes.{leBytes, splice, written}
 use Rattle.spec.specs.Store.{storeKeys, chunkCount, chunkAt, storeCode}
-use Rattle.spec.specs.Records.{form1}
+use Rattle.spec.specs.Form.{newest}
 use Rattle.spec.specs.Index.{entryBytes}
 use Rattle.spec.specs.Scan.{scanBody}
 use Rattle.spec.proofs.Fields.{length-leBytes}
@@ -37,10 +37,10 @@ module _ (list store : List ℕ) where
 
   -- what is left of the directory and of the bodies
   abbrev pub directoryLeft : ℕ → ℕ → List ℕ
-  directoryLeft at k = directoryFrom form1 list store at k
+  directoryLeft at k = directoryFrom newest list store at k
 
   abbrev pub bodiesLeft : ℕ → List ℕ
-  bodiesLeft k = bodiesFrom form1 list store k
+  bodiesLeft k = bodiesFrom newest list store k
 
 module _ (list store : List ℕ) (good : storeCode store ≡ 0) where
   abbrev place : ℕ → ℕ
@@ -53,11 +53,11 @@ module _ (list store : List ℕ) (good : storeCode store ≡ 0) where
   br k = bodiesLeft list store k
 
   pub regions-start : (out : List ℕ) (count : ℕ) → count ≡ chunkCount store → 8 + length list ≤ length out
-      → splice (splice out (place 0) (dr (place count) 0)) (place count) (br 0) ≡ splice out (8 + length list) (tailBytes form1 list store)
+      → splice (splice out (place 0) (dr (place count) 0)) (place count) (br 0) ≡ splice out (8 + length list) (tailBytes newest list store)
   unfolding tailBytes
   regions-start out count c h =
       let z : place 0 ≡ 8 + length list = omega arith in
-      let n : place count ≡ 8 + length list + length (dr (place count) 0) = omega (arith, directory-length form1 list store good (place count) 0) in
+      let n : place count ≡ 8 + length list + length (dr (place count) 0) = omega (arith, directory-length newest list store good (place count) 0) in
       let e = splice-splice out (8 + length list) (dr (place count) 0) (br 0) h in
       ap (λ (d : ℕ). splice (splice out d (dr (place count) 0)) (place count) (br 0)) z
       ∙ ap (λ (d : ℕ). splice (splice out (8 + length list) (dr (place count) 0)) d (br 0)) n
@@ -66,32 +66,32 @@ module _ (list store : List ℕ) (good : storeCode store ≡ 0) where
 
   pub regions-end : (out whole : List ℕ) (at k : ℕ) → chunkCount store ≤ k → splice (splice out (place k) (dr at k)) at (br k) ≡ whole → out ≡ whole
   regions-end out whole at k h e =
-      let x : splice (splice out (place k) []) at [] ≡ whole = (rw (directory-end form1 list store at k h, bodies-end form1 list store k h) at e) in
+      let x : splice (splice out (place k) []) at [] ≡ whole = (rw (directory-end newest list store at k h, bodies-end newest list store k h) at e) in
       sym (splice-nil (splice out (place k) []) at ∙ splice-nil out (place k)) ∙ x
 
   -- the body and the entry as the code names them
   module _ (k at : ℕ) (l : k < chunkCount store) (key chunk : List ℕ) (len : ℕ) (isChunk : chunk ≡ chunkAt store k)
       (isKey : key ≡ getD (storeKeys store) k []) where
-    body-is : scanBody form1 list chunk ≡ body form1 list store k
-    body-is = ap (scanBody form1 list) isChunk
+    body-is : scanBody newest list chunk ≡ body newest list store k
+    body-is = ap (scanBody newest list) isChunk
 
-    entry-is : len ≡ length (body form1 list store k) → entryBytes key (length chunk) at len ≡ entry form1 list store at k
+    entry-is : len ≡ length (body newest list store k) → entryBytes key (length chunk) at len ≡ entry newest list store at k
     entry-is n = rw (isKey, isChunk, n, chunk-length store (store-good store good) k l)
 
-    pub regions-turn : (out last out₂ whole : List ℕ) → place (chunkCount store) ≤ at → at + length (body form1 list store k) ≤ length out
-        → last ≡ written (midOf at (length out - at) out) (scanBody form1 list chunk) → len ≡ length (scanBody form1 list chunk)
+    pub regions-turn : (out last out₂ whole : List ℕ) → place (chunkCount store) ≤ at → at + length (body newest list store k) ≤ length out
+        → last ≡ written (midOf at (length out - at) out) (scanBody newest list chunk) → len ≡ length (scanBody newest list chunk)
         → out₂ ≡ splice (putMid at (length out - at) out last) (place k) (entryBytes key (length chunk) at len)
         → splice (splice out (place k) (dr at k)) at (br k) ≡ whole
         → splice (splice out₂ (place (k + 1)) (dr (at + len) (k + 1))) (at + len) (br (k + 1)) ≡ whole
     regions-turn out last out₂ whole h room w m p e =
-        let b = body form1 list store k in
+        let b = body newest list store k in
         let n : len ≡ length b = m ∙ ap length body-is in
-        let ds = directory-step form1 list store at k l in
-        let d : place (k + 1) ≡ place k + length (entry form1 list store at k) = omega (arith, entry-length form1 list store good at k l) in
-        let fits : place k + length (entry form1 list store at k ++ dr (at + length b) (k + 1)) ≤ at =
-        omega (arith, ap length ds, directory-length form1 list store good at k) in
-        let t = two-regions out last out₂ whole (place k) at (entry form1 list store at k) (dr (at + length b) (k + 1)) b (br (k + 1)) fits room
+        let ds = directory-step newest list store at k l in
+        let d : place (k + 1) ≡ place k + length (entry newest list store at k) = omega (arith, entry-length newest list store good at k l) in
+        let fits : place k + length (entry newest list store at k ++ dr (at + length b) (k + 1)) ≤ at =
+        omega (arith, ap length ds, directory-length newest list store good at k) in
+        let t = two-regions out last out₂ whole (place k) at (entry newest list store at k) (dr (at + length b) (k + 1)) b (br (k + 1)) fits room
         (w ∙ ap (splice (midOf at (length out - at) out) 0) body-is)
         (p ∙ ap (splice (putMid at (length out - at) out last) (place k)) (entry-is n))
-        (rw (ds, bodies-step form1 list store k l) at e) in
+        (rw (ds, bodies-step newest list store k l) at e) in
         rw (d, n) t

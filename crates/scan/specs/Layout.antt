@@ -5,7 +5,7 @@ use Prim.Native.Nat.{ℕ, _+_, _*_, _-_, _≤_}
 use lib.ListN.{length}
 use Rattle.spec.specs.Bytes.{each, joined}
 use Rattle.spec.specs.Store.{chunkCount, storeCode}
-use Rattle.spec.specs.Records.{Form, form1}
+use Rattle.spec.specs.Form.{Form, newest}
 use Rattle.spec.specs.Index.{Entry, directoryBytes}
 use Rattle.spec.specs.Scan.{scanEntry, scanIndex, scannableCode}
 use Rattle.keywords.specs.declared.Keywords.{Keywords}
@@ -37,8 +37,8 @@ pub record CanPutEntry (buffer : List ℕ) (at : ℕ) (key : List ℕ) : Type 0 
 
 pub record CanPutEntries (buffer list : List ℕ) (words : Keywords) (store : List ℕ) (count : ℕ) : Type 0 where
   pub walks : Walks list words store count
-  pub room : 8 + length list + 32 * count + length (bodiesFrom form1 list store 0) ≤ length buffer
+  pub room : 8 + length list + 32 * count + length (bodiesFrom newest list store 0) ≤ length buffer
 
 pub record CanPutIndex (buffer list store : List ℕ) : Type 0 where
   pub passed : scannableCode list store ≡ 0
-  pub room : length (scanIndex form1 list store) ≤ length buffer
+  pub room : length (scanIndex newest list store) ≤ length buffer

@@ -4,7 +4,7 @@ ghost use mathlib.Core.Path.{_≡_};
 ghost use Prim.Native.Nat.{_+_};
 ghost use lib.ListN.{length};
 ghost use Rattle.spec.specs.Bytes.{splice};
-ghost use Rattle.spec.specs.Records.{form1};
+ghost use Rattle.spec.specs.Form.{newest};
 ghost use Rattle.spec.specs.Index.{entryBytes};
 ghost use Rattle.spec.specs.Scan.{scanIndex, scannableCode, sizeOutcome, scanOutcome, scanBuffer};
 ghost use Rattle.scan.specs.Layout.{bodiesFrom, tailBytes, Walks, CanPutEntry, CanPutEntries, CanPutIndex};
@@ -28,7 +28,7 @@ fn scannable(list: &[u8], store: &[u8]) -> u8
 // The length of all bodies.
 fn bodies_size(list: &[u8], words: keywords::Keywords, store: &[u8], count: usize) -> usize
     requires { ⌜ Walks (now list) words (now store) count ⌝ }
-    ensures { λ r. ⌜ r ≡ length (bodiesFrom form1 (now (list .entry)) (now (store .entry)) 0) ⌝ }
+    ensures { λ r. ⌜ r ≡ length (bodiesFrom newest (now (list .entry)) (now (store .entry)) 0) ⌝ }
 {
     let mut size: usize = 0;
     let mut j: usize = 0;
@@ -43,7 +43,7 @@ fn bodies_size(list: &[u8], words: keywords::Keywords, store: &[u8], count: usiz
 // The length of the index.
 fn index_size(list: &[u8], store: &[u8]) -> usize
     requires { ⌜ scannableCode (now list) (now store) ≡ 0 ⌝ }
-    ensures { λ r. ⌜ r ≡ length (scanIndex form1 (now (list .entry)) (now (store .entry))) ⌝ }
+    ensures { λ r. ⌜ r ≡ length (scanIndex newest (now (list .entry)) (now (store .entry))) ⌝ }
 {
     let words = keywords::parse(list);
     let count = store::chunk_count(store);
@@ -53,7 +53,7 @@ fn index_size(list: &[u8], store: &[u8]) -> usize
 
 // The length of the index that a scan would write, whatever the buffer, or the refusal.
 pub fn size(list: &[u8], store: &[u8]) -> spec::Outcome
-    ensures { λ r. ⌜ r ≡ sizeOutcome form1 (now (list .entry)) (now (store .entry)) ⌝ }
+    ensures { λ r. ⌜ r ≡ sizeOutcome newest (now (list .entry)) (now (store .entry)) ⌝ }
 {
     let code = scannable(list, store);
     if code != 0 {
@@ -78,7 +78,8 @@ fn put_entry(out: &mut [u8], at: usize, key: &[u8], size: usize, offset: usize, 
 // Writes the directory and the bodies behind the keyword list: each body in its own part of the buffer, then its entry.
 fn put_entries(out: &mut [u8], list: &[u8], words: keywords::Keywords, store: &[u8], count: usize)
     requires { ⌜ CanPutEntries (now out) (now list) words (now store) count ⌝ }
-    ensures { λ _. ⌜ now (out .exit) ≡ splice (now (out .entry)) (8 + length (now (list .entry))) (tailBytes form1 (now (list .entry)) (now (store .entry))) ⌝ }
+    ensures { λ _. ⌜ now (out .exit) ≡ splice (now (out .entry)) (8 + length (now (list .entry)))
+        (tailBytes newest (now (list .entry)) (now (store .entry))) ⌝ }
 {
     let start = 8 + list.len();
     let mut at = start + 32 * count;
@@ -96,7 +97,7 @@ fn put_entries(out: &mut [u8], list: &[u8], words: keywords::Keywords, store: &[
 // Writes the index at the buffer's start.
 fn put_index(out: &mut [u8], list: &[u8], store: &[u8])
     requires { ⌜ CanPutIndex (now out) (now list) (now store) ⌝ }
-    ensures { λ _. ⌜ now (out .exit) ≡ splice (now (out .entry)) 0 (scanIndex form1 (now (list .entry)) (now (store .entry))) ⌝ }
+    ensures { λ _. ⌜ now (out .exit) ≡ splice (now (out .entry)) 0 (scanIndex newest (now (list .entry)) (now (store .entry))) ⌝ }
 {
     let words = keywords::parse(list);
     let count = store::chunk_count(store);
@@ -108,8 +109,8 @@ fn put_index(out: &mut [u8], list: &[u8], store: &[u8])
 
 // The scan: the index's length, or the refusal, which changes no byte of the buffer.
 pub fn scan(list: &[u8], store: &[u8], out: &mut [u8]) -> spec::Outcome
-    ensures { λ r. ⌜ (r ≡ scanOutcome form1 (now (list .entry)) (now (store .entry)) (length (now (out .entry))))
-        × (now (out .exit) ≡ scanBuffer form1 (now (list .entry)) (now (store .entry)) (now (out .entry))) ⌝ }
+    ensures { λ r. ⌜ (r ≡ scanOutcome newest (now (list .entry)) (now (store .entry)) (length (now (out .entry))))
+        × (now (out .exit) ≡ scanBuffer newest (now (list .entry)) (now (store .entry)) (now (out .entry))) ⌝ }
 {
     let code = scannable(list, store);
     if code != 0 {

@@ -7,7 +7,7 @@ use Rattle.spec.specs.declared.Outcome.{Outcome}
 use Rattle.spec.specs.declared.Outcome.the-variants.{Done, Refused}
 use Rattle.spec.specs.declared.Searched.{Searched}
 use Rattle.spec.specs.declared.Searched.the-variants.{JoinRefused, Found}
-use Rattle.spec.specs.Records.{form1}
+use Rattle.spec.specs.Form.{formOf}
 use Rattle.spec.specs.Join.{joinOutcome, joinBuffer}
 
 -- A join's answer as a search's, over an index of n bytes.
@@ -16,5 +16,5 @@ afterJoin n (Done count) = Found n count
 afterJoin n (Refused code) = JoinRefused n code
 
 pub record Joins (index recipes out out′ : List ℕ) (r : Searched) : Type 0 where
-  pub answered : r ≡ afterJoin (length index) (joinOutcome form1 index recipes (length out))
-  pub listed : out′ ≡ joinBuffer form1 index recipes out
+  pub answered : r ≡ afterJoin (length index) (joinOutcome (formOf index) index recipes (length out))
+  pub listed : out′ ≡ joinBuffer (formOf index) index recipes out

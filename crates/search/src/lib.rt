@@ -2,7 +2,7 @@
 // answer is that of a direct search of the restored files (demand 3).
 ghost use mathlib.Core.Path.{_≡_};
 ghost use lib.ListN.{length};
-ghost use Rattle.spec.specs.Records.{form1};
+ghost use Rattle.spec.specs.Form.{newest};
 ghost use Rattle.spec.specs.Scan.{scanBuffer};
 ghost use Rattle.spec.specs.Search.{searchOutcome, searchBuffer};
 ghost use Rattle.search.specs.Searching.{Joins};
@@ -29,9 +29,9 @@ pub fn search(
     index: &mut [u8],
     out: &mut [u8],
 ) -> Searched
-    ensures { λ r. ⌜ (r ≡ searchOutcome form1 (now (list .entry)) (now (store .entry)) (now (recipes .entry)) (length (now (index .entry))) (length (now (out .entry))))
-        × (now (index .exit) ≡ scanBuffer form1 (now (list .entry)) (now (store .entry)) (now (index .entry)))
-        × (now (out .exit) ≡ searchBuffer form1 (now (list .entry)) (now (store .entry)) (now (recipes .entry)) (length (now (index .entry))) (now (out .entry))) ⌝ }
+    ensures { λ r. ⌜ (r ≡ searchOutcome newest (now (list .entry)) (now (store .entry)) (now (recipes .entry)) (length (now (index .entry))) (length (now (out .entry))))
+        × (now (index .exit) ≡ scanBuffer newest (now (list .entry)) (now (store .entry)) (now (index .entry)))
+        × (now (out .exit) ≡ searchBuffer newest (now (list .entry)) (now (store .entry)) (now (recipes .entry)) (length (now (index .entry))) (now (out .entry))) ⌝ }
 {
     match scan::scan(list, store, index) {
         Outcome::Refused(code) => Searched::ScanRefused(code),

@@ -7,7 +7,8 @@ use Prim.Native.Nat.{ℕ}
 use lib.ListN.{length, replicate}
 use Rattle.spec.specs.Bytes.{leBytes, fieldsBytes}
 use Rattle.spec.specs.Keywords.{isUpper, foldByte, keywordsOf}
-use Rattle.spec.specs.Records.{form1, reach, prefixOf, suffixOf, offsetsOf, recordOf, recordsOf, kindOf, offsetsBytes, fullBytes, recordBytes, headBytes}
+use Rattle.spec.specs.Form.{form1}
+use Rattle.spec.specs.Records.{reach, prefixOf, suffixOf, offsetsOf, recordOf, recordsOf, kindOf, offsetsBytes, fullBytes, recordBytes, headBytes}
 use Rattle.spec.specs.Table.{inCell}
 use Rattle.spec.specs.Join.{occurrencesAt, crosses, listed, joinFrom, joinFiles, innerLeast}
 

@@ -11,12 +11,17 @@ use Rattle.spec.specs.Recipes.{innerLong, sizesIn, fileCode, filesCode}
 use Rattle.spec.proofs.Tests.{and-left, and-right}
 use Rattle.spec.proofs.Codes.{passed, passed-code}
 use Rattle.spec.proofs.EntryLaws.{contains-position}
+use Rattle.spec.proofs.Tabulated.{map-match}
 
 -- a test of every element, at one of them
 pub every-at {ℓ} : {A : Type ℓ} (test : A → Bool) (l : List A) (j : ℕ) (d : A) → every test l ≡ true → j < length l → test (getD l j d) ≡ true
 every-at test [] j d e h = let z : ⊥ = omega arith in absurd z
 every-at test (x ∷ l) zero d e h = and-left (test x) (every test l) e
 every-at test (x ∷ l) (suc j) d e h = every-at test l j d (and-right (test x) (every test l) e) (omega arith)
+
+-- two functions that agree where a test passes, on a list that passes
+pub map-same : {A B : Type 0} (p : A → Bool) (f g : A → B) (d : A) (l : List A) → every p l ≡ true → ((x : A) → p x ≡ true → f x ≡ g x) → map f l ≡ map g l
+map-same p f g d l e h = map-match f g d l (λ k u. h (getD l k d) (every-at p l k d e u))
 
 module _ (keys : List (List ℕ)) (sizeOf : ℕ → ℕ) (innerLeast : ℕ) where
   pub record FileAccepted (file : List (List ℕ)) : Type 0 where

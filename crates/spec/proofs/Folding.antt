@@ -5,14 +5,16 @@ use mathlib.Core.Bool.{Bool, true, false, _&&_, cond, and-false}
 use mathlib.Core.List.{List, [], _∷_, _++_, map}
 use Prim.Native.Nat.{ℕ, zero, suc, _+_, _-_, _≤_, _<_}
 use native.Mathlib.Omega.{arith}
+use borrow.Author.Tests.{eq-eqb, ne-eqb}
 use lib.ListN.{length, take, drop, getD, length-map, length-drop, drop-of-length-le}
 use lib.Seq.{drop-cons, take-all}
 use lib.Dec.{eqb, leb}
-use Rattle.spec.specs.Bytes.{begins, occursAt, largest}
-use Rattle.spec.specs.Keywords.{isUpper, foldByte, folded}
+use Rattle.spec.specs.Bytes.{begins, occursAt, largest, same}
+use Rattle.spec.specs.Keywords.{isUpper, foldByte, folded, foldedAll}
 use Rattle.spec.specs.Records.{reach, endsWith, startsWith, prefixOf, suffixOf}
 use Rattle.spec.proofs.Tests.{eqb-ne, eqb-same, leb-true, leb-false}
 use Rattle.spec.proofs.Begins.{begins-short}
+use Rattle.spec.proofs.Same.{same-lengths, same-turn, same-end}
 
 pub fold-other : (flag b : ℕ) → flag ≢ 1 → b ≡ foldByte flag b
 unfolding foldByte
@@ -52,6 +54,15 @@ module _ (flag : ℕ) where
   folded-drop zero l = refl
   folded-drop (suc i) [] = refl
   folded-drop (suc i) (x ∷ l) = folded-drop i l
+
+  pub folded-append : (a b : List ℕ) → folded flag (a ++ b) ≡ folded flag a ++ folded flag b
+  unfolding folded
+  folded-append [] b = refl
+  folded-append (x ∷ a) b = ap {B = List ℕ} (λ l. foldByte flag x ∷ l) (folded-append a b)
+
+  pub lengths-folded : (ls : List (List ℕ)) → map length (foldedAll flag ls) ≡ map length ls
+  lengths-folded [] = refl
+  lengths-folded (l ∷ ls) = rw (folded-length, lengths-folded ls)
 
   -- ---- one byte of a comparison: `rest k` is what is left to compare at the keyword's byte k
 
@@ -103,3 +114,27 @@ module _ (flag : ℕ) (keyword chunk : List ℕ) where
   starts-part j =
       let l : length (drop (length keyword - j) keyword) ≤ length keyword - (length keyword - j) = omega (arith, length-drop (length keyword - j) keyword) in
       rw (take-all, folded-drop, folded-length)
+
+-- ---- two lists that compare alike, byte by byte
+
+module _ (flag : ℕ) (a b : List ℕ) where
+  -- what is left to compare at byte i
+  abbrev pub left : ℕ → Bool
+  left i = same (drop i (folded flag a)) (drop i (folded flag b))
+
+  pub alike-lengths : (length a ≡ length b → ⊥) → false ≡ same (folded flag a) (folded flag b)
+  alike-lengths n = same-lengths (folded flag a) (folded flag b) (λ e. n (sym (folded-length flag a) ∙ e ∙ folded-length flag b))
+
+  turn : (i : ℕ) → i < length a → i < length b → left i ≡ (eqb (foldByte flag (getD a i 0)) (foldByte flag (getD b i 0)) && left (i + 1))
+  turn i h l =
+      same-turn (folded flag a) (folded flag b) i (rw folded-length h) (rw folded-length l)
+      ∙ rw (folded-get flag a i h, folded-get flag b i l)
+
+  pub alike-on : (i x y : ℕ) → i < length a → i < length b → x ≡ foldByte flag (getD a i 0) → y ≡ foldByte flag (getD b i 0) → x ≡ y → left (i + 1) ≡ left i
+  alike-on i x y h l p q e = sym (turn i h l ∙ rw (← p, ← q, eq-eqb x y e))
+
+  pub alike-not : (i x y : ℕ) → i < length a → i < length b → x ≡ foldByte flag (getD a i 0) → y ≡ foldByte flag (getD b i 0) → (x ≡ y → ⊥) → false ≡ left i
+  alike-not i x y h l p q e = sym (turn i h l ∙ rw (← p, ← q, ne-eqb x y e))
+
+  pub alike-end : (i : ℕ) → length a ≤ i → length b ≤ i → true ≡ left i
+  alike-end i h l = same-end (folded flag a) (folded flag b) i (rw folded-length h) (rw folded-length l)

@@ -12,7 +12,7 @@ use Rattle.spec.specs.Bytes.{same, twice}
 use Rattle.spec.specs.Keywords.{keywordFrontCode}
 use Rattle.spec.specs.Directory.{directoryEnd, entriesCode}
 use Rattle.spec.specs.Store.{chunkCount, mostChunks}
-use Rattle.spec.specs.Records.{Form}
+use Rattle.spec.specs.Form.{Form}
 use Rattle.spec.specs.Index.{listIn, indexLayout, indexKeys, goodAt, allGood, headerCode, directoryCode, laidCode, indexCode}
 use Rattle.spec.proofs.Codes.{passed, passed-whole, or-left, or-right}
 use Rattle.spec.proofs.EntryLaws.{Entries, entries-good, length-keysIn}

@@ -10,7 +10,7 @@ use Rattle.spec.specs.Bytes.{leBytes}
 use Rattle.spec.specs.Keywords.{keywordsOf, listSize, keywordCode}
 use Rattle.spec.specs.Directory.{directoryEnd, sizeAt, offsetAt, lengthAt, entriesCode}
 use Rattle.spec.specs.Store.{chunkCount}
-use Rattle.spec.specs.Records.{Form}
+use Rattle.spec.specs.Form.{Form}
 use Rattle.spec.specs.Index.{Entry, directoryBytes, indexBytes, listIn, indexLayout, indexKeys, bodyAt, lengthsIn}
 use Rattle.spec.proofs.Fields.{length-leBytes}
 use Rattle.spec.proofs.KnownBytes.{part-here, behind-part, field-here, behind-field}
@@ -42,6 +42,10 @@ module _ (f : Form) (list : List ℕ) (entries : List Entry) where
   unfolding indexBytes tail
   index-parts = simp append-assoc
 
+  -- it starts with the mark
+  pub mark-first : length (f .mark) ≡ 4 → take 4 (indexBytes f list entries) ≡ f .mark
+  mark-first h = part-here (indexBytes f list entries) 0 (f .mark) _ 4 h index-parts
+
   module _ (w : Writable f list entries) where
     at4 : drop 4 (indexBytes f list entries) ≡ leBytes 4 (length entries) ++ (list ++ tail)
     at4 = behind-part (indexBytes f list entries) 0 (f .mark) _ 4 (w .marked) index-parts
@@ -63,7 +67,7 @@ module _ (f : Form) (list : List ℕ) (entries : List Entry) where
         ∙ simp (length-append, w .marked, length-leBytes, length-directory bodiesStart entries (w .fit)) (omega arith)
 
     pub index-mark : take 4 (indexBytes f list entries) ≡ f .mark
-    index-mark = part-here (indexBytes f list entries) 0 (f .mark) _ 4 (w .marked) index-parts
+    index-mark = mark-first (w .marked)
 
     pub index-count : chunkCount (indexBytes f list entries) ≡ length entries
     index-count = field-here (indexBytes f list entries) 4 4 (length entries) _ (omega (arith, w .few)) at4

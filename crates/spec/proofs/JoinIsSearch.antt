@@ -1,7 +1,7 @@
 -- Theorem 1: the join of the chunks' records is the direct search of the restored files, with folding, where refusal 17 finds nothing.
 -- At each offset of a chunk a keyword lies inside the chunk or crosses its end, and then (17) ends in the next chunk: `listed-true` is one
 -- equation of two tests there, and the induction over the chunks only cuts the range of offsets at the chunk's end. Assumes nothing.
-use mathlib.Core.Path.{_≡_, refl, sym, ap, ap₂, _∙_}
+use mathlib.Core.Path.{_≡_, refl, sym, ap₂, _∙_}
 use mathlib.Core.Bool.{Bool, true, false, _&&_, and-false}
 use mathlib.Core.List.{List, [], _∷_, _++_, append-nil, map}
 use Prim.Native.Nat.{ℕ, zero, suc, _+_, _-_, _≤_, _<_}
@@ -11,8 +11,9 @@ use lib.ListN.{length, drop, getD, length-drop, length-append}
 use lib.Seq.{drop-drop, drop-append-seam}
 use lib.Dec.{leb}
 use Rattle.spec.specs.Bytes.{begins, occursAt, each, every, joined}
-use Rattle.spec.specs.Keywords.{foldByte, folded, foldedAll, flagOf, keywordsOf, foldedKeywords, longest}
-use Rattle.spec.specs.Records.{Form, recordOf, recordsOf, recordAt, emptyRecord, prefixOf, suffixOf}
+use Rattle.spec.specs.Keywords.{folded, foldedAll, flagOf, keywordsOf, foldedKeywords, longest}
+use Rattle.spec.specs.Form.{Form}
+use Rattle.spec.specs.Records.{recordOf, recordsOf, recordAt, emptyRecord, prefixOf, suffixOf}
 use Rattle.spec.specs.Recipes.{allButLast, innerLong}
 use Rattle.spec.specs.Join.{Occurrence, keywordAt, occurrencesAt, crossesInto, listed, joinFrom, joinFile, joinFiles, innerLeast}
 use Rattle.spec.specs.Scan.{scanRecords}
@@ -21,7 +22,7 @@ use Rattle.spec.proofs.Tests.{and-left, and-right, le-of-and}
 use Rattle.spec.proofs.Begins.{begins-front, begins-short}
 use Rattle.spec.proofs.Each.{each-match, each-append}
 use Rattle.spec.proofs.OccurrencesAt.{occurrencesAt-same}
-use Rattle.spec.proofs.Folding.{folded-length}
+use Rattle.spec.proofs.Folding.{folded-length, folded-append, lengths-folded}
 use Rattle.spec.proofs.Point.{starts, starts-guard, prefix-le, suffix-tells, crosses-split, point}
 
 -- ---- keywords
@@ -123,15 +124,10 @@ module _ (keywords : List (List ℕ)) (m : ℕ) (ok : noneEmpty keywords ≡ tru
 -- ---- folding
 
 module _ (flag : ℕ) where
-  pub folded-append : (a b : List ℕ) → folded flag (a ++ b) ≡ folded flag a ++ folded flag b
-  unfolding folded
-  folded-append [] b = refl
-  folded-append (x ∷ a) b = ap {B = List ℕ} (λ l. foldByte flag x ∷ l) (folded-append a b)
-
   pub folded-joined : (cs : List (List ℕ)) → folded flag (joined cs) ≡ joined (map (folded flag) cs)
   unfolding folded
   folded-joined [] = refl
-  folded-joined (c ∷ cs) = rw (folded-append, folded-joined cs)
+  folded-joined (c ∷ cs) = rw (folded-append flag, folded-joined cs)
 
   pub longest-folded : (keywords : List (List ℕ)) → longest (foldedAll flag keywords) ≡ longest keywords
   longest-folded [] = refl
@@ -140,10 +136,6 @@ module _ (flag : ℕ) where
   pub noneEmpty-folded : (keywords : List (List ℕ)) → noneEmpty (foldedAll flag keywords) ≡ noneEmpty keywords
   noneEmpty-folded [] = refl
   noneEmpty-folded (w ∷ ws) = rw (folded-length, noneEmpty-folded ws)
-
-  pub lengths-folded : (cs : List (List ℕ)) → map length (map (folded flag) cs) ≡ map length cs
-  lengths-folded [] = refl
-  lengths-folded (c ∷ cs) = rw (folded-length, lengths-folded cs)
 
   records-folded : (keywords cs : List (List ℕ)) → map (λ c. recordsOf keywords (folded flag c)) cs ≡ map (recordsOf keywords) (map (folded flag) cs)
   records-folded keywords [] = refl
@@ -155,7 +147,7 @@ module _ (flag : ℕ) where
         ≡ occurrencesIn file (foldedAll flag keywords) (folded flag (joined cs))
     one file cs e =
         rw (records-folded (foldedAll flag keywords) cs, folded-joined cs)
-        (join-is-search-file (foldedAll flag keywords) m (rw noneEmpty-folded ok) (rw longest-folded covers) file (map (folded flag) cs) (rw lengths-folded e))
+        (join-is-search-file (foldedAll flag keywords) m (rw noneEmpty-folded ok) (rw longest-folded covers) file (map (folded flag) cs) (rw (lengths-folded flag) e))
 
     -- files are lists of chunks; m is what an inner chunk must have
     pub join-is-search : (file : ℕ) (files : List (List (List ℕ))) → every (λ cs. innerLong m (map length cs)) files ≡ true

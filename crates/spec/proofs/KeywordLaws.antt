@@ -1,6 +1,6 @@
 -- What the keyword check's 0 gives. One step of the reading (`read-step`) carries it: a length byte n is 1 to 32, n bytes are there, and
 -- the rest is read the same way. Assumes nothing.
-use mathlib.Core.Path.{_≡_, refl, ap, ap₂}
+use mathlib.Core.Path.{_≡_, refl, ap}
 use mathlib.Core.Bool.{false, _||_}
 use mathlib.Core.List.{List, [], _∷_, map}
 use Prim.Native.Nat.{ℕ, zero, suc, _*_, _≤_, _<_}
@@ -9,11 +9,11 @@ use borrow.Author.Tests.{ltb-false, eqb-false}
 use lib.Dec.{eqb, ltb}
 use lib.ListN.{length, drop, getD, length-drop, length-map, List·getD-map}
 use lib.Seq.{length-take-le}
-use Rattle.spec.specs.Bytes.{twice}
-use Rattle.spec.specs.Keywords.{folded, foldedAll, countOf, flagOf, readKeywords, keywordsSize, keywordsOf, listSize, foldedKeywords, readCode}
-use Rattle.spec.specs.Keywords.{headerWrong, keywordCode, keywordFrontCode}
+use Rattle.spec.specs.Bytes.{twice, sum}
+use Rattle.spec.specs.Keywords.{folded, countOf, flagOf, readKeywords, keywordsSize, keywordsOf, listSize, foldedKeywords, readCode}
+use Rattle.spec.specs.Keywords.{headerWrong, keywordCode, keywordFrontCode, longest}
 use Rattle.spec.proofs.Codes.{passed, passed-whole, all-passed, all-passed-whole, or-left, or-right}
-use Rattle.spec.proofs.Folding.{folded-length}
+use Rattle.spec.proofs.Folding.{folded-length, lengths-folded}
 
 -- ---- the reading
 
@@ -138,13 +138,20 @@ pub folded-keyword : (list : List ℕ) (k : ℕ) → getD (foldedKeywords list) 
 unfolding foldedKeywords folded
 folded-keyword list k = List·getD-map (folded (flagOf list)) (keywordsOf list) k []
 
-all-lengths : (flag : ℕ) (keywords : List (List ℕ)) → map length (foldedAll flag keywords) ≡ map length keywords
-all-lengths flag [] = refl
-all-lengths flag (x ∷ xs) = ap₂ {C = List ℕ} (λ n l. n ∷ l) (folded-length flag x) (all-lengths flag xs)
-
 pub folded-lengths : (list : List ℕ) → map length (foldedKeywords list) ≡ map length (keywordsOf list)
 unfolding foldedKeywords
-folded-lengths list = all-lengths (flagOf list) (keywordsOf list)
+folded-lengths list = lengths-folded (flagOf list) (keywordsOf list)
 
 pub folded-proper : (list : List ℕ) → keywordFrontCode list ≡ 0 → (k : ℕ) → k < countOf list → Proper (getD (foldedKeywords list) k [])
 folded-proper list e k h = rw (folded-keyword list k, folded-length) (accepted list e .proper k h)
+
+-- ---- the longest keyword
+
+pub longest-most : (keywords : List (List ℕ)) (m : ℕ) → ((k : ℕ) → k < length keywords → length (getD keywords k []) ≤ m) → longest keywords ≤ m
+longest-most [] m h = omega arith
+longest-most (w ∷ ws) m h = omega (arith, h 0 (omega arith), longest-most ws m (λ k l. h (suc k) (omega arith)))
+
+-- keywords of at most 32 bytes have at most 32 times as many bytes as they are
+pub sum-most : (keywords : List (List ℕ)) → longest keywords ≤ 32 → sum (map length keywords) ≤ 32 * length keywords
+sum-most [] h = omega arith
+sum-most (w ∷ ws) h = omega (arith, sum-most ws (omega arith))

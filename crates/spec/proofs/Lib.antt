@@ -21,6 +21,7 @@ pub mod WrittenEntries
 pub mod KeywordLaws
 pub mod KeywordReads
 pub mod RecordLaws
+pub mod Forms
 pub mod IndexLaws
 pub mod RecordRanges
 pub mod StoreLaws

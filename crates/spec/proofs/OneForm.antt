@@ -12,7 +12,8 @@ use Rattle.spec.specs.Bytes.{part, fieldAt, leBytes, AllBytes}
 use Rattle.spec.specs.Keywords.{listSize}
 use Rattle.spec.specs.Directory.{sizeAt, offsetAt, lengthAt, pointedAt, entriesCode}
 use Rattle.spec.specs.Store.{chunkCount}
-use Rattle.spec.specs.Records.{Form, bodyBytes}
+use Rattle.spec.specs.Form.{Form}
+use Rattle.spec.specs.Records.{bodyBytes}
 use Rattle.spec.specs.Index.{Entry, directoryBytes, indexBytes, listIn, indexLayout, indexKeys, bodyAt, lengthsIn, indexRecords, entryBytes, listBytesIn}
 use Rattle.spec.proofs.FieldLists.{bytes-drop, leBytes-take}
 use Rattle.spec.proofs.EntryLaws.{entries-step, entries-last, keyIn-at}

@@ -11,7 +11,8 @@ use lib.Dec.{eqb, leb, ltb, eqb→eq, leb→le, ltb→lt, leb·zero, eqb·suc-ze
 use lib.ListN.{length, take, drop, getD, length-append, length-drop, take-append-drop}
 use lib.Seq.{take-at, drop-at, drop-drop}
 use Rattle.spec.specs.Bytes.{leValue, leBytes, fieldAt, fieldsOf, fieldsBytes, same, begins, rising, every}
-use Rattle.spec.specs.Records.{MatchRecord, emptyRecord, Form, form1, isEmpty, isTiny, reach, inRange, kindOf, offsetsBytes, fullBytes}
+use Rattle.spec.specs.Form.{Form, form1}
+use Rattle.spec.specs.Records.{MatchRecord, emptyRecord, isEmpty, isTiny, reach, inRange, kindOf, offsetsBytes, fullBytes}
 use Rattle.spec.specs.Records.{tinyBytes, recordBytes, bodyFrom, bodyBytes, readOffsets, readRecord, recordSize, readFrom, readBody, allInRange}
 use Rattle.spec.specs.Records.{goodBody, headBytes}
 use Rattle.spec.proofs.Tests.{le-or-lt, T-of, and-left, and-right, leb-true, leb-false, eqb-same, eqb-ne, bool-cases, le-of-and}

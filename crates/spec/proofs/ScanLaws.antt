@@ -3,7 +3,7 @@
 use mathlib.Core.Path.{_≡_, refl, sym, ap, _∙_}
 use mathlib.Core.Bool.{true, false, _||_}
 use mathlib.Core.List.{List, [], _∷_, map}
-use Prim.Native.Nat.{ℕ, suc, _^_, _≤_, _<_}
+use Prim.Native.Nat.{ℕ, suc, _≤_, _<_}
 use native.Mathlib.Nat.{zero-add, zero-lt-suc}
 use native.Mathlib.Omega.{arith}
 use borrow.Author.Tests.{lt-ltb, ltb-false}
@@ -13,7 +13,8 @@ use Rattle.spec.specs.Bytes.{twice}
 use Rattle.spec.specs.Keywords.{flagOf, folded, foldedKeywords, listSize, keywordCode}
 use Rattle.spec.specs.Directory.{sizeAt}
 use Rattle.spec.specs.Store.{storeLayout, chunkCount, storeKeys, chunkAt, storeCode}
-use Rattle.spec.specs.Records.{Form, form1, newest, recordOf, recordsOf, readBody, allInRange, goodBody}
+use Rattle.spec.specs.Form.{Form, newest, formOf}
+use Rattle.spec.specs.Records.{recordOf, recordsOf, readBody, allInRange, goodBody}
 use Rattle.spec.specs.Index.{Entry, indexBytes, listIn, indexLayout, indexKeys, bodyAt, lengthsIn, indexRecords, goodAt, indexCode}
 use Rattle.spec.specs.Recipes.{largest32}
 use Rattle.spec.specs.Scan.{scanRecords, scanBody, scanEntry, scanIndex, scannableCode, scanCode}
@@ -21,25 +22,30 @@ use Rattle.spec.proofs.Codes.{passed, passed-whole, or-left, or-right}
 use Rattle.spec.proofs.Folding.{folded-length}
 use Rattle.spec.proofs.KeywordLaws.{Proper, accepted, keyword-front, folded-count, folded-lengths, folded-proper}
 use Rattle.spec.proofs.KeywordReads.{SameList}
-use Rattle.spec.proofs.RecordLaws.{FormGood, form1-good, allPositive, body-read, good-written}
+use Rattle.spec.proofs.RecordLaws.{FormGood, allPositive, body-read, good-written}
+use Rattle.spec.proofs.Forms.{WriteForm, form-writes, newest-read, newest-of}
 use Rattle.spec.proofs.RecordRanges.{records-in-range}
 use Rattle.spec.proofs.StoreLaws.{StoreGood, store-good, length-storeKeys, store-key-length, store-size-some, store-size-most, chunk-length}
 use Rattle.spec.proofs.Tabulated.{tabulated, length-tabulated, tabulated-at, tabulated-getD, map-tabulated}
 use Rattle.spec.proofs.WrittenEntries.{Fits, noEntry, Every, SizeIn}
 use Rattle.spec.proofs.IndexLaws.{Writable, index-length, index-mark, index-count, index-list, index-list-bytes, index-layout, index-keys}
-use Rattle.spec.proofs.IndexLaws.{index-lengths, index-size, index-body, index-entries}
+use Rattle.spec.proofs.IndexLaws.{index-lengths, index-size, index-body, index-entries, mark-first}
 use Rattle.spec.proofs.IndexChecks.{index-passes}
 
 -- ---- forms that a scan can write
 
+-- one that can be written, and has room for the longest chunk of a store
 pub record ScanForm (f : Form) : Type 0 where
-  pub good : FormGood f
-  pub marked : length (f .mark) ≡ 4
+  pub writes : WriteForm f
   pub room : newest .longestChunk ≤ f .longestChunk
-  pub small : f .longestChunk < 256 ^ 4
 
-pub form1-scans : ScanForm form1
-form1-scans = record { good = form1-good; marked = refl; room = omega arith; small = omega arith }
+pub newest-scans : ScanForm newest
+newest-scans = record { writes = form-writes newest newest-read; room = omega arith }
+
+-- what a scan wrote is of the newest form
+pub scan-form : (list store : List ℕ) → formOf (scanIndex newest list store) ≡ newest
+unfolding scanIndex
+scan-form list store = newest-of (scanIndex newest list store) (mark-first newest list _ (newest-scans .writes .marked))
 
 -- ---- the records of a chunk, for an accepted list
 
@@ -111,7 +117,7 @@ module _ (f : Form) (form : ScanForm f) (list store : List ℕ) (accept : keywor
 
     entry-fits : Fits (scanEntry f list store k)
     unfolding scanEntry
-    entry-fits = record { long = store-key-length store good k l; small = omega (arith, store-size-most store good k l, form .room, form .small) }
+    entry-fits = record { long = store-key-length store good k l; small = omega (arith, store-size-most store good k l, form .room, form .writes .small) }
 
     entry-sized : SizeIn (f .longestChunk) (scanEntry f list store k)
     unfolding scanEntry
@@ -140,7 +146,7 @@ module _ (f : Form) (form : ScanForm f) (list store : List ℕ) (accept : keywor
     writable : Writable f list scanEntries
     writable =
         record {
-          marked = form .marked;
+          marked = form .writes .marked;
           accepted = accept;
           few = omega (arith, entries-count, good .few);
           fit = every-entry Fits entry-fits;
@@ -170,7 +176,7 @@ module _ (f : Form) (form : ScanForm f) (list store : List ℕ) (accept : keywor
       short = omega (arith, chunk-length store good k l, store-size-most store good k l, form .room)
 
       records-read : readBody f (length (lengthsIn index)) (bodyAt index k) ≡ scanRecords list (chunkAt store k) .records
-      records-read = rw (lengths-read, body-of) (scan-body-read list accept (chunkAt store k) f (form .good) short)
+      records-read = rw (lengths-read, body-of) (scan-body-read list accept (chunkAt store k) f (form .writes .good) short)
 
       size-is : sizeAt (indexLayout index) index k ≡ scanRecords list (chunkAt store k) .size
       size-is = size-read ∙ sym (chunk-length store good k l) ∙ sym (scan-size list accept (chunkAt store k))
@@ -181,7 +187,7 @@ module _ (f : Form) (form : ScanForm f) (list store : List ℕ) (accept : keywor
 
       body-good : goodAt f index k ≡ true
       body-good =
-          rw (lengths-read, body-of, size-read, ← chunk-length store good k l) (scan-body-good list accept (chunkAt store k) f (form .good) short)
+          rw (lengths-read, body-of, size-read, ← chunk-length store good k l) (scan-body-good list accept (chunkAt store k) f (form .writes .good) short)
 
     code-passes : indexCode f index ≡ 0
     code-passes =

@@ -92,3 +92,33 @@ splice-read l at v h =
 -- a run after a run, as two calls leave them
 pub splice-then : (l : List ℕ) (at : ℕ) (v w : List ℕ) {out₁ out₂ : List ℕ} {place : ℕ} → at ≤ length l → out₁ ≡ splice l at v → place ≡ at + length v → out₂ ≡ splice out₁ place w → out₂ ≡ splice l at (v ++ w)
 splice-then l at v w h p q r = r ∙ rw (p, q) (splice-splice l at v w h)
+
+-- ---- two runs, the first of which ends where the second begins or before: either can be written first
+
+-- a run in the first of two parts
+splice-front : (a r : List ℕ) (d : ℕ) (v : List ℕ) → d + length v ≤ length a → splice (a ++ r) d v ≡ splice a d v ++ r
+unfolding splice
+splice-front a r d v h =
+    let l : d ≤ length a = omega arith in
+    rw (take-append-le d a r l, drop-append-le (d + length v) a r h) (simp append-assoc)
+
+-- a run at the start of the second
+splice-back : (a r : List ℕ) (at : ℕ) (b : List ℕ) → length a ≡ at → splice (a ++ r) at b ≡ a ++ splice r 0 b
+unfolding splice
+splice-back a r at b h =
+    rw (take-at a r at h, ← drop-drop (length b) at (a ++ r), drop-at a r at h, zero-add) (simp append-assoc)
+
+pub splice-comm : (l : List ℕ) (a b : ℕ) (v w : List ℕ) → a + length v ≤ b → b ≤ length l → splice (splice l a v) b w ≡ splice (splice l b w) a v
+splice-comm l a b v w h m =
+    let n : length (take b l) ≡ b = length-take-le b l m in
+    let k : a + length v ≤ length (take b l) = omega arith in
+    let s : length (splice (take b l) a v) ≡ b = length-splice (take b l) a v k ∙ n in
+    let e : take b l ++ drop b l ≡ l = take-append-drop b l in
+    let x : splice (splice (take b l ++ drop b l) a v) b w ≡ splice (splice (take b l ++ drop b l) b w) a v =
+    rw (
+      splice-front (take b l) (drop b l) a v k,
+      splice-back (splice (take b l) a v) (drop b l) b w s,
+      splice-back (take b l) (drop b l) b w n,
+      splice-front (take b l) (splice (drop b l) 0 w) a v k,
+    ) in
+    rw e at x

@@ -10,7 +10,7 @@ use lib.ListN.{length, take, getD, length-take, length-drop}
 use Rattle.spec.specs.Bytes.{same, twice}
 use Rattle.spec.specs.Directory.{directoryEnd, sizeAt, entriesCode}
 use Rattle.spec.specs.Store.{storeMark, storeLayout, chunkCount, mostChunks, storeKeys, chunkAt, storeCode}
-use Rattle.spec.specs.Records.{newest}
+use Rattle.spec.specs.Form.{newest}
 use Rattle.spec.proofs.Codes.{passed, passed-whole, or-left, or-right}
 use Rattle.spec.proofs.EntryLaws.{Entries, entries-good, length-keysIn, keyIn-length}
 use Rattle.spec.proofs.Same.{same-eq}

@@ -1,5 +1,5 @@
 -- Laws of lists with one element for each number of a range. Assumes nothing.
-use mathlib.Core.Path.{_≡_, refl, sym, ap, _∙_}
+use mathlib.Core.Path.{_≡_, refl, sym, ap, ap₂, _∙_}
 use mathlib.Core.Bool.{Bool, true}
 use mathlib.Core.List.{List, [], _∷_, map}
 use Prim.Native.Nat.{ℕ, zero, suc, _+_, _≤_, _<_}
@@ -37,6 +37,11 @@ module _ {ℓ} {A : Type ℓ} where
 pub map-tabulated {ℓ ℓ′} : {A : Type ℓ} {B : Type ℓ′} (g : A → B) (f : ℕ → A) (at n : ℕ) → map g (tabulated f at n) ≡ tabulated (λ k. g (f k)) at n
 map-tabulated g f at zero = refl
 map-tabulated {B = B} g f at (suc n) = ap {B = List B} (λ l. g (f at) ∷ l) (map-tabulated g f (suc at) n)
+
+-- two functions that agree on every element of a list
+pub map-match : {A B : Type 0} (f g : A → B) (d : A) (l : List A) → ((k : ℕ) → k < length l → f (getD l k d) ≡ g (getD l k d)) → map f l ≡ map g l
+map-match f g d [] h = refl
+map-match {B = B} f g d (x ∷ l) h = ap₂ {C = List B} (λ y ys. y ∷ ys) (h 0 (omega arith)) (map-match f g d l (λ k u. h (suc k) (omega arith)))
 
 -- a test of every number of a range
 pub every-range : (p : ℕ → Bool) (at n : ℕ) → ((k : ℕ) → at ≤ k → k < at + n → p k ≡ true) → every p (tabulated (λ k. k) at n) ≡ true

@@ -9,7 +9,8 @@ use Rattle.spec.specs.Outcome.{firstOf, whole, firstCode, indexMarkWrong
 use Rattle.spec.specs.Keywords.{keywordsOf, listSize, keywordFrontCode}
 use Rattle.spec.specs.Directory.{Layout, directoryEnd, sizeAt, pointedAt, keysIn, entriesCode}
 use Rattle.spec.specs.Store.{chunkCount, mostChunks}
-use Rattle.spec.specs.Records.{Form, MatchRecord, ChunkRecords, readBody, goodBody}
+use Rattle.spec.specs.Form.{Form}
+use Rattle.spec.specs.Records.{MatchRecord, ChunkRecords, readBody, goodBody}
 
 -- ---- the written form
 

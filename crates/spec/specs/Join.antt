@@ -9,7 +9,8 @@ use Rattle.spec.specs.Bytes.{leBytes, fieldAt, written, positionOf, each
 use Rattle.spec.specs.Outcome.{firstOf, whole, answer, unlessRefused, listTooLong}
 use Rattle.spec.specs.Keywords.{foldedKeywords, keywordsOf, longest}
 use Rattle.spec.specs.Directory.{sizeAt}
-use Rattle.spec.specs.Records.{Form, MatchRecord, ChunkRecords, recordAt}
+use Rattle.spec.specs.Form.{Form}
+use Rattle.spec.specs.Records.{MatchRecord, ChunkRecords, recordAt}
 use Rattle.spec.specs.Index.{listIn, indexLayout, indexKeys, indexRecords, indexCode}
 use Rattle.spec.specs.Table.{inCell}
 use Rattle.spec.specs.Recipes.{filesOf, recipesCode, filesCode}

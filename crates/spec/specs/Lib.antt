@@ -1,10 +1,12 @@
 pub mod Bytes
+pub mod Form
 pub mod Outcome
 pub mod Keywords
 pub mod Directory
 pub mod Store
 pub mod Records
 pub mod Index
+pub mod Opened
 pub mod Table
 pub mod Recipes
 pub mod Join

@@ -8,7 +8,7 @@ use Rattle.spec.specs.Bytes.{part, contains, positionOf}
 use Rattle.spec.specs.Outcome.{firstOf, whole, notFound, fingerprintLength}
 use Rattle.spec.specs.Directory.{Layout, offsetAt, lengthAt}
 use Rattle.spec.specs.Store.{storeLayout, storeKeys, storeCode}
-use Rattle.spec.specs.Records.{Form}
+use Rattle.spec.specs.Form.{Form}
 use Rattle.spec.specs.Index.{indexLayout, indexKeys, indexCode}
 
 -- The check of the bytes, 19, 15.

@@ -5,7 +5,7 @@ use Prim.Native.Nat.{ℕ, zero, suc, _+_, _/_, _%_}
 use lib.ListN.{length}
 use lib.Dec.{eqb, ltb}
 use Rattle.spec.specs.Bytes.{written}
-use Rattle.spec.specs.Records.{form1}
+use Rattle.spec.specs.Form.{newest}
 use Rattle.spec.specs.Join.{Occurrence}
 use Rattle.spec.specs.Search.{directSearch, searchCode}
 
@@ -83,9 +83,9 @@ programRoom = 65536
 -- The refusal's number, or the list of the direct search of the restored files.
 unfoldable pub searchText : List ℕ → List ℕ → List ℕ → List ℕ
 searchText store words recipes =
-    cond (eqb (searchCode form1 words store recipes programRoom programRoom) 0)
+    cond (eqb (searchCode newest words store recipes programRoom programRoom) 0)
     (listText (directSearch words store recipes))
-    (refusedText (searchCode form1 words store recipes programRoom programRoom))
+    (refusedText (searchCode newest words store recipes programRoom programRoom))
 
 -- The whole output: the first file that is too long, or the search.
 unfoldable pub programText : List ℕ → List ℕ → List ℕ → List ℕ

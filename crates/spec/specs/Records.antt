@@ -5,6 +5,7 @@ use mathlib.Core.List.{List, [], _∷_, _++_, map}
 use Prim.Native.Nat.{ℕ, zero, suc, _+_, _*_, _-_, _/_, _%_, min}
 use lib.ListN.{length, take, drop, getD}
 use lib.Dec.{eqb, leb, ltb}
+use Rattle.spec.specs.Form.{Form}
 use Rattle.spec.specs.Bytes.{leValue, leBytes, fieldAt, fieldsOf, fieldsBytes, same, begins, occursAt, each, keep, largest, rising, every}
 
 -- ---- the record of one chunk and one keyword
@@ -55,30 +56,6 @@ emptyRecord = record { prefix = 0; suffix = 0; offsets = [] }
 
 abbrev pub recordAt : ChunkRecords → ℕ → MatchRecord
 recordAt here k = getD (here .records) k emptyRecord
-
--- ---- forms: what differs between the marks of an index
-
-pub record Form : Type 0 where
-  -- the index's first four bytes
-  pub mark : List ℕ
-  -- bytes of an offset inside a chunk, and of the exact count
-  pub width : ℕ
-  -- the longest chunk
-  pub longestChunk : ℕ
-  -- the longest prefix or suffix of a tiny record, by the keyword's length
-  pub tinyMost : ℕ → ℕ
-  -- what a suffix of length 1 adds to the tiny byte
-  pub tinyStep : ℕ
-  -- records have sets of inner starts, so that keywords are found across any number of chunks (request #108)
-  pub sets : Bool
-
--- Document 01's form: mark 44 4D 31 0A, fields of 2 bytes, L at most 65,535, tiny up to length 1 with 1 for prefix and 2 for suffix.
-abbrev pub form1 : Form
-form1 = record { mark = 0x44 ∷ 0x4D ∷ 0x31 ∷ 0x0A ∷ []; width = 2; longestChunk = 65535; tinyMost = λ n. 1; tinyStep = 2; sets = false }
-
--- The form that a scan writes.
-abbrev pub newest : Form
-newest = form1
 
 -- ---- empty, tiny, full
 

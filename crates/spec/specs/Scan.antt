@@ -10,7 +10,8 @@ use Rattle.spec.specs.Outcome.{firstOf, whole, answer, unlessRefused, in
 use Rattle.spec.specs.Keywords.{flagOf, folded, foldedKeywords, keywordCode}
 use Rattle.spec.specs.Directory.{sizeAt}
 use Rattle.spec.specs.Store.{storeLayout, chunkCount, storeKeys, chunkAt, storeCode}
-use Rattle.spec.specs.Records.{Form, recordsOf, ChunkRecords, bodyBytes}
+use Rattle.spec.specs.Form.{Form}
+use Rattle.spec.specs.Records.{recordsOf, ChunkRecords, bodyBytes}
 use Rattle.spec.specs.Index.{Entry, indexBytes}
 use Rattle.spec.specs.Recipes.{largest32}
 

@@ -11,7 +11,7 @@ use Rattle.spec.specs.Outcome.{firstOf, whole, unlessRefused, listTooLon
 use Rattle.spec.specs.Keywords.{flagOf, folded, foldedKeywords}
 use Rattle.spec.specs.Directory.{sizeAt}
 use Rattle.spec.specs.Store.{storeLayout, storeKeys, chunkAt}
-use Rattle.spec.specs.Records.{Form}
+use Rattle.spec.specs.Form.{Form}
 use Rattle.spec.specs.Recipes.{filesOf, recipesCode, filesCode}
 use Rattle.spec.specs.Join.{Occurrence, keywordAt, occurrencesAt, listBytes, innerLeast}
 use Rattle.spec.specs.Scan.{scanIndex, scanCode}

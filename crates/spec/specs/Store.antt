@@ -7,7 +7,7 @@ use lib.Dec.{ltb}
 use Rattle.spec.specs.Bytes.{leBytes, fieldAt, same, twice, each, joined}
 use Rattle.spec.specs.Outcome.{firstOf, whole, storeMarkWrong, storeDirectoryCut, storeEntryWrong, storeDuplicate}
 use Rattle.spec.specs.Directory.{Layout, directoryEnd, sizeAt, pointedAt, keysIn, entriesCode}
-use Rattle.spec.specs.Records.{newest}
+use Rattle.spec.specs.Form.{newest}
 
 -- 44 56 31 0A
 abbrev pub storeMark : List ℕ

@@ -16,3 +16,25 @@ pub enum Searched {
     // The length of the index, and the count of occurrences.
     Found(usize, usize),
 }
+
+// What differs between the marks of an index, as far as the code reads it. specs/Form.antt says which form it is.
+pub struct Format {
+    // The digit in the mark.
+    pub number: u8,
+    // Bytes of an offset inside a chunk, and of the exact count.
+    pub width: usize,
+    // The longest chunk.
+    pub longest: usize,
+}
+
+// An index that passed its check: what its readers go by. specs/Opened.antt says which numbers they are.
+pub struct Opened {
+    // Where the directory starts.
+    pub directory: usize,
+    // How many entries and keywords there are.
+    pub entries: usize,
+    pub keywords: usize,
+    // The longest keyword's length.
+    pub longest: usize,
+    pub format: Format,
+}

@@ -1,30 +1,59 @@
 -- The answers of the store check and of a lookup, each by the tests that led there. Assumes nothing.
-use mathlib.Core.Path.{_≡_, sym, ap, ap₂, _∙_, subst}
+use mathlib.Core.Path.{_≡_, refl, sym, ap, ap₂, _∙_}
 use mathlib.Core.Logic.{_≢_}
-use mathlib.Core.Bool.{Bool, true, false}
+use mathlib.Core.Bool.{Bool, true, false, cond, _||_, not}
 use mathlib.Core.List.{List, [], _∷_}
-use Prim.Native.Nat.{ℕ, _+_, _*_, _-_, _≤_, _<_}
+use Prim.Native.Nat.{ℕ, zero, suc, _+_, _*_, _-_, _≤_, _<_}
 use native.Mathlib.Nat.{add-sub-cancel-left}
 use native.Mathlib.Omega.{arith}
-use borrow.Author.Tests.{lt-ltb, le-ltb}
+use borrow.Author.Tests.{ne-eqb, lt-ltb, le-ltb}
+use lib.Dec.{eqb, ltb}
 use lib.ListN.{length, getD, take, drop}
-use Rattle.spec.specs.Bytes.{part, same, twice, positionOf}
+use Rattle.spec.specs.Bytes.{part, same, twice, positionOf, written}
 use Rattle.spec.specs.Outcome.{firstOf, whole}
-use Rattle.spec.specs.Directory.{entriesCode, offsetAt, lengthAt}
+use Rattle.spec.specs.Directory.{Layout, entriesCode, sizeAt, offsetAt, lengthAt}
 use Rattle.spec.specs.Store.{storeMark, storeLayout, storeKeys, storeCode, chunkCount, chunkAt}
 use Rattle.spec.specs.Lookup.{findChunk, chunkStart, chunkLength, chunkOf}
 use Rattle.spec.proofs.Codes.{refused-whole}
-use Rattle.spec.proofs.EntryLaws.{length-keys, keyIn-at}
+use Rattle.spec.proofs.EntryLaws.{keyIn-at}
 use Rattle.spec.proofs.LookupLaws.{lookup-passed, start-found, length-found, start-refused, length-refused}
 use Rattle.spec.proofs.StoreLaws.{store-good, length-storeKeys}
-use Rattle.directory.specs.Chains.{keysFrom, Chained, Lies}
+use Rattle.directory.specs.Chains.{keysFrom, chainsOf, Lies, Empty}
 use Rattle.directory.proofs.ChainLists.{Built, chained}
-use Rattle.store.specs.Examined.{Examined, StoreEntry}
+use Rattle.store.specs.Examined.{examinedChains, StoreEntry, Findable}
+
+-- ---- the numbers of the entries
+
+one-number : (a : Bool) (code : ℕ) → cond a code 0 ≢ 0 → cond a code 0 ≡ code
+one-number true code h = refl
+one-number false code h = absurd (h refl)
+
+next-number : (a b : Bool) (code x : ℕ) → (x ≢ 0 → x ≡ code) → cond a code (cond b code (cond (ltb 0 x) x 0)) ≢ 0
+    → cond a code (cond b code (cond (ltb 0 x) x 0)) ≡ code
+next-number true b code x e h = refl
+next-number false true code x e h = refl
+next-number false false code zero e h = absurd (h refl)
+next-number false false code (suc x) e h = rw (lt-ltb 0 (suc x) (omega arith)) (e (λ z. omega arith))
+
+-- the check of entries refuses with one number
+entries-number : (layout : Layout) (bytes : List ℕ) (most code n k at : ℕ) → entriesCode layout bytes most code n k at ≢ 0
+    → entriesCode layout bytes most code n k at ≡ code
+entries-number layout bytes most code zero k at h = one-number (not (eqb at (length bytes))) code h
+entries-number layout bytes most code (suc n) k at h =
+    next-number (eqb (sizeAt layout bytes k) 0 || ltb most (sizeAt layout bytes k)) (not (eqb (offsetAt layout bytes k) at)) code
+    (entriesCode layout bytes most code n (suc k) (at + lengthAt layout bytes k))
+    (entries-number layout bytes most code n (suc k) (at + lengthAt layout bytes k)) h
 
 -- ---- the store check
 
-pub refused-with : (store : List ℕ) (code : ℕ) {heads chain : List ℕ} → code ≡ storeCode store → 0 < code → Examined store heads chain code
-refused-with store code e p = record { number = e; chains = λ z. absurd (omega arith) }
+-- what the check answers and leaves in the array, which was chains₀
+abbrev pub Told : List ℕ → List ℕ → List ℕ → ℕ → Type 0
+Told store chains₀ chains code = (code ≡ storeCode store) × (chains ≡ examinedChains store chains₀)
+
+-- refused before 8: the array is as it was
+pub refused-early : (store chains : List ℕ) (code : ℕ) → code ≡ storeCode store → 0 < code → code < 8 → Told store chains chains code
+unfolding examinedChains
+refused-early store chains code e p q = (e, rw (← e, ne-eqb code 0 (λ z. omega arith), ne-eqb code 8 (λ z. omega arith)))
 
 pub short : (store : List ℕ) → length store < 8 → 5 ≡ storeCode store
 unfolding storeCode
@@ -33,6 +62,10 @@ short store a = rw (lt-ltb (length store) 8 a)
 pub unmarked : (store : List ℕ) → 8 ≤ length store → same (take 4 store) storeMark ≡ false → 5 ≡ storeCode store
 unfolding storeCode
 unmarked store a m = rw (le-ltb (length store) 8 a, m)
+
+pub keys-from : (store : List ℕ) (c : ℕ) → c ≡ chunkCount store → keysFrom store 8 28 c ≡ storeKeys store
+unfolding storeKeys
+keys-from store c e = ap (keysFrom store 8 28) e
 
 -- by the tests, with the chunk count c that was read
 module _ (store : List ℕ) (a : 8 ≤ length store) (m : same (take 4 store) storeMark ≡ true) (c : ℕ) (e : c ≡ chunkCount store) where
@@ -52,39 +85,43 @@ module _ (store : List ℕ) (a : 8 ≤ length store) (m : same (take 4 store) st
   rest h l =
       rw (e, le-ltb (length store) 8 a, m, le-ltb 65000 (chunkCount store) (rw (← e) h), le-ltb (length store) (8 + 28 * chunkCount store) (rw (← e) l))
 
-  pub wrong : c ≤ 65000 → 8 + 28 * c ≤ length store → (code : ℕ) → code ≡ entriesCode storeLayout store 65535 7 c 0 (8 + 28 * c) → code ≢ 0
-      → code ≡ storeCode store
-  wrong h l code q d = q ∙ refused-whole (entriesCode storeLayout store 65535 7 c 0 (8 + 28 * c)) _ (λ z. d (q ∙ z)) ∙ sym (rest h l)
+  -- a wrong entry
+  pub wrong : c ≤ 65000 → 8 + 28 * c ≤ length store → (chains : List ℕ) (code : ℕ) → code ≡ entriesCode storeLayout store 65535 7 c 0 (8 + 28 * c) → code ≢ 0
+      → Told store chains chains code
+  wrong h l chains code q d =
+      let z : entriesCode storeLayout store 65535 7 c 0 (8 + 28 * c) ≢ 0 = λ z. d (q ∙ z) in
+      let n = entries-number storeLayout store 65535 7 c 0 (8 + 28 * c) z in
+      refused-early store chains code
+      (q ∙ refused-whole (entriesCode storeLayout store 65535 7 c 0 (8 + 28 * c)) _ z ∙ sym (rest h l)) (omega arith) (omega arith)
 
-  -- the entries' code, by the number that was returned
-  pub entered : (n : ℕ) → n ≡ entriesCode storeLayout store 65535 7 c 0 (8 + 28 * c) → n ≡ 0 → entriesCode storeLayout store 65535 7 c 0 (8 + 28 * c) ≡ 0
-  entered n q z = sym q ∙ z
+  -- the directory is whole, and the crate below built the chains
+  module _ (h : c ≤ 65000) (l : 8 + 28 * c ≤ length store) (n : ℕ) (q : n ≡ entriesCode storeLayout store 65535 7 c 0 (8 + 28 * c)) (z : n ≡ 0)
+      (chains₀ chains : List ℕ) (t : Bool) (b : Built (keysFrom store 8 28 c) chains₀ chains t) where
+    number : storeCode store ≡ cond t 8 0
+    number = rest h l ∙ rw (← q, z, ← b .0)
 
-  module _ (h : c ≤ 65000) (l : 8 + 28 * c ≤ length store) (z : entriesCode storeLayout store 65535 7 c 0 (8 + 28 * c) ≡ 0) where
-    pub duplicate : twice (keysFrom store 8 28 c) ≡ true → 8 ≡ storeCode store
-    duplicate t = sym (rest h l ∙ rw (z, t))
+    built : chains ≡ written chains₀ (chainsOf (storeKeys store))
+    built = b .1 ∙ ap (λ (keys : List (List ℕ)). written chains₀ (chainsOf keys)) (keys-from store c e)
 
-    pub duplicate-told : (t : Bool) → t ≡ twice (keysFrom store 8 28 c) → t ≡ true → 8 ≡ storeCode store
-    duplicate-told t e q = duplicate (sym e ∙ q)
+    pub duplicate-told : t ≡ true → Told store chains₀ chains 8
+    unfolding examinedChains
+    duplicate-told p = let r : storeCode store ≡ 8 = number ∙ rw p in (sym r, rw r built)
 
-    pub sound : twice (keysFrom store 8 28 c) ≡ false → 0 ≡ storeCode store
-    sound f = sym (rest h l ∙ rw (z, f))
+    pub all-told : t ≡ false → Told store chains₀ chains 0
+    unfolding examinedChains
+    all-told p = let r : storeCode store ≡ 0 = number ∙ rw p in (sym r, rw r built)
 
-    -- all entries are in the index
-    pub examined : (chain₀ heads chain : List ℕ) (t : Bool) → Built (keysFrom store 8 28 c) chain₀ heads chain t
-        → 65000 ≤ length chain₀ → t ≡ false → Examined store heads chain 0
-    unfolding storeKeys
-    examined chain₀ heads chain t b r f = record {
-      number = sound (sym (b .0) ∙ f);
-      chains = λ _. subst (λ (n : ℕ). Chained (keysFrom store 8 28 n) 0 heads chain) e
-          (chained (keysFrom store 8 28 c) heads chain chain₀ (b .1) (b .2) (omega (arith, length-keys 28 c (drop 8 store))));
-    }
+-- where the check passes, fingerprints can be looked up
+pub findable : (store : List ℕ) (count : ℕ) (chains₀ chains : List ℕ) → storeCode store ≡ 0 → count ≡ chunkCount store → Empty chains₀
+    → chains ≡ examinedChains store chains₀ → Findable store count chains
+unfolding examinedChains
+findable store count chains₀ chains z e l q = record {
+  checked = z;
+  counts = e;
+  chained = chained (storeKeys store) chains chains₀ (rw z at q) (omega (arith, l .long, length-storeKeys store, store-good store z .few));
+}
 
 -- ---- the directory of a store, as the crate below takes it
-
-pub keys-from : (store : List ℕ) (c : ℕ) → c ≡ chunkCount store → keysFrom store 8 28 c ≡ storeKeys store
-unfolding storeKeys
-keys-from store c e = ap (keysFrom store 8 28) e
 
 pub found-at : (store fp : List ℕ) (c : ℕ) → c ≡ chunkCount store → (k : ℕ) → k ≡ positionOf fp (keysFrom store 8 28 c) → k ≡ positionOf fp (storeKeys store)
 found-at store fp c e k q = q ∙ ap (positionOf fp) (keys-from store c e)

@@ -9,7 +9,7 @@ ghost use Rattle.spec.specs.Directory.{entryField, offsetAt};
 ghost use Rattle.spec.specs.Store.{storeMark, storeLayout, storeKeys, storeCode, chunkCount, chunkAt};
 ghost use Rattle.spec.specs.Lookup.{findChunk, chunkStart, chunkLength, chunkOf};
 ghost use Rattle.directory.specs.Chains.{Empty};
-ghost use Rattle.store.specs.Examined.{Examined, StoreEntry};
+ghost use Rattle.store.specs.Examined.{examinedChains, StoreEntry, Findable};
 
 // 44 56 31 0A
 const MARK: [u8; 4] = [0x44, 0x56, 0x31, 0x0A];
@@ -30,10 +30,12 @@ pub fn chunk_count(store: &[u8]) -> usize
     field::read(store, 4, 4) as usize
 }
 
-// The store check, with document 01's numbers; it leaves the index of the fingerprints in the arrays.
-fn examine(store: &[u8], heads: &mut [u32], chain: &mut [u32]) -> u8
-    requires { ⌜ Empty (now heads) (now chain) ⌝ }
-    ensures { λ r. ⌜ Examined (now (store .entry)) (now (heads .exit)) (now (chain .exit)) r ⌝ }
+// The store check, with document 01's numbers; it leaves the chains of the store's fingerprints in the array, once the directory is seen to be
+// whole.
+pub fn examine(store: &[u8], chains: &mut [u32]) -> u8
+    requires { ⌜ Empty (now chains) ⌝ }
+    ensures { λ r. ⌜ (r ≡ storeCode (now (store .entry)))
+        × (now (chains .exit) ≡ examinedChains (now (store .entry)) (now (chains .entry))) ⌝ }
 {
     if store.len() < 8 {
         return 5;
@@ -52,7 +54,7 @@ fn examine(store: &[u8], heads: &mut [u32], chain: &mut [u32]) -> u8
     if code != 0 {
         return code;
     }
-    if directory::build(store, 8, 28, c, heads, chain) {
+    if directory::build(store, 8, 28, c, chains) {
         return 8;
     }
     0
@@ -62,18 +64,24 @@ fn examine(store: &[u8], heads: &mut [u32], chain: &mut [u32]) -> u8
 pub fn check(store: &[u8]) -> u8
     ensures { λ r. ⌜ r ≡ storeCode (now (store .entry)) ⌝ }
 {
-    let mut heads = [0u32; 65536];
-    let mut chain = [0u32; 65000];
-    examine(store, &mut heads, &mut chain)
+    let mut chains = [0u32; 130536];
+    examine(store, &mut chains)
+}
+
+// The entry of a fingerprint; the chunk count where there is none.
+pub fn position(store: &[u8], count: usize, chains: &[u32], fp: &[u8]) -> usize
+    requires { ⌜ Findable (now store) count (now chains) × (length (now fp) ≡ 20) ⌝ }
+    ensures { λ r. ⌜ r ≡ positionOf (now (fp .entry)) (storeKeys (now (store .entry))) ⌝ }
+{
+    directory::find(store, 8, 28, count, chains, fp)
 }
 
 // The entry of a fingerprint, or the number that refuses the lookup.
 fn locate(store: &[u8], fp: &[u8]) -> spec::Outcome
     ensures { λ r. ⌜ r ≡ answer (findChunk (now (store .entry)) (now (fp .entry))) (positionOf (now (fp .entry)) (storeKeys (now (store .entry)))) ⌝ }
 {
-    let mut heads = [0u32; 65536];
-    let mut chain = [0u32; 65000];
-    let code = examine(store, &mut heads, &mut chain);
+    let mut chains = [0u32; 130536];
+    let code = examine(store, &mut chains);
     if code != 0 {
         return spec::Outcome::Refused(code);
     }
@@ -81,7 +89,7 @@ fn locate(store: &[u8], fp: &[u8]) -> spec::Outcome
         return spec::Outcome::Refused(19);
     }
     let c = chunk_count(store);
-    let k = directory::find(store, 8, 28, c, &heads, &chain, fp);
+    let k = position(store, c, &chains, fp);
     if k == c {
         return spec::Outcome::Refused(15);
     }

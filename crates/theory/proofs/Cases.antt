@@ -4,6 +4,7 @@ use Prim.Native.Nat.{ℕ}
 use Rattle.spec.specs.Bytes.{leValue, leBytes, fieldsOf, fieldsBytes, splice}
 use Rattle.spec.specs.Outcome.{answer, unlessRefused}
 use Rattle.spec.specs.Keywords.{isUpper, foldByte, folded, keywordListBytes, keywordsOf, listSize, foldedKeywords, keywordCode, keywordFrontCode}
+use Rattle.spec.specs.Form.{formOf}
 use Rattle.spec.specs.Store.{storeDirectoryBytes, storeBytes, storeKeys, chunkAt, storeCode}
 use Rattle.spec.specs.Records.{reach, prefixOf, suffixOf, offsetsOf, recordOf, recordsOf, inRange, offsetsBytes, fullBytes, headBytes, recordBytes}
 use Rattle.spec.specs.Records.{bodyFrom, readOffsets, readRecord, recordSize, readFrom, allInRange, goodBody}
@@ -39,7 +40,7 @@ unfolding bodyFrom readOffsets readRecord recordSize readFrom allInRange goodBod
 bodyDefinitions = 0
 
 unfoldable indexDefinitions : ℕ
-unfolding directoryBytes entryBytes indexBytes indexLayout indexKeys bodyAt lengthsIn indexRecords allGood headerCode directoryCode laidCode indexCode
+unfolding formOf directoryBytes entryBytes indexBytes indexLayout indexKeys bodyAt lengthsIn indexRecords allGood headerCode directoryCode laidCode indexCode
 indexDefinitions = 0
 
 unfoldable joinDefinitions : ℕ

@@ -7,13 +7,14 @@ use lib.ListN.{length, getD, length-map}
 use Rattle.spec.specs.Outcome.{codeOf, answer}
 use Rattle.spec.specs.Keywords.{countOf, flagOf, folded, keywordsOf, foldedKeywords, keywordCode}
 use Rattle.spec.specs.Store.{chunkCount, chunkAt}
-use Rattle.spec.specs.Records.{MatchRecord, ChunkRecords, form1, recordOf, recordsOf, recordAt, emptyRecord}
+use Rattle.spec.specs.Form.{newest, formOf}
+use Rattle.spec.specs.Records.{MatchRecord, ChunkRecords, recordOf, recordsOf, recordAt, emptyRecord}
 use Rattle.spec.specs.Index.{indexRecords}
 use Rattle.spec.specs.Join.{keywordAt}
 use Rattle.spec.specs.Scan.{scanRecords, scanIndex, scanCode, scanOutcome}
 use Rattle.spec.proofs.JoinIsSearch.{getD-map}
 use Rattle.spec.proofs.KeywordLaws.{accepted, keyword-front, folded-count, folded-proper}
-use Rattle.spec.proofs.ScanLaws.{form1-scans, scan-done-reads}
+use Rattle.spec.proofs.ScanLaws.{newest-scans, scan-done-reads, scan-form}
 use Rattle.theory.specs.Demand3.{NoScanRefusal, scanned}
 use Rattle.theory.proofs.Demand3.{code-of-answer, scan-done, scanned-is}
 use Rattle.theory.specs.Published.{Published}
@@ -31,17 +32,18 @@ record-of-scan : (list chunk : List ℕ) (w : ℕ) → w < length (foldedKeyword
 unfolding scanRecords recordsOf
 record-of-scan list chunk w l = getD-map (λ keyword. recordOf keyword (folded (flagOf list) chunk)) (foldedKeywords list) w [] emptyRecord l
 
-pub scan-published : (list store buffer : List ℕ) → codeOf (scanOutcome form1 list store (length buffer)) ≡ 0
+pub scan-published : (list store buffer : List ℕ) → codeOf (scanOutcome newest list store (length buffer)) ≡ 0
     → (k w : ℕ) → k < chunkCount store → w < length (foldedKeywords list)
-    → Published (keywordAt (foldedKeywords list) w) (folded (flagOf list) (chunkAt store k)) (recordAt (indexRecords form1 (scanned list store buffer) k) w)
+    → Published (keywordAt (foldedKeywords list) w) (folded (flagOf list) (chunkAt store k))
+    (recordAt (indexRecords (formOf (scanned list store buffer)) (scanned list store buffer) k) w)
 unfolding scanOutcome
 scan-published list store buffer e k w h l =
-    let c : scanCode form1 list store (length buffer) ≡ 0 =
-    sym (code-of-answer (scanCode form1 list store (length buffer)) (length (scanIndex form1 list store))) ∙ e in
-    let r = scan-done-reads form1 form1-scans list store (length buffer) c in
-    let q : indexRecords form1 (scanned list store buffer) k ≡ scanRecords list (chunkAt store k) =
-    ap (λ (i : List ℕ). indexRecords form1 i k) (scanned-is list store buffer c) ∙ r .records k h in
-    let p : recordAt (indexRecords form1 (scanned list store buffer) k) w
+    let c : scanCode newest list store (length buffer) ≡ 0 =
+    sym (code-of-answer (scanCode newest list store (length buffer)) (length (scanIndex newest list store))) ∙ e in
+    let r = scan-done-reads newest newest-scans list store (length buffer) c in
+    let q : indexRecords (formOf (scanned list store buffer)) (scanned list store buffer) k ≡ scanRecords list (chunkAt store k) =
+    rw (scanned-is list store buffer c, scan-form list store) (r .records k h) in
+    let p : recordAt (indexRecords (formOf (scanned list store buffer)) (scanned list store buffer) k) w
     ≡ recordOf (keywordAt (foldedKeywords list) w) (folded (flagOf list) (chunkAt store k)) =
     ap (λ (s : ChunkRecords). recordAt s w) q ∙ record-of-scan list (chunkAt store k) w l in
     rw p

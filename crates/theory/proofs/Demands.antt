@@ -17,7 +17,7 @@ use Rattle.spec.specs.Outcome.{firstOf, whole, codeOf, valueOf, answer, unlessR
 use Rattle.spec.specs.Keywords.{flagOf, folded, keywordsOf, foldedKeywords, keywordCode}
 use Rattle.spec.specs.Directory.{Layout, offsetAt, lengthAt}
 use Rattle.spec.specs.Store.{storeLayout, storeKeys, storeCode}
-use Rattle.spec.specs.Records.{form1}
+use Rattle.spec.specs.Form.{newest, formOf}
 use Rattle.spec.specs.Recipes.{filesOf}
 use Rattle.spec.specs.Index.{indexLayout, indexKeys, indexCode}
 use Rattle.spec.specs.Join.{Occurrence, keywordAt, joinList, listBytes, readList, joinCode, joinOutcome, joinBuffer}
@@ -28,7 +28,7 @@ use Rattle.spec.proofs.Codes.{answer-done, answer-refused, buffer-done, buffer-
 use Rattle.spec.proofs.Tests.{and-left, and-right}
 use Rattle.spec.proofs.Folding.{folded-length}
 use Rattle.spec.proofs.JoinIsSearch.{getD-map}
-use Rattle.spec.proofs.ScanLaws.{form1-scans}
+use Rattle.spec.proofs.ScanLaws.{newest-scans, scan-form}
 use Rattle.theory.specs.SearchList.{isIn, inOrder, occursIn}
 use Rattle.theory.specs.RecordSets.{Says, scannedRecords}
 use Rattle.theory.specs.Demand3.{restoredFiles, scanned}
@@ -61,10 +61,10 @@ by-cases (suc s) j size count = rw (ne-eqb (suc s) 0 (not-zero s), lt-ltb 0 (suc
 
 -- the number of a search is the scan's, or where that is 0 the join's
 pub searched-code : (list store recipes : List ℕ) (indexRoom room : ℕ)
-    → searchedCode (searchOutcome form1 list store recipes indexRoom room) ≡ searchCode form1 list store recipes indexRoom room
+    → searchedCode (searchOutcome newest list store recipes indexRoom room) ≡ searchCode newest list store recipes indexRoom room
 unfolding searchOutcome searchCode
 searched-code list store recipes indexRoom room =
-    by-cases (scanCode form1 list store indexRoom) (searchJoinCode form1 list store recipes room) (length (scanIndex form1 list store))
+    by-cases (scanCode newest list store indexRoom) (searchJoinCode newest list store recipes room) (length (scanIndex newest list store))
     (length (directSearch list store recipes))
 
 lookup-answered : (code : ℕ) (layout : Layout) (bytes : List ℕ) (keys : List (List ℕ)) (key : List ℕ)
@@ -78,19 +78,19 @@ unfolding scanOutcome scanBuffer joinOutcome joinBuffer searchBuffer findChunk c
 demand-1 =
     record {
       scan = λ list store buffer.
-          answered (scanCode form1 list store (length buffer)) (length (scanIndex form1 list store)) (written buffer (scanIndex form1 list store)) buffer;
+          answered (scanCode newest list store (length buffer)) (length (scanIndex newest list store)) (written buffer (scanIndex newest list store)) buffer;
       join = λ index recipes buffer.
-          answered (joinCode form1 index recipes (length buffer)) (length (joinList form1 index recipes))
-          (written buffer (listBytes (joinList form1 index recipes))) buffer;
+          answered (joinCode (formOf index) index recipes (length buffer)) (length (joinList (formOf index) index recipes))
+          (written buffer (listBytes (joinList (formOf index) index recipes))) buffer;
       search = λ list store recipes index out. record {
         number = searched-code list store recipes (length index) (length out);
         listKept = λ d.
-            sym (buffer-refused (searchCode form1 list store recipes (length index) (length out))
+            sym (buffer-refused (searchCode newest list store recipes (length index) (length out))
             (written out (listBytes (directSearch list store recipes))) out d);
-        indexKept = λ d. sym (buffer-refused (scanCode form1 list store (length index)) (written index (scanIndex form1 list store)) index d);
+        indexKept = λ d. sym (buffer-refused (scanCode newest list store (length index)) (written index (scanIndex newest list store)) index d);
       };
       chunk = λ store key. lookup-answered (storeCode store) storeLayout store (storeKeys store) key;
-      body = λ index key. lookup-answered (indexCode form1 index) (indexLayout index) index (indexKeys index) key;
+      body = λ index key. lookup-answered (indexCode (formOf index) index) (indexLayout index) index (indexKeys index) key;
       numbers = numbers;
     }
 
@@ -100,12 +100,12 @@ pub demand-2 : Demand2
 unfolding scanOutcome
 demand-2 = record { published = scan-published; says = scan-says-it; once = written-once }
   where
-    scan-says-it : (list store buffer : List ℕ) → codeOf (answer (scanCode form1 list store (length buffer)) (length (scanIndex form1 list store))) ≡ 0
-        → Says form1 list (scannedRecords list store) (scanned list store buffer)
+    scan-says-it : (list store buffer : List ℕ) → codeOf (answer (scanCode newest list store (length buffer)) (length (scanIndex newest list store))) ≡ 0
+        → Says (formOf (scanned list store buffer)) list (scannedRecords list store) (scanned list store buffer)
     scan-says-it list store buffer e =
-        let c : scanCode form1 list store (length buffer) ≡ 0 =
-        sym (code-of-answer (scanCode form1 list store (length buffer)) (length (scanIndex form1 list store))) ∙ e in
-        rw (scanned-is list store buffer c) (scan-says form1 form1-scans list store (length buffer) c)
+        let c : scanCode newest list store (length buffer) ≡ 0 =
+        sym (code-of-answer (scanCode newest list store (length buffer)) (length (scanIndex newest list store))) ∙ e in
+        rw (scanned-is list store buffer c, scan-form list store) (scan-says newest newest-scans list store (length buffer) c)
 
 -- ---- demand 3
 
@@ -176,13 +176,13 @@ module _ (list store recipes : List ℕ) (accept : keywordCode list ≡ 0) (o : 
 
 module _ (list store recipes buffer out : List ℕ) where
   abbrev scan : Outcome
-  scan = scanOutcome form1 list store (length buffer)
+  scan = scanOutcome newest list store (length buffer)
 
   abbrev join : Outcome
-  join = joinOutcome form1 (scanned list store buffer) recipes (length out)
+  join = joinOutcome (formOf (scanned list store buffer)) (scanned list store buffer) recipes (length out)
 
   abbrev after : List ℕ
-  after = joinBuffer form1 (scanned list store buffer) recipes out
+  after = joinBuffer (formOf (scanned list store buffer)) (scanned list store buffer) recipes out
 
   claim-found : codeOf scan ≡ 0 → codeOf join ≡ 0 → readList (valueOf join) after ≡ directSearch list store recipes
   claim-found s j = scan-and-join list store recipes buffer out .join s .listed j
@@ -191,8 +191,8 @@ module _ (list store recipes buffer out : List ℕ) where
   claim-count s j =
       let o = scan-and-join list store recipes buffer out .join s .outcome in
       ap valueOf o
-      ∙ value-of-answer (searchJoinCode form1 list store recipes (length out)) (length (directSearch list store recipes))
-      (sym (ap codeOf o ∙ code-of-answer (searchJoinCode form1 list store recipes (length out)) (length (directSearch list store recipes))) ∙ j)
+      ∙ value-of-answer (searchJoinCode newest list store recipes (length out)) (length (directSearch list store recipes))
+      (sym (ap codeOf o ∙ code-of-answer (searchJoinCode newest list store recipes (length out)) (length (directSearch list store recipes))) ∙ j)
 
   claim-ordered : codeOf scan ≡ 0 → codeOf join ≡ 0 → inOrder (readList (valueOf join) after) ≡ true
   claim-ordered s j = ap inOrder (claim-found s j) ∙ scan-and-join list store recipes buffer out .search .ordered
@@ -227,7 +227,8 @@ demand-3 = record { calls = of-calls }
         → Calls list store recipes buffer out scan join buffer′ index out′ → Claim list store recipes buffer out scan join out′
     of-calls list store recipes buffer out scan join buffer′ index out′ c =
         let i : index ≡ scanned list store buffer = c .handed ∙ ap₂ (λ (a : Outcome) (b : List ℕ). take (valueOf a) b) (c .scanned) (c .wrote) in
-        let j : join ≡ joinOutcome form1 (scanned list store buffer) recipes (length out) =
-        c .joined ∙ ap (λ (x : List ℕ). joinOutcome form1 x recipes (length out)) i in
-        let o : out′ ≡ joinBuffer form1 (scanned list store buffer) recipes out = c .listed ∙ ap (λ (x : List ℕ). joinBuffer form1 x recipes out) i in
+        let j : join ≡ joinOutcome (formOf (scanned list store buffer)) (scanned list store buffer) recipes (length out) =
+        c .joined ∙ ap (λ (x : List ℕ). joinOutcome (formOf x) x recipes (length out)) i in
+        let o : out′ ≡ joinBuffer (formOf (scanned list store buffer)) (scanned list store buffer) recipes out =
+        c .listed ∙ ap (λ (x : List ℕ). joinBuffer (formOf x) x recipes out) i in
         rw (c .scanned, j, o) (claim-at list store recipes buffer out)

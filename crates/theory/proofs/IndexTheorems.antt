@@ -12,7 +12,8 @@ use Rattle.spec.specs.Bytes.{twice, AllBytes}
 use Rattle.spec.specs.Keywords.{keywordsOf, keywordCode}
 use Rattle.spec.specs.Directory.{sizeAt}
 use Rattle.spec.specs.Store.{chunkCount, mostChunks, storeKeys, chunkAt}
-use Rattle.spec.specs.Records.{Form, MatchRecord, ChunkRecords, bodyBytes, readBody, allInRange, goodBody}
+use Rattle.spec.specs.Form.{Form}
+use Rattle.spec.specs.Records.{MatchRecord, ChunkRecords, bodyBytes, readBody, allInRange, goodBody}
 use Rattle.spec.specs.Index.{Entry, indexBytes, listIn, indexLayout, indexKeys, bodyAt, lengthsIn, indexRecords, goodAt, indexCode, listBytesIn}
 use Rattle.spec.specs.Scan.{scanRecords, scanIndex, scanCode}
 use Rattle.theory.specs.RecordSets.{Said, nothing, entryFor, writtenIndex, Fitting, AllFitting, Says, saidIn, scannedRecords}
@@ -25,12 +26,13 @@ use Rattle.spec.proofs.WrittenEntries.{Fits, noEntry, Every, SizeIn}
 use Rattle.spec.proofs.IndexLaws.{Writable, index-length, index-mark, index-count, index-list, index-list-bytes, index-layout, index-keys}
 use Rattle.spec.proofs.IndexLaws.{index-lengths, index-size, index-body, index-entries}
 use Rattle.spec.proofs.IndexChecks.{IndexGood, index-good, index-passes, length-indexKeys}
+use Rattle.spec.proofs.Forms.{WriteForm}
 use Rattle.spec.proofs.ScanLaws.{ScanForm, scan-positive, scan-done-reads}
 use Rattle.spec.proofs.OneForm.{entryOf, checked-is-written}
 
 -- ---- theorem 3: written records read back as the same records
 
-module _ (f : Form) (form : ScanForm f) (list : List ℕ) (said : List Said) (fit : AllFitting f list said) where
+module _ (f : Form) (form : WriteForm f) (list : List ℕ) (said : List Said) (fit : AllFitting f list said) where
   abbrev entries : List Entry
   entries = map (entryFor f list) said
 

@@ -13,7 +13,7 @@ use Rattle.spec.specs.Bytes.{fieldAt, occursAt, sum, joined}
 use Rattle.spec.specs.Keywords.{flagOf, folded, foldedKeywords, keywordCode}
 use Rattle.spec.specs.Directory.{sizeAt}
 use Rattle.spec.specs.Store.{storeLayout, storeKeys}
-use Rattle.spec.specs.Records.{Form}
+use Rattle.spec.specs.Form.{Form}
 use Rattle.spec.specs.Recipes.{largest32, mostFiles, fileCount, readFiles, fileCode, filesCode, filesOf, recipesCode}
 use Rattle.spec.specs.Join.{Occurrence, keywordAt, occurrenceBytes, listBytes, innerLeast, readList}
 use Rattle.spec.specs.Search.{chunkNamed, restored, directSearch}

@@ -12,7 +12,7 @@ use Rattle.spec.specs.Bytes.{same, contains, twice, member, every, sum}
 use Rattle.spec.specs.Keywords.{countOf, listSize, foldedKeywords, readCode, headerWrong, keywordCode, keywordFrontCode}
 use Rattle.spec.specs.Directory.{Layout, directoryEnd, sizeAt, offsetAt, lengthAt, entriesCode}
 use Rattle.spec.specs.Store.{storeMark, storeLayout, chunkCount, mostChunks, storeKeys, storeCode}
-use Rattle.spec.specs.Records.{form1, newest}
+use Rattle.spec.specs.Form.{Form, newest, formOf}
 use Rattle.spec.specs.Index.{listIn, indexLayout, indexKeys, allGood, headerCode, directoryCode, laidCode, indexCode}
 use Rattle.spec.specs.Recipes.{largest32, mostFiles, fileCount, filesWhole, innerLong, sizesIn, filesOf, recipesCode, fileCode, filesCode}
 use Rattle.spec.specs.Join.{joinList, innerLeast, joinableCode, joinCode}
@@ -97,24 +97,24 @@ store-number store =
 abbrev ofIndex : List ℕ
 ofIndex = 0 ∷ 1 ∷ 2 ∷ 3 ∷ 4 ∷ 10 ∷ 11 ∷ 12 ∷ 13 ∷ []
 
-laid-number : (index : List ℕ) → member (laidCode form1 index) ofIndex ≡ true
+laid-number : (f : Form) (index : List ℕ) → member (laidCode f index) ofIndex ≡ true
 unfolding laidCode headerCode directoryCode
-laid-number index =
+laid-number f index =
     let c = chunkCount index in
     let end = directoryEnd (indexLayout index) c in
-    whole-in ofIndex (headerCode form1 index) _
-    (test-in ofIndex (ltb (length index) 8 || not (same (take 4 index) (form1 .mark)) || ltb mostChunks c) 10 0 refl refl)
+    whole-in ofIndex (headerCode f index) _
+    (test-in ofIndex (ltb (length index) 8 || not (same (take 4 index) (f .mark)) || ltb mostChunks c) 10 0 refl refl)
     (whole-in ofIndex (keywordFrontCode (listIn index)) _ (wider (keywordFrontCode (listIn index)) ofKeywords ofIndex refl (front-number (listIn index)))
-    (whole-in ofIndex (directoryCode form1 index) 0
+    (whole-in ofIndex (directoryCode f index) 0
     (test-in ofIndex (ltb (length index) end) 11 _ refl
-    (whole-in ofIndex (entriesCode (indexLayout index) index (form1 .longestChunk) 11 c 0 end) 0
-    (entries-number ofIndex 11 refl refl (indexLayout index) index (form1 .longestChunk) c 0 end) refl)) refl))
+    (whole-in ofIndex (entriesCode (indexLayout index) index (f .longestChunk) 11 c 0 end) 0
+    (entries-number ofIndex 11 refl refl (indexLayout index) index (f .longestChunk) c 0 end) refl)) refl))
 
-index-number : (index : List ℕ) → member (indexCode form1 index) ofIndex ≡ true
+index-number : (f : Form) (index : List ℕ) → member (indexCode f index) ofIndex ≡ true
 unfolding indexCode
-index-number index =
-    whole-in ofIndex (laidCode form1 index) _ (laid-number index)
-    (test-in ofIndex (twice (indexKeys index)) 12 _ refl (test-in ofIndex (not (allGood form1 index)) 13 0 refl refl))
+index-number f index =
+    whole-in ofIndex (laidCode f index) _ (laid-number f index)
+    (test-in ofIndex (twice (indexKeys index)) 12 _ refl (test-in ofIndex (not (allGood f index)) 13 0 refl refl))
 
 -- ---- recipes and files
 
@@ -146,10 +146,10 @@ module _ (keys : List (List ℕ)) (sizeOf : ℕ → ℕ) (least : ℕ) where
 abbrev ofScan : List ℕ
 ofScan = 0 ∷ 1 ∷ 2 ∷ 3 ∷ 4 ∷ 5 ∷ 6 ∷ 7 ∷ 8 ∷ 9 ∷ []
 
-scan-number : (list store : List ℕ) (room : ℕ) → member (scanCode form1 list store room) ofScan ≡ true
+scan-number : (f : Form) (list store : List ℕ) (room : ℕ) → member (scanCode f list store room) ofScan ≡ true
 unfolding scanCode scannableCode
-scan-number list store room =
-    let n = length (scanIndex form1 list store) in
+scan-number f list store room =
+    let n = length (scanIndex f list store) in
     whole-in ofScan (scannableCode list store) _
     (whole-in ofScan (keywordCode list) _ (wider (keywordCode list) ofKeywords ofScan refl (keyword-number list))
     (whole-in ofScan (storeCode store) 0 (wider (storeCode store) ofStore ofScan refl (store-number store)) refl))
@@ -158,31 +158,31 @@ scan-number list store room =
 abbrev ofJoin : List ℕ
 ofJoin = 0 ∷ 1 ∷ 2 ∷ 3 ∷ 4 ∷ 10 ∷ 11 ∷ 12 ∷ 13 ∷ 14 ∷ 15 ∷ 16 ∷ 17 ∷ 18 ∷ []
 
-join-number : (index recipes : List ℕ) (room : ℕ) → member (joinCode form1 index recipes room) ofJoin ≡ true
+join-number : (f : Form) (index recipes : List ℕ) (room : ℕ) → member (joinCode f index recipes room) ofJoin ≡ true
 unfolding joinCode joinableCode
-join-number index recipes room =
-    let files = filesCode (indexKeys index) (sizeAt (indexLayout index) index) (innerLeast form1 (listIn index)) (filesOf recipes) in
-    whole-in ofJoin (joinableCode form1 index recipes) _
-    (whole-in ofJoin (indexCode form1 index) _ (wider (indexCode form1 index) ofIndex ofJoin refl (index-number index))
+join-number f index recipes room =
+    let files = filesCode (indexKeys index) (sizeAt (indexLayout index) index) (innerLeast f (listIn index)) (filesOf recipes) in
+    whole-in ofJoin (joinableCode f index recipes) _
+    (whole-in ofJoin (indexCode f index) _ (wider (indexCode f index) ofIndex ofJoin refl (index-number f index))
     (whole-in ofJoin (recipesCode recipes) _ (wider (recipesCode recipes) ofFiles ofJoin refl (recipes-number recipes))
     (whole-in ofJoin files 0
     (wider files ofFiles ofJoin refl
-    (files-number (indexKeys index) (sizeAt (indexLayout index) index) (innerLeast form1 (listIn index)) (filesOf recipes))) refl)))
-    (test-in ofJoin (ltb room (9 * length (joinList form1 index recipes))) 18 0 refl refl)
+    (files-number (indexKeys index) (sizeAt (indexLayout index) index) (innerLeast f (listIn index)) (filesOf recipes))) refl)))
+    (test-in ofJoin (ltb room (9 * length (joinList f index recipes))) 18 0 refl refl)
 
 abbrev pub ofSearch : List ℕ
 ofSearch = 0 ∷ 1 ∷ 2 ∷ 3 ∷ 4 ∷ 5 ∷ 6 ∷ 7 ∷ 8 ∷ 9 ∷ 14 ∷ 15 ∷ 16 ∷ 17 ∷ 18 ∷ []
 
-search-number : (list store recipes : List ℕ) (indexRoom room : ℕ) → member (searchCode form1 list store recipes indexRoom room) ofSearch ≡ true
+search-number : (f : Form) (list store recipes : List ℕ) (indexRoom room : ℕ) → member (searchCode f list store recipes indexRoom room) ofSearch ≡ true
 unfolding searchCode searchJoinCode
-search-number list store recipes indexRoom room =
-    let files = filesCode (storeKeys store) (sizeAt storeLayout store) (innerLeast form1 list) (filesOf recipes) in
-    whole-in ofSearch (scanCode form1 list store indexRoom) _
-    (wider (scanCode form1 list store indexRoom) ofScan ofSearch refl (scan-number list store indexRoom))
-    (whole-in ofSearch (searchJoinCode form1 list store recipes room) 0
+search-number f list store recipes indexRoom room =
+    let files = filesCode (storeKeys store) (sizeAt storeLayout store) (innerLeast f list) (filesOf recipes) in
+    whole-in ofSearch (scanCode f list store indexRoom) _
+    (wider (scanCode f list store indexRoom) ofScan ofSearch refl (scan-number f list store indexRoom))
+    (whole-in ofSearch (searchJoinCode f list store recipes room) 0
     (whole-in ofSearch (recipesCode recipes) _ (wider (recipesCode recipes) ofFiles ofSearch refl (recipes-number recipes))
     (whole-in ofSearch files _
-    (wider files ofFiles ofSearch refl (files-number (storeKeys store) (sizeAt storeLayout store) (innerLeast form1 list) (filesOf recipes)))
+    (wider files ofFiles ofSearch refl (files-number (storeKeys store) (sizeAt storeLayout store) (innerLeast f list) (filesOf recipes)))
     (test-in ofSearch (ltb room (9 * length (directSearch list store recipes))) 18 0 refl refl))) refl)
 
 -- ---- the lookups
@@ -204,19 +204,19 @@ chunk-number store key =
 abbrev ofBody : List ℕ
 ofBody = 0 ∷ 1 ∷ 2 ∷ 3 ∷ 4 ∷ 10 ∷ 11 ∷ 12 ∷ 13 ∷ 15 ∷ 19 ∷ []
 
-body-number : (index key : List ℕ) → member (findBody form1 index key) ofBody ≡ true
+body-number : (f : Form) (index key : List ℕ) → member (findBody f index key) ofBody ≡ true
 unfolding findBody
-body-number index key =
-    lookup-number ofBody (indexCode form1 index) (indexKeys index) key (wider (indexCode form1 index) ofIndex ofBody refl (index-number index)) refl refl refl
+body-number f index key =
+    lookup-number ofBody (indexCode f index) (indexKeys index) key (wider (indexCode f index) ofIndex ofBody refl (index-number f index)) refl refl refl
 
 pub numbers : Numbers
 numbers = record {
   keywords = keyword-number;
   store = store-number;
-  scan = scan-number;
-  index = index-number;
-  join = join-number;
-  search = search-number;
+  scan = scan-number newest;
+  index = λ index. index-number (formOf index) index;
+  join = λ index. join-number (formOf index) index;
+  search = search-number newest;
   chunk = chunk-number;
-  body = body-number;
+  body = λ index. body-number (formOf index) index;
 }

@@ -16,7 +16,7 @@ use Rattle.spec.specs.Outcome.{firstOf, firstCode, whole, codeOf, valueOf, answ
 use Rattle.spec.specs.Keywords.{flagOf, folded, foldedKeywords}
 use Rattle.spec.specs.Directory.{Layout, pointedAt, sizeAt}
 use Rattle.spec.specs.Store.{Chunk, storeLayout, chunkCount, storeKeys, chunkAt, storeCode}
-use Rattle.spec.specs.Records.{Form, form1}
+use Rattle.spec.specs.Form.{Form, newest, formOf}
 use Rattle.spec.specs.Index.{Entry, indexBytes, indexLayout, indexKeys, bodyAt, indexCode}
 use Rattle.spec.specs.Recipes.{sizesIn, fileCode, filesCode, filesOf, recipesCode}
 use Rattle.spec.specs.Join.{Occurrence, listBytes, innerLeast, joinOutcome, joinBuffer, readList}
@@ -29,19 +29,19 @@ use Rattle.spec.proofs.Same.{same-eq}
 use Rattle.spec.proofs.Fields.{length-leBytes}
 use Rattle.spec.proofs.EntryLaws.{contains-position, position-of, contains-at, position-at}
 use Rattle.spec.proofs.LookupLaws.{lookup-passed}
-use Rattle.spec.proofs.FileLaws.{every-at, file-accepted, files-cons}
+use Rattle.spec.proofs.FileLaws.{every-at, map-same, file-accepted, files-cons}
 use Rattle.spec.proofs.StoreLaws.{StoreGood, store-good, length-storeKeys, store-key-length, store-size-most, chunk-length}
 use Rattle.spec.proofs.WrittenEntries.{bodiesOf, Fits, noEntry, Every, length-directory}
-use Rattle.spec.proofs.ScanLaws.{ScanReads, form1-scans, scan-done-reads}
+use Rattle.spec.proofs.ScanLaws.{ScanReads, newest-scans, scan-done-reads}
 use Rattle.spec.proofs.Tabulated.{tabulated, length-tabulated, tabulated-at, tabulated-getD, tabulated-same, map-tabulated}
 use Rattle.theory.specs.Cases.{store as vault, fingerprint, oneChunk}
 use Rattle.theory.specs.Demand3.{scanned}
 use Rattle.theory.specs.SameChunks.{among, heldBy, sameChunks, smallReordered, AnswerAlike, SameChunks}
 use Rattle.theory.specs.WrittenInputs.{storedChunk, storedChunks}
 use Rattle.theory.proofs.AnyOrder.{weigh, weigh-le, weigh-same, weigh-one}
-use Rattle.theory.proofs.ScanThenJoin.{map-same, position-in, answer-same, buffer-same}
+use Rattle.theory.proofs.ScanThenJoin.{position-in, answer-same, buffer-same}
 use Rattle.theory.proofs.Cases.{definitions}
-use Rattle.theory.proofs.Demand3.{code-of-answer, join-outcome, join-buffer, scanned-is, join-of-scan}
+use Rattle.theory.proofs.Demand3.{code-of-answer, join-outcome, join-buffer, scanned-is, scanned-form, join-of-scan}
 
 -- ---- a fingerprint stands for the same bytes in both stores
 
@@ -259,7 +259,7 @@ module _ (store other : List ℕ) (a : Alike store other) where
   module _ (m : ℕ) where
     same-sizes : (file : List (List ℕ)) → every (knows store) file ≡ true
         → sizesIn (storeKeys store) (sizeAt storeLayout store) file ≡ sizesIn (storeKeys other) (sizeAt storeLayout other) file
-    same-sizes file e = map-same (knows store) _ _ file e same-size
+    same-sizes file e = map-same (knows store) _ _ [] file e same-size
 
     same-file : (file : List (List ℕ)) → fileTest store m file ≡ fileTest other m file
     unfolding fileCode
@@ -280,7 +280,7 @@ module _ (store other : List ℕ) (a : Alike store other) where
 
     same-text : (file : List (List ℕ)) → every (knows store) file ≡ true → restored store file ≡ restored other file
     unfolding restored
-    same-text file e = ap joined (map-same (knows store) (chunkNamed store) (chunkNamed other) file e (a .named))
+    same-text file e = ap joined (map-same (knows store) (chunkNamed store) (chunkNamed other) [] file e (a .named))
 
     same-texts : (flag : ℕ) (files : List (List (List ℕ))) → filesTest store m files ≡ 0
         → map (λ file. folded flag (restored store file)) files ≡ map (λ file. folded flag (restored other file)) files
@@ -364,47 +364,54 @@ module _ (store other : List ℕ) (a : Alike store other) where
 
   -- ---- joins, of two indexes that scans wrote in full
 
-  module _ (list buffer buffer₂ : List ℕ) (e : scanCode form1 list store (length buffer) ≡ 0) (e₂ : scanCode form1 list other (length buffer₂) ≡ 0) where
+  module _ (list buffer buffer₂ : List ℕ) (e : scanCode newest list store (length buffer) ≡ 0) (e₂ : scanCode newest list other (length buffer₂) ≡ 0) where
     abbrev index : List ℕ
     index = scanned list store buffer
 
     abbrev otherIndex : List ℕ
     otherIndex = scanned list other buffer₂
 
-    reads : ScanReads form1 list store index
-    reads = rw (scanned-is list store buffer e) (scan-done-reads form1 form1-scans list store (length buffer) e)
+    form : formOf index ≡ newest
+    form = scanned-form list store buffer e
 
-    other-reads : ScanReads form1 list other otherIndex
-    other-reads = rw (scanned-is list other buffer₂ e₂) (scan-done-reads form1 form1-scans list other (length buffer₂) e₂)
+    other-form : formOf otherIndex ≡ newest
+    other-form = scanned-form list other buffer₂ e₂
 
-    pub same-chunks-join : (recipes : List ℕ) (room : ℕ) → joinOutcome form1 index recipes room ≡ joinOutcome form1 otherIndex recipes room
+    reads : ScanReads newest list store index
+    reads = rw (scanned-is list store buffer e) (scan-done-reads newest newest-scans list store (length buffer) e)
+
+    other-reads : ScanReads newest list other otherIndex
+    other-reads = rw (scanned-is list other buffer₂ e₂) (scan-done-reads newest newest-scans list other (length buffer₂) e₂)
+
+    pub same-chunks-join : (recipes : List ℕ) (room : ℕ)
+        → joinOutcome (formOf index) index recipes room ≡ joinOutcome (formOf otherIndex) otherIndex recipes room
     same-chunks-join recipes room =
         join-outcome list store (length buffer) e index recipes room (scanned-is list store buffer e)
-        ∙ answer-same _ _ _ _ (same-join-code form1 list recipes room) (λ z. ap length (same-list-back form1 list recipes room z))
+        ∙ answer-same _ _ _ _ (same-join-code newest list recipes room) (λ z. ap length (same-list-back newest list recipes room z))
         ∙ sym (join-outcome list other (length buffer₂) e₂ otherIndex recipes room (scanned-is list other buffer₂ e₂))
 
-    pub same-chunks-join-buffer : (recipes out : List ℕ) → joinBuffer form1 index recipes out ≡ joinBuffer form1 otherIndex recipes out
+    pub same-chunks-join-buffer : (recipes out : List ℕ) → joinBuffer (formOf index) index recipes out ≡ joinBuffer (formOf otherIndex) otherIndex recipes out
     same-chunks-join-buffer recipes out =
         join-buffer list store (length buffer) e index recipes out (scanned-is list store buffer e)
-        ∙ buffer-same _ _ _ _ out (same-join-code form1 list recipes (length out))
-        (λ z. ap (λ (l : List Occurrence). written out (listBytes l)) (same-list-back form1 list recipes (length out) z))
+        ∙ buffer-same _ _ _ _ out (same-join-code newest list recipes (length out))
+        (λ z. ap (λ (l : List Occurrence). written out (listBytes l)) (same-list-back newest list recipes (length out) z))
         ∙ sym (join-buffer list other (length buffer₂) e₂ otherIndex recipes out (scanned-is list other buffer₂ e₂))
 
-    pub same-chunks-list : (recipes out out₂ : List ℕ) → length out ≡ length out₂ → codeOf (joinOutcome form1 index recipes (length out)) ≡ 0
-        → readList (valueOf (joinOutcome form1 index recipes (length out))) (joinBuffer form1 index recipes out)
-        ≡ readList (valueOf (joinOutcome form1 otherIndex recipes (length out₂))) (joinBuffer form1 otherIndex recipes out₂)
+    pub same-chunks-list : (recipes out out₂ : List ℕ) → length out ≡ length out₂ → codeOf (joinOutcome (formOf index) index recipes (length out)) ≡ 0
+        → readList (valueOf (joinOutcome (formOf index) index recipes (length out))) (joinBuffer (formOf index) index recipes out)
+        ≡ readList (valueOf (joinOutcome (formOf otherIndex) otherIndex recipes (length out₂))) (joinBuffer (formOf otherIndex) otherIndex recipes out₂)
     same-chunks-list recipes out out₂ l z =
-        let s = join-of-scan list store recipes buffer out e in
-        let t = join-of-scan list other recipes buffer₂ out₂ e₂ in
-        let o : joinOutcome form1 index recipes (length out) ≡ joinOutcome form1 otherIndex recipes (length out₂) =
-        same-chunks-join recipes (length out) ∙ ap (joinOutcome form1 otherIndex recipes) l in
-        s .listed z ∙ same-search (innerLeast form1 list) list recipes (s .done .0 z .1) ∙ sym (t .listed (ap codeOf (sym o) ∙ z))
+        let s = join-of-scan list store (length buffer) e recipes index out (scanned-is list store buffer e) in
+        let t = join-of-scan list other (length buffer₂) e₂ recipes otherIndex out₂ (scanned-is list other buffer₂ e₂) in
+        let o : joinOutcome (formOf index) index recipes (length out) ≡ joinOutcome (formOf otherIndex) otherIndex recipes (length out₂) =
+        same-chunks-join recipes (length out) ∙ ap (joinOutcome (formOf otherIndex) otherIndex recipes) l in
+        s .listed z ∙ same-search (innerLeast newest list) list recipes (s .done .0 z .1) ∙ sym (t .listed (ap codeOf (sym o) ∙ z))
 
     pub answer-alike : AnswerAlike index otherIndex
     answer-alike =
         record {
-          find = same-find-body form1 list index otherIndex reads other-reads;
-          body = same-body form1 list index otherIndex reads other-reads;
+          find = λ key. rw (form, other-form) (same-find-body newest list index otherIndex reads other-reads key);
+          body = λ key. rw (form, other-form) (same-body newest list index otherIndex reads other-reads key);
           outcome = same-chunks-join;
           bytes = same-chunks-join-buffer;
           listed = same-chunks-list;
@@ -412,9 +419,9 @@ module _ (store other : List ℕ) (a : Alike store other) where
 
 -- ---- the claim
 
-scan-number : (list store : List ℕ) (room : ℕ) → codeOf (scanOutcome form1 list store room) ≡ scanCode form1 list store room
+scan-number : (list store : List ℕ) (room : ℕ) → codeOf (scanOutcome newest list store room) ≡ scanCode newest list store room
 unfolding scanOutcome
-scan-number list store room = code-of-answer (scanCode form1 list store room) (length (scanIndex form1 list store))
+scan-number list store room = code-of-answer (scanCode newest list store room) (length (scanIndex newest list store))
 
 -- Request #101: two accepted stores that hold the same fingerprints with the same bytes, in any two orders.
 pub same-chunks : (list store other : List ℕ) → storeCode store ≡ 0 → storeCode other ≡ 0 → sameChunks store other ≡ true → SameChunks list store other
@@ -425,18 +432,18 @@ same-chunks list store other p q s =
       find = same-find store other a;
       chunk = same-chunk store other a;
       count = same-count store other a;
-      scan = λ room. ap₂ answer (same-scan-code store other a form1 list room) (same-index-length store other a form1 list);
+      scan = λ room. ap₂ answer (same-scan-code store other a newest list room) (same-index-length store other a newest list);
       indexes = λ buffer buffer₂ e e₂.
           answer-alike store other a list buffer buffer₂
           (sym (scan-number list store (length buffer)) ∙ e)
           (sym (scan-number list other (length buffer₂)) ∙ e₂);
       search = λ indexRoom indexRoom₂ e.
-          let c : scanCode form1 list store indexRoom ≡ scanCode form1 list other indexRoom₂ =
+          let c : scanCode newest list store indexRoom ≡ scanCode newest list other indexRoom₂ =
           sym (scan-number list store indexRoom) ∙ e ∙ scan-number list other indexRoom₂ in
           record {
-            outcome = λ recipes room. same-chunks-search store other a form1 list recipes room indexRoom indexRoom₂ c;
-            bytes = λ recipes out. same-chunks-search-buffer store other a form1 list recipes out indexRoom indexRoom₂ c;
-            listed = λ recipes room. same-chunks-direct store other a form1 list recipes room indexRoom indexRoom₂ c;
+            outcome = λ recipes room. same-chunks-search store other a newest list recipes room indexRoom indexRoom₂ c;
+            bytes = λ recipes out. same-chunks-search-buffer store other a newest list recipes out indexRoom indexRoom₂ c;
+            listed = λ recipes room. same-chunks-direct store other a newest list recipes room indexRoom indexRoom₂ c;
           };
     }
 

@@ -1,6 +1,6 @@
 -- A join of the index that a scan wrote answers what the store says: its tests 15 to 17 read the store's fingerprints and lengths, and where they
 -- pass, its list is the direct search (theorem 1). Where one refuses the lists may differ, but the number is decided before. Assumes nothing.
-use mathlib.Core.Path.{_≡_, refl, sym, ap, ap₂, _∙_}
+use mathlib.Core.Path.{_≡_, refl, sym, ap, _∙_}
 use mathlib.Core.Logic.{_⊎_, inl, inr}
 use mathlib.Core.Bool.{Bool, true, false, not}
 use mathlib.Core.List.{List, [], _∷_, map, map-map}
@@ -14,27 +14,22 @@ use Rattle.spec.specs.Outcome.{firstOf, firstCode, whole, answer, unlessRefused
 use Rattle.spec.specs.Keywords.{flagOf, folded, keywordsOf, foldedKeywords, keywordCode}
 use Rattle.spec.specs.Directory.{sizeAt}
 use Rattle.spec.specs.Store.{storeLayout, chunkCount, storeKeys}
-use Rattle.spec.specs.Records.{Form}
+use Rattle.spec.specs.Form.{Form}
 use Rattle.spec.specs.Index.{listIn, indexLayout, indexKeys}
 use Rattle.spec.specs.Recipes.{largest32, innerLong, sizesIn, fileCode, filesCode, filesOf, recipesCode}
 use Rattle.spec.specs.Join.{Occurrence, fileRecords, joinList, listBytes, innerLeast, joinableCode, joinCode, joinOutcome, joinBuffer}
 use Rattle.spec.specs.Scan.{scanRecords}
 use Rattle.spec.specs.Search.{chunkNamed, restored, directSearch, searchJoinCode, occurrencesInAll}
-use Rattle.spec.proofs.Tests.{bool-cases, and-left, and-right}
+use Rattle.spec.proofs.Tests.{bool-cases}
 use Rattle.spec.proofs.Codes.{passed, passed-whole, passed-code}
 use Rattle.spec.proofs.EntryLaws.{contains-position}
-use Rattle.spec.proofs.FileLaws.{FileAccepted, file-accepted}
+use Rattle.spec.proofs.Tabulated.{map-match}
+use Rattle.spec.proofs.FileLaws.{FileAccepted, file-accepted, map-same}
 use Rattle.spec.proofs.KeywordLaws.{Accepted, accepted, keyword-front}
 use Rattle.spec.proofs.JoinIsSearch.{noneEmpty, scan-join-is-search}
 use Rattle.spec.proofs.ScanLaws.{ScanReads}
 
 -- ---- lists
-
--- what is the same where a test passes is the same of a list that passes
-pub map-same : {A B : Type 0} (p : A → Bool) (f g : A → B) (l : List A) → every p l ≡ true → ((x : A) → p x ≡ true → f x ≡ g x) → map f l ≡ map g l
-map-same p f g [] e h = refl
-map-same {B = B} p f g (x ∷ l) e h =
-    ap₂ {C = List B} (λ a as′. a ∷ as′) (h x (and-left (p x) (every p l) e)) (map-same p f g l (and-right (p x) (every p l) e) h)
 
 pub none-empty : (keywords : List (List ℕ)) → ((k : ℕ) → k < length keywords → 1 ≤ length (getD keywords k [])) → noneEmpty keywords ≡ true
 none-empty [] h = refl
@@ -64,7 +59,7 @@ position-in keys key e = ltb-true (positionOf key keys) (length keys) (sym (cont
 
 module _ (keys : List (List ℕ)) (s t : ℕ → ℕ) (m : ℕ) (h : (k : ℕ) → k < length keys → s k ≡ t k) where
   sizes-same : (file : List (List ℕ)) → every (λ key. contains key keys) file ≡ true → sizesIn keys s file ≡ sizesIn keys t file
-  sizes-same file e = map-same (λ key. contains key keys) _ _ file e (λ key c. h (positionOf key keys) (position-in keys key c))
+  sizes-same file e = map-same (λ key. contains key keys) _ _ [] file e (λ key c. h (positionOf key keys) (position-in keys key c))
 
   file-same : (file : List (List ℕ)) → fileCode keys s m file ≡ fileCode keys t m file
   unfolding fileCode
@@ -75,8 +70,7 @@ module _ (keys : List (List ℕ)) (s t : ℕ → ℕ) (m : ℕ) (h : (k : ℕ) �
       go (inr e) = rw e
 
   codes-same : (files : List (List (List ℕ))) → map (fileCode keys s m) files ≡ map (fileCode keys t m) files
-  codes-same [] = refl
-  codes-same (file ∷ files) = rw (file-same file, codes-same files)
+  codes-same files = map-match _ _ [] files (λ k u. file-same (getD files k []))
 
   files-same : (files : List (List (List ℕ))) → filesCode keys s m files ≡ filesCode keys t m files
   unfolding filesCode
@@ -103,14 +97,14 @@ module _ (f : Form) (plain : f .sets ≡ false) (list store index : List ℕ) (a
   unfolding fileRecords
   file-records file e =
       rw (reads .keys)
-      (map-same (λ key. contains key (storeKeys store)) _ _ file e (λ key c. reads .records (positionOf key (storeKeys store)) (in-store key c))
+      (map-same (λ key. contains key (storeKeys store)) _ _ [] file e (λ key c. reads .records (positionOf key (storeKeys store)) (in-store key c))
       ∙ sym (map-map (scanRecords list) (chunkNamed store) file))
 
   pub file-lengths : (file : List (List ℕ)) → every (λ key. contains key (storeKeys store)) file ≡ true
       → map length (chunksNamed file) ≡ sizesIn (storeKeys store) (sizeAt storeLayout store) file
   file-lengths file e =
       map-map length (chunkNamed store) file
-      ∙ map-same (λ key. contains key (storeKeys store)) _ _ file e (λ key c. reads .chunks (positionOf key (storeKeys store)) (in-store key c))
+      ∙ map-same (λ key. contains key (storeKeys store)) _ _ [] file e (λ key c. reads .chunks (positionOf key (storeKeys store)) (in-store key c))
 
   all-records : (files : List (List (List ℕ))) → storeFilesCode files ≡ 0
       → map (fileRecords f index) files ≡ map (map (scanRecords list)) (map chunksNamed files)

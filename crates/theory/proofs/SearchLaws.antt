@@ -11,7 +11,7 @@ use Rattle.spec.specs.declared.Outcome.{Outcome}
 use Rattle.spec.specs.declared.Outcome.the-variants.{Done, Refused}
 use Rattle.spec.specs.declared.Searched.the-variants.{ScanRefused, JoinRefused, Found}
 use Rattle.spec.specs.Outcome.{firstOf, whole, codeOf, valueOf, answer, unlessRefused}
-use Rattle.spec.specs.Records.{form1}
+use Rattle.spec.specs.Form.{newest, formOf}
 use Rattle.spec.specs.Join.{joinOutcome, joinBuffer}
 use Rattle.spec.specs.Scan.{scanIndex, scanCode, scanOutcome, scanBuffer}
 use Rattle.spec.specs.Search.{directSearch, searchJoinCode, searchCode, searchOutcome, searchBuffer}
@@ -40,57 +40,61 @@ refused-some (suc code) value c e z = omega arith
 -- ---- the search
 
 module _ (list store recipes buffer out : List ℕ) where
-  pub search-scan-refused : (c : ℕ) → scanOutcome form1 list store (length buffer) ≡ Refused c
-      → (ScanRefused c ≡ searchOutcome form1 list store recipes (length buffer) (length out))
-      × (out ≡ searchBuffer form1 list store recipes (length buffer) out)
+  pub search-scan-refused : (c : ℕ) → scanOutcome newest list store (length buffer) ≡ Refused c
+      → (ScanRefused c ≡ searchOutcome newest list store recipes (length buffer) (length out))
+      × (out ≡ searchBuffer newest list store recipes (length buffer) out)
   unfolding scanOutcome searchOutcome searchBuffer searchCode unlessRefused
   search-scan-refused c e =
-      let code : ℕ = scanCode form1 list store (length buffer) in
-      let p : code ≡ c = refused-code code (length (scanIndex form1 list store)) c e in
-      let q : code ≢ 0 = refused-some code (length (scanIndex form1 list store)) c e in
+      let code : ℕ = scanCode newest list store (length buffer) in
+      let p : code ≡ c = refused-code code (length (scanIndex newest list store)) c e in
+      let q : code ≢ 0 = refused-some code (length (scanIndex newest list store)) c e in
       (rw (ne-eqb code 0 q, p), rw (lt-ltb 0 code (omega arith), ne-eqb code 0 q))
 
   -- the scan did its work and reported n bytes
-  module _ (n : ℕ) (e : scanOutcome form1 list store (length buffer) ≡ Done n) where
-    pub scan-code : scanCode form1 list store (length buffer) ≡ 0
+  module _ (n : ℕ) (e : scanOutcome newest list store (length buffer) ≡ Done n) where
+    pub scan-code : scanCode newest list store (length buffer) ≡ 0
     unfolding scanOutcome
-    scan-code = done-code (scanCode form1 list store (length buffer)) (length (scanIndex form1 list store)) n e
+    scan-code = done-code (scanCode newest list store (length buffer)) (length (scanIndex newest list store)) n e
 
-    pub scan-length : length (scanIndex form1 list store) ≡ n
+    pub scan-length : length (scanIndex newest list store) ≡ n
     unfolding scanOutcome
-    scan-length = done-value (scanCode form1 list store (length buffer)) (length (scanIndex form1 list store)) n e
+    scan-length = done-value (scanCode newest list store (length buffer)) (length (scanIndex newest list store)) n e
 
     -- its first n bytes are the index
-    pub scanned-front : take n (scanBuffer form1 list store buffer) ≡ scanIndex form1 list store
+    pub scanned-front : take n (scanBuffer newest list store buffer) ≡ scanIndex newest list store
     scanned-front =
-        ap (λ (o : Outcome). take (valueOf o) (scanBuffer form1 list store buffer)) (sym e)
+        ap (λ (o : Outcome). take (valueOf o) (scanBuffer newest list store buffer)) (sym e)
         ∙ scanned-is list store buffer scan-code
 
-    answered : joinOutcome form1 (take n (scanBuffer form1 list store buffer)) recipes (length out)
-        ≡ answer (searchJoinCode form1 list store recipes (length out)) (length (directSearch list store recipes))
-    answered = join-outcome list store (length buffer) scan-code (take n (scanBuffer form1 list store buffer)) recipes (length out) scanned-front
+    -- what it wrote: the first n bytes of its buffer
+    abbrev index : List ℕ
+    index = take n (scanBuffer newest list store buffer)
 
-    pub search-join-refused : (c : ℕ) → joinOutcome form1 (take n (scanBuffer form1 list store buffer)) recipes (length out) ≡ Refused c
-        → JoinRefused n c ≡ searchOutcome form1 list store recipes (length buffer) (length out)
+    answered : joinOutcome (formOf index) index recipes (length out)
+        ≡ answer (searchJoinCode newest list store recipes (length out)) (length (directSearch list store recipes))
+    answered = join-outcome list store (length buffer) scan-code index recipes (length out) scanned-front
+
+    pub search-join-refused : (c : ℕ) → joinOutcome (formOf index) index recipes (length out) ≡ Refused c
+        → JoinRefused n c ≡ searchOutcome newest list store recipes (length buffer) (length out)
     unfolding searchOutcome
     search-join-refused c f =
-        let code : ℕ = searchJoinCode form1 list store recipes (length out) in
+        let code : ℕ = searchJoinCode newest list store recipes (length out) in
         let count : ℕ = length (directSearch list store recipes) in
         let g : answer code count ≡ Refused c = sym answered ∙ f in
         let p : code ≡ c = refused-code code count c g in
         let q : code ≢ 0 = refused-some code count c g in
         rw (scan-code, ne-eqb code 0 q, p, scan-length)
 
-    pub search-found : (m : ℕ) → joinOutcome form1 (take n (scanBuffer form1 list store buffer)) recipes (length out) ≡ Done m
-        → Found n m ≡ searchOutcome form1 list store recipes (length buffer) (length out)
+    pub search-found : (m : ℕ) → joinOutcome (formOf index) index recipes (length out) ≡ Done m
+        → Found n m ≡ searchOutcome newest list store recipes (length buffer) (length out)
     unfolding searchOutcome
     search-found m f =
-        let g : answer (searchJoinCode form1 list store recipes (length out)) (length (directSearch list store recipes)) ≡ Done m = sym answered ∙ f in
+        let g : answer (searchJoinCode newest list store recipes (length out)) (length (directSearch list store recipes)) ≡ Done m = sym answered ∙ f in
         rw (
           scan-code,
-          done-code (searchJoinCode form1 list store recipes (length out)) (length (directSearch list store recipes)) m g,
+          done-code (searchJoinCode newest list store recipes (length out)) (length (directSearch list store recipes)) m g,
           scan-length,
-          done-value (searchJoinCode form1 list store recipes (length out)) (length (directSearch list store recipes)) m g,
+          done-value (searchJoinCode newest list store recipes (length out)) (length (directSearch list store recipes)) m g,
         )
 
     last-code : (c : ℕ) → firstOf (whole 0 ∷ whole c ∷ []) ≡ c
@@ -98,8 +102,8 @@ module _ (list store recipes buffer out : List ℕ) where
     last-code (suc c) = rw (lt-ltb 0 (suc c) (omega arith))
 
     -- whatever the join answers, its buffer is the search's
-    pub search-list : joinBuffer form1 (take n (scanBuffer form1 list store buffer)) recipes out ≡ searchBuffer form1 list store recipes (length buffer) out
+    pub search-list : joinBuffer (formOf index) index recipes out ≡ searchBuffer newest list store recipes (length buffer) out
     unfolding searchBuffer searchCode
     search-list =
-        join-buffer list store (length buffer) scan-code (take n (scanBuffer form1 list store buffer)) recipes out scanned-front
-        ∙ rw (scan-code, last-code (searchJoinCode form1 list store recipes (length out)))
+        join-buffer list store (length buffer) scan-code index recipes out scanned-front
+        ∙ rw (scan-code, last-code (searchJoinCode newest list store recipes (length out)))

@@ -14,7 +14,8 @@ use borrow.Author.Tests.{eqb-true, ltb-true, leb-true, lt-ltb, le-ltb, le-leb, l
 use Rattle.spec.specs.Bytes.{occursAt, each, keep}
 use Rattle.spec.specs.Keywords.{flagOf, folded, foldedKeywords}
 use Rattle.spec.specs.Recipes.{filesOf}
-use Rattle.spec.specs.Records.{Form, ChunkRecords}
+use Rattle.spec.specs.Form.{Form}
+use Rattle.spec.specs.Records.{ChunkRecords}
 use Rattle.spec.specs.Index.{listIn}
 use Rattle.spec.specs.Join.{Occurrence, keywordAt, occurrencesAt, listed, joinFrom, joinFiles, fileRecords, joinList}
 use Rattle.spec.specs.Search.{occurrencesIn, occurrencesInAll, restored, directSearch}

@@ -1,6 +1,6 @@
 -- The index that is written for records that fit is a list of bytes: so theorem 3's one written form is one that a file can have.
 -- Assumes nothing.
-use mathlib.Core.Path.{_≡_}
+use mathlib.Core.Path.{_≡_, refl, subst}
 use mathlib.Core.Bool.{Bool, true, false, _&&_, cond}
 use mathlib.Core.List.{List, [], _∷_, _++_, map}
 use Prim.Native.Nat.{ℕ, zero, suc, _+_, _*_, _/_, _≤_, _<_, min}
@@ -10,16 +10,18 @@ use lib.Dec.{leb, eqb}
 use lib.ListN.{length, getD, length-map}
 use Rattle.spec.specs.Bytes.{leBytes, fieldsBytes, AllBytes}
 use Rattle.spec.specs.Keywords.{keywordsOf, keywordCode}
-use Rattle.spec.specs.Records.{Form, form1, MatchRecord, reach, isEmpty, isTiny, inRange, kindOf, offsetsBytes, fullBytes, tinyBytes, recordBytes}
+use Rattle.spec.specs.Form.{Form, form1, newest, formatOf, formIn}
+use Rattle.spec.specs.Records.{MatchRecord, reach, isEmpty, isTiny, inRange, kindOf, offsetsBytes, fullBytes, tinyBytes, recordBytes}
 use Rattle.spec.specs.Records.{bodyFrom, allInRange, headBytes}
 use Rattle.spec.specs.Index.{directoryBytes, indexBytes, entryBytes}
 use Rattle.spec.proofs.Tests.{cond-elim, and-left, and-right}
 use Rattle.spec.proofs.JoinIsSearch.{getD-map}
 use Rattle.spec.proofs.KeywordLaws.{accepted, keyword-front}
 use Rattle.spec.proofs.RecordLaws.{prefix-in, suffix-in, le-of}
-use Rattle.spec.proofs.ScanLaws.{form1-scans}
+use Rattle.spec.proofs.Forms.{FormRead, WriteForm, form-read, form1-of, newest-of, form-writes}
+use Rattle.spec.proofs.IndexLaws.{mark-first}
 use Rattle.spec.proofs.WrittenEntries.{bodiesOf}
-use Rattle.theory.specs.RecordSets.{Said, nothing, entryFor, writtenIndex, Fitting, AllFitting, Says, WrittenOnce}
+use Rattle.theory.specs.RecordSets.{Said, nothing, entryFor, writtenIndex, Fitting, AllFitting, Says, IndexForm, WrittenOnce}
 use Rattle.theory.proofs.IndexTheorems.{records-read-back, one-index-form}
 
 -- ---- bytes put together
@@ -65,11 +67,15 @@ pub record ByteForm (f : Form) : Type 0 where
   pub marked : AllBytes (f .mark)
   pub tiny : (n p s : ℕ) → n ≤ 32 → p ≤ f .tinyMost n → s ≤ f .tinyMost n → p + f .tinyStep * s < 256
 
-mark1-bytes : Bytes (form1 .mark)
-mark1-bytes = bytes-cons (omega arith) (bytes-cons (omega arith) (bytes-cons (omega arith) (bytes-cons (omega arith) bytes-nil)))
+-- so they are in every form that a format says, and a reader asks that of a form
+said-bytes : (f : Form) → getD (f .mark) 2 0 < 256 → ByteForm (formIn (formatOf f))
+said-bytes f h = record { marked = mark .below; tiny = λ n p s l a b. omega arith }
+  where
+    mark : Bytes (formIn (formatOf f) .mark)
+    mark = bytes-cons (omega arith) (bytes-cons (omega arith) (bytes-cons (omega arith) (bytes-cons (omega arith) bytes-nil)))
 
-pub form1-bytes : ByteForm form1
-form1-bytes = record { marked = mark1-bytes .below; tiny = λ n p s h a b. omega arith }
+read-bytes : (f : Form) → FormRead f → ByteForm f
+read-bytes f read = subst ByteForm (read .said) (said-bytes f (read .digit))
 
 bytes-offsets : (f : Form) (offsets : List ℕ) → Bytes (offsetsBytes f offsets)
 unfolding offsetsBytes
@@ -166,13 +172,27 @@ written-is-bytes f form list said fit b keys =
     (bytes-directory f form list (fit .accepted) (8 + length list + 32 * length entries) said keys))
     (bytes-bodies f form list (fit .accepted) said (fit .each)) .below
 
--- ---- demand 2, second half, on the form that document 01 gives
+-- ---- demand 2, second half, in every form that a mark names
 
-pub written-once : (list : List ℕ) (said : List Said) → AllFitting form1 list said → AllBytes list
-    → ((k : ℕ) → k < length said → AllBytes (getD said k nothing .key)) → WrittenOnce list said
-written-once list said fit b keys =
+-- document 01's form and the newest are among them
+pub form1-named : IndexForm form1
+form1-named = record { index = form1 .mark; named = form1-of (form1 .mark) refl }
+
+pub newest-named : IndexForm newest
+newest-named = record { index = newest .mark; named = newest-of (newest .mark) refl }
+
+pub named-read : (f : Form) → IndexForm f → FormRead f
+named-read f i = subst FormRead (i .named) (form-read (i .index))
+
+pub written-once : (f : Form) → IndexForm f → (list : List ℕ) (said : List Said) → AllFitting f list said → AllBytes list
+    → ((k : ℕ) → k < length said → AllBytes (getD said k nothing .key)) → WrittenOnce f list said
+unfolding writtenIndex
+written-once f i list said fit b keys =
+    let read : FormRead f = named-read f i in
+    let writes : WriteForm f = form-writes f read in
     record {
-      says = records-read-back form1 form1-scans list said fit;
-      bytes = written-is-bytes form1 form1-bytes list said fit b keys;
-      only = λ index c s. one-index-form form1 list said index s c;
+      marked = read .named (writtenIndex f list said) (mark-first f list (map (entryFor f list) said) (writes .marked));
+      says = records-read-back f writes list said fit;
+      bytes = written-is-bytes f (read-bytes f read) list said fit b keys;
+      only = λ index c s. one-index-form f list said index s c;
     }

@@ -14,7 +14,8 @@ use Rattle.spec.specs.Recipes.{recipesBytes, largest32}
 use Rattle.spec.specs.Search.{chunkNamed, restored, occurrencesInAll, directSearch}
 use Rattle.spec.proofs.Tests.{bool-cases}
 use Rattle.theory.specs.WrittenInputs.{fileFits, chunksFit, bytesUnder, allNamed, WrittenInputs}
-use Rattle.theory.proofs.ScanThenJoin.{map-same, position-in}
+use Rattle.spec.proofs.FileLaws.{map-same}
+use Rattle.theory.proofs.ScanThenJoin.{position-in}
 use Rattle.theory.proofs.WrittenKeywords.{keyword-list-reads, written-keywords}
 use Rattle.theory.proofs.WrittenStores.{keysUnder, chunksUnder, store-read, written-stores}
 use Rattle.theory.proofs.WrittenRecipes.{recipes-read, written-recipes}
@@ -35,7 +36,7 @@ module _ (chunks : List Chunk) (fits : chunksFit chunks ≡ true) where
   restored-is : (file : List (List ℕ)) → every (λ key. contains key (keysUnder chunks)) file ≡ true
       → restored (storeBytes chunks) file ≡ joined (map (bytesUnder chunks) file)
   unfolding restored
-  restored-is file e = ap joined (map-same (λ key. contains key (keysUnder chunks)) (chunkNamed (storeBytes chunks)) (bytesUnder chunks) file e named-is)
+  restored-is file e = ap joined (map-same (λ key. contains key (keysUnder chunks)) (chunkNamed (storeBytes chunks)) (bytesUnder chunks) [] file e named-is)
 
 pub written-search : (flag : ℕ) (keywords : List (List ℕ)) (chunks : List Chunk) (files : List (List (List ℕ)))
     → chunksFit chunks ≡ true → length files ≤ largest32 → every fileFits files ≡ true → allNamed chunks files ≡ true
@@ -46,7 +47,7 @@ written-search flag keywords chunks files fits small fit named =
     let k = keyword-list-reads flag keywords in
     rw (k .fold, k .words, recipes-read files small fit)
     (ap (occurrencesInAll 0 (foldedAll flag keywords))
-    (map-same (λ file. every (λ key. contains key (keysUnder chunks)) file) _ _ files named (λ file e. ap (folded flag) (restored-is chunks fits file e))))
+    (map-same (λ file. every (λ key. contains key (keysUnder chunks)) file) _ _ [] files named (λ file e. ap (folded flag) (restored-is chunks fits file e))))
 
 pub written-inputs : WrittenInputs
 written-inputs = record { keywordLists = written-keywords; recipesFiles = written-recipes; stores = written-stores; search = written-search }

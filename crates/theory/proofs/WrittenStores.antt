@@ -13,7 +13,7 @@ use lib.ListN.{length, take, drop, getD, length-append}
 use lib.Seq.{drop-drop, drop-length}
 use Rattle.spec.specs.Bytes.{part, leBytes, fieldAt, same, twice, every, joined, AllBytes}
 use Rattle.spec.specs.Directory.{keysOf, sizeAt, offsetAt, lengthAt, entriesCode}
-use Rattle.spec.specs.Records.{newest}
+use Rattle.spec.specs.Form.{newest}
 use Rattle.spec.specs.Recipes.{largest32}
 use Rattle.spec.specs.Store.{Chunk, storeMark, storeLayout, mostChunks, storeDirectoryBytes, storeBytes, chunkCount, storeKeys, chunkAt, storeCode}
 use Rattle.spec.proofs.Tests.{eqb-same, le-of-and, and-left, and-right}

@@ -10,7 +10,8 @@ use Rattle.spec.specs.Bytes.{leBytes, fieldsBytes, each, keep}
 use Rattle.spec.specs.Keywords.{keywordListBytes, keywordCode}
 use Rattle.spec.specs.Store.{storeMark, Chunk, storeBytes}
 use Rattle.spec.specs.Directory.{offsetAt}
-use Rattle.spec.specs.Records.{form1, offsetsOf}
+use Rattle.spec.specs.Form.{form1, newest, formOf}
+use Rattle.spec.specs.Records.{offsetsOf}
 use Rattle.spec.specs.Table.{cellOf}
 use Rattle.spec.specs.Index.{indexLayout, bodyAt, indexCode}
 use Rattle.spec.specs.Recipes.{recipesBytes}
@@ -60,6 +61,7 @@ chunkA = record { key = fingerprint 3; bytes = 0x41 ∷ [] }
 abbrev pub recipesOf : List (List ℕ) → List ℕ
 recipesOf files = recipesBytes (map (map fingerprint) files)
 
+-- Its index under document 01's mark.
 abbrev pub index : List ℕ
 index = scanIndex form1 keywords store
 
@@ -70,13 +72,17 @@ oneChunk chunk = storeBytes (record { key = fingerprint 1; bytes = chunk } ∷ [
 abbrev pub oneKeyword : ℕ → List ℕ → List ℕ
 oneKeyword flag keyword = keywordListBytes flag (keyword ∷ [])
 
--- The body that a scan writes for it.
+-- The body that is written for it under document 01's mark.
 abbrev pub bodyFor : List ℕ → List ℕ → List ℕ
 bodyFor keyword chunk = bodyAt (scanIndex form1 (oneKeyword 0 keyword) (oneChunk chunk)) 0
 
--- What a join of its index says of the file that is this chunk.
+-- What a join of the index that a scan writes for it says of the file that is this chunk.
+abbrev pub oneIndex : ℕ → List ℕ → List ℕ → List ℕ
+oneIndex flag keyword chunk = scanIndex newest (oneKeyword flag keyword) (oneChunk chunk)
+
 abbrev pub countFor : ℕ → List ℕ → List ℕ → Outcome
-countFor flag keyword chunk = joinOutcome form1 (scanIndex form1 (oneKeyword flag keyword) (oneChunk chunk)) (recipesOf ((1 ∷ []) ∷ [])) 65536
+countFor flag keyword chunk =
+    joinOutcome (formOf (oneIndex flag keyword chunk)) (oneIndex flag keyword chunk) (recipesOf ((1 ∷ []) ∷ [])) 65536
 
 -- The cells of a keyword's table that hold something, by i and then by j, each from 0 to n - 1.
 abbrev pub filledCells : List ℕ → List (ℕ × ℕ × List ℕ)
@@ -98,14 +104,14 @@ pub record Cases : Type 0 where
   pub sizes : (length store ≡ 100)
       × (scanOutcome form1 keywords store 136 ≡ Done 136)
       × (scanOutcome form1 keywords store 135 ≡ Refused 9)
-      × (indexCode form1 index ≡ 0)
+      × (indexCode (formOf index) index ≡ 0)
   -- * XAB, ABAX and A: the bodies, at 113, 120 and 130
   pub xab : (offsetAt (indexLayout index) index 0 ≡ 113) × (bodyAt index 0 ≡ 0x00 ∷ 0x01 ∷ 0x02 ∷ 0x00 ∷ 0x00 ∷ 0x00 ∷ 0x00 ∷ [])
   pub abax : (offsetAt (indexLayout index) index 1 ≡ 120) × (bodyAt index 1 ≡ 0x00 ∷ 0x01 ∷ 0x00 ∷ 0x01 ∷ 0x01 ∷ 0x00 ∷ 0x00 ∷ 0x01 ∷ 0x00 ∷ 0x02 ∷ [])
   pub a : (offsetAt (indexLayout index) index 2 ≡ 130) × (bodyAt index 2 ≡ 0x00 ∷ 0x00 ∷ 0x03 ∷ 0x01 ∷ 0x00 ∷ 0x03 ∷ [])
   -- the small vault's list, in a buffer of 30 bytes: 27 are written
-  pub list : (joinOutcome form1 index recipes 30 ≡ Done 3)
-      × (joinBuffer form1 index recipes (replicate 30 7) ≡ nine 0 1 0 ++ nine 0 3 0 ++ nine 1 0 1 ++ replicate 3 7)
+  pub list : (joinOutcome (formOf index) index recipes 30 ≡ Done 3)
+      × (joinBuffer (formOf index) index recipes (replicate 30 7) ≡ nine 0 1 0 ++ nine 0 3 0 ++ nine 1 0 1 ++ replicate 3 7)
   -- * DEDUP's five cells, and no others
   pub dedup : filledCells (0x44 ∷ 0x45 ∷ 0x44 ∷ 0x55 ∷ 0x50 ∷ [])
       ≡ (1, 4, 0 ∷ []) ∷ (2, 3, 0 ∷ []) ∷ (3, 2, 0 ∷ []) ∷ (3, 4, 2 ∷ []) ∷ (4, 1, 0 ∷ []) ∷ []
@@ -115,11 +121,11 @@ pub record Cases : Type 0 where
   pub aaInAaa : (offsetsOf (0x41 ∷ 0x41 ∷ []) (replicate 3 0x41) ≡ 0 ∷ 1 ∷ [])
       × (bodyFor (0x41 ∷ 0x41 ∷ []) (replicate 3 0x41) ≡ 0x00 ∷ 0x02 ∷ 0x01 ∷ 0x01 ∷ 0x02 ∷ 0x00 ∷ 0x00 ∷ 0x00 ∷ 0x00 ∷ 0x01 ∷ 0x00 ∷ [])
   -- * file XAB, A: ABA at 1
-  pub xabThenA : (joinOutcome form1 index (recipesOf ((1 ∷ 3 ∷ []) ∷ [])) 9 ≡ Done 1)
-      × (joinBuffer form1 index (recipesOf ((1 ∷ 3 ∷ []) ∷ [])) (replicate 9 7) ≡ nine 0 1 0)
+  pub xabThenA : (joinOutcome (formOf index) index (recipesOf ((1 ∷ 3 ∷ []) ∷ [])) 9 ≡ Done 1)
+      × (joinBuffer (formOf index) index (recipesOf ((1 ∷ 3 ∷ []) ∷ [])) (replicate 9 7) ≡ nine 0 1 0)
   -- * XAB, A, ABAX is refused with 17
-  pub innerShort : (joinOutcome form1 index (recipesOf ((1 ∷ 3 ∷ 2 ∷ []) ∷ [])) 65536 ≡ Refused 17)
-      × (joinBuffer form1 index (recipesOf ((1 ∷ 3 ∷ 2 ∷ []) ∷ [])) (replicate 30 7) ≡ replicate 30 7)
+  pub innerShort : (joinOutcome (formOf index) index (recipesOf ((1 ∷ 3 ∷ 2 ∷ []) ∷ [])) 65536 ≡ Refused 17)
+      × (joinBuffer (formOf index) index (recipesOf ((1 ∷ 3 ∷ 2 ∷ []) ∷ [])) (replicate 30 7) ≡ replicate 30 7)
   -- * 254 As and keyword A: kind 2, count FE, 0, then 0 to 253
   pub as254 : bodyFor (0x41 ∷ []) (replicate 254 0x41) ≡ 0x00 ∷ 0x02 ∷ 0x00 ∷ 0x00 ∷ 0xFE ∷ 0x00 ∷ 0x00 ∷ fieldsBytes 2 (each (λ k. k ∷ []) 0 254)
   -- * 255: kind 3, count FF, 0, the exact count, then 0 to 254

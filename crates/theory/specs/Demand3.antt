@@ -9,7 +9,7 @@ use Rattle.spec.specs.Outcome.{codeOf, valueOf, answer, unlessRefused}
 use Rattle.spec.specs.Keywords.{flagOf, folded, foldedKeywords, keywordCode}
 use Rattle.spec.specs.Directory.{sizeAt}
 use Rattle.spec.specs.Store.{storeLayout, storeKeys, storeCode}
-use Rattle.spec.specs.Records.{form1}
+use Rattle.spec.specs.Form.{newest, formOf}
 use Rattle.spec.specs.Recipes.{largest32, filesOf, recipesCode, filesCode}
 use Rattle.spec.specs.Join.{Occurrence, listBytes, innerLeast, joinOutcome, joinBuffer, readList}
 use Rattle.spec.specs.Scan.{scanIndex, scanOutcome, scanBuffer}
@@ -21,14 +21,14 @@ abbrev pub NoScanRefusal : List ℕ → List ℕ → ℕ → Type 0
 NoScanRefusal list store room =
     (keywordCode list ≡ 0)
     × (storeCode store ≡ 0)
-    × (length (scanIndex form1 list store) ≤ room)
-    × (length (scanIndex form1 list store) ≤ largest32)
+    × (length (scanIndex newest list store) ≤ room)
+    × (length (scanIndex newest list store) ≤ largest32)
 
 -- No refusal of the join holds, said of the store: 14; 15, 16 and 17; 18.
 abbrev pub NoJoinRefusal : List ℕ → List ℕ → List ℕ → ℕ → Type 0
 NoJoinRefusal list store recipes room =
     (recipesCode recipes ≡ 0)
-    × (filesCode (storeKeys store) (sizeAt storeLayout store) (innerLeast form1 list) (filesOf recipes) ≡ 0)
+    × (filesCode (storeKeys store) (sizeAt storeLayout store) (innerLeast newest list) (filesOf recipes) ≡ 0)
     × (9 * length (directSearch list store recipes) ≤ room)
 
 -- The restored files, as they compare.
@@ -37,27 +37,27 @@ restoredFiles list store recipes = map (λ file. folded (flagOf list) (restored 
 
 -- The join's index: the bytes that the scan wrote into its buffer, of the length it reported.
 abbrev pub scanned : List ℕ → List ℕ → List ℕ → List ℕ
-scanned list store buffer = take (valueOf (scanOutcome form1 list store (length buffer))) (scanBuffer form1 list store buffer)
+scanned list store buffer = take (valueOf (scanOutcome newest list store (length buffer))) (scanBuffer newest list store buffer)
 
--- What holds of a join once the scan has done its work.
-pub record JoinOfScan (list store recipes buffer out : List ℕ) : Type 0 where
+-- What holds of a join of that index, by the form that its mark names, once the scan has done its work.
+pub record JoinOfScan (list store recipes index out : List ℕ) : Type 0 where
   -- the join does its work exactly when none of its refusals holds
-  pub done : (codeOf (joinOutcome form1 (scanned list store buffer) recipes (length out)) ≡ 0) ↔ NoJoinRefusal list store recipes (length out)
+  pub done : (codeOf (joinOutcome (formOf index) index recipes (length out)) ≡ 0) ↔ NoJoinRefusal list store recipes (length out)
   -- its answer: the refusal's number, or the length of the direct search's list
-  pub outcome : joinOutcome form1 (scanned list store buffer) recipes (length out)
-      ≡ answer (searchJoinCode form1 list store recipes (length out)) (length (directSearch list store recipes))
+  pub outcome : joinOutcome (formOf index) index recipes (length out)
+      ≡ answer (searchJoinCode newest list store recipes (length out)) (length (directSearch list store recipes))
   -- its buffer: as it was on a refusal, or the direct search's list and the rest as it was
-  pub bytes : joinBuffer form1 (scanned list store buffer) recipes out
-      ≡ unlessRefused (searchJoinCode form1 list store recipes (length out)) (written out (listBytes (directSearch list store recipes))) out
+  pub bytes : joinBuffer (formOf index) index recipes out
+      ≡ unlessRefused (searchJoinCode newest list store recipes (length out)) (written out (listBytes (directSearch list store recipes))) out
   -- where it does its work: the list, read from the buffer's first 9 × count bytes, is the direct search's
-  pub listed : codeOf (joinOutcome form1 (scanned list store buffer) recipes (length out)) ≡ 0
-      → readList (valueOf (joinOutcome form1 (scanned list store buffer) recipes (length out))) (joinBuffer form1 (scanned list store buffer) recipes out)
+  pub listed : codeOf (joinOutcome (formOf index) index recipes (length out)) ≡ 0
+      → readList (valueOf (joinOutcome (formOf index) index recipes (length out))) (joinBuffer (formOf index) index recipes out)
       ≡ directSearch list store recipes
 
 pub record ScanAndJoin (list store recipes buffer out : List ℕ) : Type 0 where
   -- the scan does its work exactly when none of its refusals holds
-  pub scan : (codeOf (scanOutcome form1 list store (length buffer)) ≡ 0) ↔ NoScanRefusal list store (length buffer)
+  pub scan : (codeOf (scanOutcome newest list store (length buffer)) ≡ 0) ↔ NoScanRefusal list store (length buffer)
   -- and then a join of what it wrote answers by the restored files
-  pub join : codeOf (scanOutcome form1 list store (length buffer)) ≡ 0 → JoinOfScan list store recipes buffer out
+  pub join : codeOf (scanOutcome newest list store (length buffer)) ≡ 0 → JoinOfScan list store recipes (scanned list store buffer) out
   -- whose direct search lists every occurrence once, in order, and nothing else
   pub search : SearchList (foldedKeywords list) (restoredFiles list store recipes) (directSearch list store recipes)

@@ -12,7 +12,8 @@ use Rattle.spec.specs.Bytes.{AllBytes, written, member}
 use Rattle.spec.specs.Outcome.{codeOf, valueOf}
 use Rattle.spec.specs.Keywords.{flagOf, foldByte, folded, keywordsOf, foldedKeywords, keywordCode}
 use Rattle.spec.specs.Store.{chunkCount, chunkAt, storeCode}
-use Rattle.spec.specs.Records.{form1, recordAt}
+use Rattle.spec.specs.Form.{Form, newest, formOf}
+use Rattle.spec.specs.Records.{recordAt}
 use Rattle.spec.specs.Index.{indexRecords, indexCode}
 use Rattle.spec.specs.Recipes.{filesOf}
 use Rattle.spec.specs.Join.{Occurrence, keywordAt, joinList, listBytes, readList, joinCode, joinOutcome, joinBuffer}
@@ -21,7 +22,7 @@ use Rattle.spec.specs.Scan.{scanIndex, scanCode, scanOutcome, scanBuffer}
 use Rattle.spec.specs.Search.{restored, directSearch, searchJoinCode, searchCode, searchOutcome, searchBuffer, searchedCode}
 use Rattle.theory.specs.SearchList.{isIn, inOrder}
 use Rattle.theory.specs.Published.{Published}
-use Rattle.theory.specs.RecordSets.{Said, nothing, AllFitting, Says, scannedRecords, WrittenOnce}
+use Rattle.theory.specs.RecordSets.{Said, nothing, AllFitting, Says, scannedRecords, IndexForm, WrittenOnce}
 use Rattle.theory.specs.Demand3.{NoScanRefusal, NoJoinRefusal, scanned}
 
 -- ---- demand 1: an operation does its work, or refuses with document 01's number and changes no byte
@@ -35,11 +36,11 @@ pub record Answered (code value : ℕ) (worked buffer : List ℕ) (outcome : Out
 -- A search is a scan into one buffer and a join into another: a refusal of the join comes after the scan's work.
 pub record SearchAnswered (list store recipes index out : List ℕ) : Type 0 where
   -- its number is the scan's, or where that is 0 the join's
-  pub number : searchedCode (searchOutcome form1 list store recipes (length index) (length out))
-      ≡ searchCode form1 list store recipes (length index) (length out)
+  pub number : searchedCode (searchOutcome newest list store recipes (length index) (length out))
+      ≡ searchCode newest list store recipes (length index) (length out)
   -- a refusal of either leaves the list buffer as it was; one of the scan leaves the index buffer too
-  pub listKept : searchCode form1 list store recipes (length index) (length out) ≢ 0 → searchBuffer form1 list store recipes (length index) out ≡ out
-  pub indexKept : scanCode form1 list store (length index) ≢ 0 → scanBuffer form1 list store index ≡ index
+  pub listKept : searchCode newest list store recipes (length index) (length out) ≢ 0 → searchBuffer newest list store recipes (length index) out ≡ out
+  pub indexKept : scanCode newest list store (length index) ≢ 0 → scanBuffer newest list store index ≡ index
 
 -- A refused lookup shows the empty slice at the start.
 pub record LookupAnswered (code start : ℕ) (slice : List ℕ) : Type 0 where
@@ -49,41 +50,42 @@ pub record LookupAnswered (code start : ℕ) (slice : List ℕ) : Type 0 where
 pub record Numbers : Type 0 where
   pub keywords : (list : List ℕ) → member (keywordCode list) (0 ∷ 1 ∷ 2 ∷ 3 ∷ 4 ∷ []) ≡ true
   pub store : (store : List ℕ) → member (storeCode store) (0 ∷ 5 ∷ 6 ∷ 7 ∷ 8 ∷ []) ≡ true
-  pub scan : (list store : List ℕ) (room : ℕ) → member (scanCode form1 list store room) (0 ∷ 1 ∷ 2 ∷ 3 ∷ 4 ∷ 5 ∷ 6 ∷ 7 ∷ 8 ∷ 9 ∷ []) ≡ true
-  pub index : (index : List ℕ) → member (indexCode form1 index) (0 ∷ 1 ∷ 2 ∷ 3 ∷ 4 ∷ 10 ∷ 11 ∷ 12 ∷ 13 ∷ []) ≡ true
+  pub scan : (list store : List ℕ) (room : ℕ) → member (scanCode newest list store room) (0 ∷ 1 ∷ 2 ∷ 3 ∷ 4 ∷ 5 ∷ 6 ∷ 7 ∷ 8 ∷ 9 ∷ []) ≡ true
+  pub index : (index : List ℕ) → member (indexCode (formOf index) index) (0 ∷ 1 ∷ 2 ∷ 3 ∷ 4 ∷ 10 ∷ 11 ∷ 12 ∷ 13 ∷ []) ≡ true
   pub join : (index recipes : List ℕ) (room : ℕ)
-      → member (joinCode form1 index recipes room) (0 ∷ 1 ∷ 2 ∷ 3 ∷ 4 ∷ 10 ∷ 11 ∷ 12 ∷ 13 ∷ 14 ∷ 15 ∷ 16 ∷ 17 ∷ 18 ∷ []) ≡ true
+      → member (joinCode (formOf index) index recipes room) (0 ∷ 1 ∷ 2 ∷ 3 ∷ 4 ∷ 10 ∷ 11 ∷ 12 ∷ 13 ∷ 14 ∷ 15 ∷ 16 ∷ 17 ∷ 18 ∷ []) ≡ true
   pub search : (list store recipes : List ℕ) (indexRoom room : ℕ)
-      → member (searchCode form1 list store recipes indexRoom room) (0 ∷ 1 ∷ 2 ∷ 3 ∷ 4 ∷ 5 ∷ 6 ∷ 7 ∷ 8 ∷ 9 ∷ 14 ∷ 15 ∷ 16 ∷ 17 ∷ 18 ∷ []) ≡ true
+      → member (searchCode newest list store recipes indexRoom room) (0 ∷ 1 ∷ 2 ∷ 3 ∷ 4 ∷ 5 ∷ 6 ∷ 7 ∷ 8 ∷ 9 ∷ 14 ∷ 15 ∷ 16 ∷ 17 ∷ 18 ∷ []) ≡ true
   pub chunk : (store key : List ℕ) → member (findChunk store key) (0 ∷ 5 ∷ 6 ∷ 7 ∷ 8 ∷ 15 ∷ 19 ∷ []) ≡ true
-  pub body : (index key : List ℕ) → member (findBody form1 index key) (0 ∷ 1 ∷ 2 ∷ 3 ∷ 4 ∷ 10 ∷ 11 ∷ 12 ∷ 13 ∷ 15 ∷ 19 ∷ []) ≡ true
+  pub body : (index key : List ℕ) → member (findBody (formOf index) index key) (0 ∷ 1 ∷ 2 ∷ 3 ∷ 4 ∷ 10 ∷ 11 ∷ 12 ∷ 13 ∷ 15 ∷ 19 ∷ []) ≡ true
 
 pub record Demand1 : Type 0 where
   pub scan : (list store buffer : List ℕ)
-      → Answered (scanCode form1 list store (length buffer)) (length (scanIndex form1 list store)) (written buffer (scanIndex form1 list store)) buffer
-      (scanOutcome form1 list store (length buffer)) (scanBuffer form1 list store buffer)
+      → Answered (scanCode newest list store (length buffer)) (length (scanIndex newest list store)) (written buffer (scanIndex newest list store)) buffer
+      (scanOutcome newest list store (length buffer)) (scanBuffer newest list store buffer)
   pub join : (index recipes buffer : List ℕ)
-      → Answered (joinCode form1 index recipes (length buffer)) (length (joinList form1 index recipes))
-      (written buffer (listBytes (joinList form1 index recipes))) buffer
-      (joinOutcome form1 index recipes (length buffer)) (joinBuffer form1 index recipes buffer)
+      → Answered (joinCode (formOf index) index recipes (length buffer)) (length (joinList (formOf index) index recipes))
+      (written buffer (listBytes (joinList (formOf index) index recipes))) buffer
+      (joinOutcome (formOf index) index recipes (length buffer)) (joinBuffer (formOf index) index recipes buffer)
   pub search : (list store recipes index out : List ℕ) → SearchAnswered list store recipes index out
   pub chunk : (store key : List ℕ) → LookupAnswered (findChunk store key) (chunkStart store key) (chunkOf store key)
-  pub body : (index key : List ℕ) → LookupAnswered (findBody form1 index key) (bodyStart form1 index key) (bodyOf form1 index key)
+  pub body : (index key : List ℕ) → LookupAnswered (findBody (formOf index) index key) (bodyStart (formOf index) index key) (bodyOf (formOf index) index key)
   pub numbers : Numbers
 
 -- ---- demand 2: the records are the published method's, read back as the same, and have one written form
 
 pub record Demand2 : Type 0 where
   -- what is read from a scan's buffer is, for each chunk and keyword, the published record
-  pub published : (list store buffer : List ℕ) → codeOf (scanOutcome form1 list store (length buffer)) ≡ 0
+  pub published : (list store buffer : List ℕ) → codeOf (scanOutcome newest list store (length buffer)) ≡ 0
       → (k w : ℕ) → k < chunkCount store → w < length (foldedKeywords list)
-      → Published (keywordAt (foldedKeywords list) w) (folded (flagOf list) (chunkAt store k)) (recordAt (indexRecords form1 (scanned list store buffer) k) w)
+      → Published (keywordAt (foldedKeywords list) w) (folded (flagOf list) (chunkAt store k))
+      (recordAt (indexRecords (formOf (scanned list store buffer)) (scanned list store buffer) k) w)
   -- the scan's index says these records, in the store's order, under the fingerprints of the chunks
-  pub says : (list store buffer : List ℕ) → codeOf (scanOutcome form1 list store (length buffer)) ≡ 0
-      → Says form1 list (scannedRecords list store) (scanned list store buffer)
-  -- each set of records that fits an index (keyword list and fingerprints are bytes) reads back, and has one written form
-  pub once : (list : List ℕ) (said : List Said) → AllFitting form1 list said → AllBytes list
-      → ((k : ℕ) → k < length said → AllBytes (getD said k nothing .key)) → WrittenOnce list said
+  pub says : (list store buffer : List ℕ) → codeOf (scanOutcome newest list store (length buffer)) ≡ 0
+      → Says (formOf (scanned list store buffer)) list (scannedRecords list store) (scanned list store buffer)
+  -- each set of records that fits an index of a form (keyword list and fingerprints are bytes) reads back, and has one writing in that form
+  pub once : (f : Form) → IndexForm f → (list : List ℕ) (said : List Said) → AllFitting f list said → AllBytes list
+      → ((k : ℕ) → k < length said → AllBytes (getD said k nothing .key)) → WrittenOnce f list said
 
 -- ---- demand 3: a scan and a join of what it wrote list exactly the occurrences in the restored files
 
@@ -101,12 +103,12 @@ pub record StandsIn (list store recipes : List ℕ) (o : Occurrence) : Type 0 wh
 
 -- What the contracts of scan::scan and join::join say of two calls: their answers, and their buffers after (buffer′, out′).
 pub record Calls (list store recipes buffer out : List ℕ) (scan join : Outcome) (buffer′ index out′ : List ℕ) : Type 0 where
-  pub scanned : scan ≡ scanOutcome form1 list store (length buffer)
-  pub wrote : buffer′ ≡ scanBuffer form1 list store buffer
+  pub scanned : scan ≡ scanOutcome newest list store (length buffer)
+  pub wrote : buffer′ ≡ scanBuffer newest list store buffer
   -- the join's index: the bytes that the scan wrote, of the length it reported, in the scan's buffer or a copy
   pub handed : index ≡ take (valueOf scan) buffer′
-  pub joined : join ≡ joinOutcome form1 index recipes (length out)
-  pub listed : out′ ≡ joinBuffer form1 index recipes out
+  pub joined : join ≡ joinOutcome (formOf index) index recipes (length out)
+  pub listed : out′ ≡ joinBuffer (formOf index) index recipes out
 
 -- What then holds of the answers and of the list buffer.
 pub record Claim (list store recipes buffer out : List ℕ) (scan join : Outcome) (out′ : List ℕ) : Type 0 where

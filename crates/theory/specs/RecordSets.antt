@@ -7,7 +7,8 @@ use lib.ListN.{length, getD}
 use Rattle.spec.specs.Bytes.{AllBytes, twice, each}
 use Rattle.spec.specs.Keywords.{keywordsOf, keywordCode}
 use Rattle.spec.specs.Store.{chunkCount, mostChunks, storeKeys, chunkAt}
-use Rattle.spec.specs.Records.{Form, form1, ChunkRecords, bodyBytes, allInRange}
+use Rattle.spec.specs.Form.{Form, formOf}
+use Rattle.spec.specs.Records.{ChunkRecords, bodyBytes, allInRange}
 use Rattle.spec.specs.Recipes.{largest32}
 use Rattle.spec.specs.Index.{Entry, indexBytes, listBytesIn, indexKeys, indexRecords, indexCode}
 use Rattle.spec.specs.Scan.{scanRecords}
@@ -60,8 +61,15 @@ unfoldable pub scannedRecords : List ℕ → List ℕ → List Said
 scannedRecords list store =
     each (λ k. (record { key = getD (storeKeys store) k []; chunk = scanRecords list (chunkAt store k) }) ∷ []) 0 (chunkCount store)
 
--- Records that fit an index file have exactly one written form: it reads back as these records, it is bytes, and no other file of bytes says them.
-pub record WrittenOnce (list : List ℕ) (said : List Said) : Type 0 where
-  pub says : Says form1 list said (writtenIndex form1 list said)
-  pub bytes : AllBytes (writtenIndex form1 list said)
-  pub only : (index : List ℕ) → AllBytes index → Says form1 list said index → index ≡ writtenIndex form1 list said
+-- A form that the mark of some index names.
+pub record IndexForm (f : Form) : Type 0 where
+  pub index : List ℕ
+  pub named : formOf index ≡ f
+
+-- Records that fit an index file of a form have exactly one writing in it: its mark names that form, it reads back as these records, it is bytes, and
+-- no other file of bytes says them in that form.
+pub record WrittenOnce (f : Form) (list : List ℕ) (said : List Said) : Type 0 where
+  pub marked : formOf (writtenIndex f list said) ≡ f
+  pub says : Says f list said (writtenIndex f list said)
+  pub bytes : AllBytes (writtenIndex f list said)
+  pub only : (index : List ℕ) → AllBytes index → Says f list said index → index ≡ writtenIndex f list said

@@ -7,7 +7,7 @@ use lib.ListN.{length}
 use Rattle.spec.specs.Bytes.{same, every}
 use Rattle.spec.specs.Outcome.{codeOf, valueOf}
 use Rattle.spec.specs.Store.{Chunk, storeBytes, chunkCount}
-use Rattle.spec.specs.Records.{form1}
+use Rattle.spec.specs.Form.{newest, formOf}
 use Rattle.spec.specs.Lookup.{findChunk, chunkOf, findBody, bodyOf}
 use Rattle.spec.specs.Join.{joinOutcome, joinBuffer, readList}
 use Rattle.spec.specs.Scan.{scanOutcome}
@@ -37,28 +37,29 @@ smallReordered = storeBytes (chunkA ∷ chunkXAB ∷ chunkABAX ∷ [])
 
 -- ---- what is then the same
 
--- Two indexes answer the same: each fingerprint's body, and every join. The indexes themselves may differ, in the order of their entries.
+-- Two indexes answer the same, each read by the form that its mark names: each fingerprint's body, and every join. The indexes themselves may
+-- differ, in the order of their entries.
 pub record AnswerAlike (index other : List ℕ) : Type 0 where
   -- the lookup of a body: the number and the bytes
-  pub find : (key : List ℕ) → findBody form1 index key ≡ findBody form1 other key
-  pub body : (key : List ℕ) → bodyOf form1 index key ≡ bodyOf form1 other key
+  pub find : (key : List ℕ) → findBody (formOf index) index key ≡ findBody (formOf other) other key
+  pub body : (key : List ℕ) → bodyOf (formOf index) index key ≡ bodyOf (formOf other) other key
   -- a join: the same refusal or the same count, and the same buffer after it
-  pub outcome : (recipes : List ℕ) (room : ℕ) → joinOutcome form1 index recipes room ≡ joinOutcome form1 other recipes room
-  pub bytes : (recipes out : List ℕ) → joinBuffer form1 index recipes out ≡ joinBuffer form1 other recipes out
+  pub outcome : (recipes : List ℕ) (room : ℕ) → joinOutcome (formOf index) index recipes room ≡ joinOutcome (formOf other) other recipes room
+  pub bytes : (recipes out : List ℕ) → joinBuffer (formOf index) index recipes out ≡ joinBuffer (formOf other) other recipes out
   -- into two buffers of equal length, where the join does its work: the same list
-  pub listed : (recipes out out₂ : List ℕ) → length out ≡ length out₂ → codeOf (joinOutcome form1 index recipes (length out)) ≡ 0
-      → readList (valueOf (joinOutcome form1 index recipes (length out))) (joinBuffer form1 index recipes out)
-      ≡ readList (valueOf (joinOutcome form1 other recipes (length out₂))) (joinBuffer form1 other recipes out₂)
+  pub listed : (recipes out out₂ : List ℕ) → length out ≡ length out₂ → codeOf (joinOutcome (formOf index) index recipes (length out)) ≡ 0
+      → readList (valueOf (joinOutcome (formOf index) index recipes (length out))) (joinBuffer (formOf index) index recipes out)
+      ≡ readList (valueOf (joinOutcome (formOf other) other recipes (length out₂))) (joinBuffer (formOf other) other recipes out₂)
 
 -- Two searches answer the same, with index buffers of these two lengths.
 pub record SearchAlike (list store other : List ℕ) (indexRoom indexRoom₂ : ℕ) : Type 0 where
   -- the same refusal, or the same length and count
   pub outcome : (recipes : List ℕ) (room : ℕ)
-      → searchOutcome form1 list store recipes indexRoom room ≡ searchOutcome form1 list other recipes indexRoom₂ room
+      → searchOutcome newest list store recipes indexRoom room ≡ searchOutcome newest list other recipes indexRoom₂ room
   -- the same buffer after it
-  pub bytes : (recipes out : List ℕ) → searchBuffer form1 list store recipes indexRoom out ≡ searchBuffer form1 list other recipes indexRoom₂ out
+  pub bytes : (recipes out : List ℕ) → searchBuffer newest list store recipes indexRoom out ≡ searchBuffer newest list other recipes indexRoom₂ out
   -- where the search does its work, the same list, whatever the buffer held
-  pub listed : (recipes : List ℕ) (room : ℕ) → searchCode form1 list store recipes indexRoom room ≡ 0
+  pub listed : (recipes : List ℕ) (room : ℕ) → searchCode newest list store recipes indexRoom room ≡ 0
       → directSearch list store recipes ≡ directSearch list other recipes
 
 -- A keyword list on a store and on one with the same chunks.
@@ -68,11 +69,11 @@ pub record SameChunks (list store other : List ℕ) : Type 0 where
   pub chunk : (key : List ℕ) → chunkOf store key ≡ chunkOf other key
   pub count : chunkCount store ≡ chunkCount other
   -- a scan into buffers of equal length: the same refusal, or indexes of the same length
-  pub scan : (room : ℕ) → scanOutcome form1 list store room ≡ scanOutcome form1 list other room
+  pub scan : (room : ℕ) → scanOutcome newest list store room ≡ scanOutcome newest list other room
   -- indexes that two scans wrote in full, into buffers of any two lengths
   pub indexes : (buffer buffer₂ : List ℕ)
-      → codeOf (scanOutcome form1 list store (length buffer)) ≡ 0 → codeOf (scanOutcome form1 list other (length buffer₂)) ≡ 0
+      → codeOf (scanOutcome newest list store (length buffer)) ≡ 0 → codeOf (scanOutcome newest list other (length buffer₂)) ≡ 0
       → AnswerAlike (scanned list store buffer) (scanned list other buffer₂)
   -- searches whose scans are both done or refused alike (as they are with index buffers of equal length, by `scan`)
-  pub search : (indexRoom indexRoom₂ : ℕ) → codeOf (scanOutcome form1 list store indexRoom) ≡ codeOf (scanOutcome form1 list other indexRoom₂)
+  pub search : (indexRoom indexRoom₂ : ℕ) → codeOf (scanOutcome newest list store indexRoom) ≡ codeOf (scanOutcome newest list other indexRoom₂)
       → SearchAlike list store other indexRoom indexRoom₂

@@ -10,7 +10,7 @@ use lib.Dec.{eqb, leb}
 use Rattle.spec.specs.Bytes.{AllBytes, same, contains, twice, each, every, joined}
 use Rattle.spec.specs.Keywords.{folded, foldedAll, keywordListBytes, countOf, flagOf, keywordsOf, listSize, keywordCode}
 use Rattle.spec.specs.Store.{Chunk, storeBytes, mostChunks, chunkCount, storeKeys, chunkAt, storeCode}
-use Rattle.spec.specs.Records.{newest}
+use Rattle.spec.specs.Form.{newest}
 use Rattle.spec.specs.Recipes.{recipesBytes, mostFiles, largest32, filesOf, recipesCode}
 use Rattle.spec.specs.Search.{occurrencesInAll, directSearch}
 

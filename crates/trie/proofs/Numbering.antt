@@ -3,7 +3,7 @@
 use mathlib.Core.Path.{_≡_, refl, sym, ap, ap₂, _∙_}
 use mathlib.Core.Bool.{true}
 use mathlib.Core.List.{List, [], _∷_, map}
-use Prim.Native.Nat.{ℕ, suc, _+_, _-_, _*_, _≤_, _<_}
+use Prim.Native.Nat.{ℕ, suc, _+_, _-_, _≤_, _<_}
 use native.Mathlib.Omega.{arith}
 use borrow.Author.Tests.{ltb-true}
 use lib.ListN.{length, take, drop, getD, length-append}
@@ -12,7 +12,7 @@ use Rattle.spec.specs.Bytes.{begins, contains, positionOf, joined, sum}
 use Rattle.spec.specs.Keywords.{flagOf, keywordsOf, foldedKeywords, longest}
 use Rattle.spec.proofs.Begins.{begins-split}
 use Rattle.spec.proofs.JoinIsSearch.{longest-folded}
-use Rattle.spec.proofs.KeywordLaws.{Accepted, folded-count}
+use Rattle.spec.proofs.KeywordLaws.{Accepted, folded-count, longest-most, sum-most}
 use Rattle.spec.proofs.EntryLaws.{contains-position, contains-at, position-of, position-at}
 use Rattle.spec.proofs.RecordLaws.{bool-ext}
 use Rattle.spec.proofs.Tabulated.{length-tabulated, tabulated-at}
@@ -65,10 +65,6 @@ all-length : (keywords : List (List ℕ)) → length (joined (map beginnings key
 all-length [] = refl
 all-length (w ∷ ws) = length-append (beginnings w) (joined (map beginnings ws)) ∙ rw (beginnings-length w, all-length ws)
 
-sum-most : (keywords : List (List ℕ)) → longest keywords ≤ 32 → sum (map length keywords) ≤ 32 * length keywords
-sum-most [] h = omega arith
-sum-most (w ∷ ws) h = omega (arith, sum-most ws (omega arith))
-
 module _ (keywords : List (List ℕ)) where
   -- it has exactly the nodes
   pub nodes-contain : (u : List ℕ) → contains u (nodesOf keywords) ≡ isNode keywords u
@@ -111,10 +107,6 @@ module _ (keywords : List (List ℕ)) where
   root-number = (refl, refl)
 
 -- ---- an accepted keyword list
-
-longest-most : (keywords : List (List ℕ)) (m : ℕ) → ((k : ℕ) → k < length keywords → length (getD keywords k []) ≤ m) → longest keywords ≤ m
-longest-most [] m h = omega arith
-longest-most (w ∷ ws) m h = omega (arith, h 0 (omega arith), longest-most ws m (λ k l. h (suc k) (omega arith)))
 
 module _ (list : List ℕ) (good : Accepted list) where
   -- no keyword is longer than 32 bytes, so the window of 32 bytes does

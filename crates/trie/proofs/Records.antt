@@ -1,9 +1,9 @@
 -- What the walk tells of a chunk's record: occurrences by the nodes on the way, the prefix by the last node. Both are endings of what was read that
 -- are nodes, so they are endings of the node. The suffix is looked for by itself. Assumes nothing.
-use mathlib.Core.Path.{_≡_, refl, sym, ap, ap₂, _∙_}
+use mathlib.Core.Path.{_≡_, sym, ap, _∙_}
 use mathlib.Core.Logic.{_⊎_, inl, inr}
 use mathlib.Core.Bool.{Bool, true}
-use mathlib.Core.List.{List, [], _∷_, _++_, map, append-nil}
+use mathlib.Core.List.{List, [], _++_, map, append-nil}
 use Prim.Native.Nat.{ℕ, suc, _+_, _-_, _≤_, _<_}
 use native.Mathlib.Nat.{le-refl, zero-add}
 use native.Mathlib.Omega.{arith}
@@ -11,7 +11,7 @@ use lib.ListN.{length, take, drop, length-drop}
 use lib.Seq.{take-all}
 use Rattle.spec.specs.Bytes.{contains, occursAt, each, keep}
 use Rattle.spec.specs.Keywords.{countOf, flagOf, folded, keywordsOf, foldedKeywords}
-use Rattle.spec.specs.Records.{MatchRecord, recordOf, recordsOf, suffixOf, offsetsOf}
+use Rattle.spec.specs.Records.{recordOf, recordsOf, suffixOf, offsetsOf}
 use Rattle.spec.specs.Join.{keywordAt}
 use Rattle.spec.specs.Scan.{scanRecords}
 use Rattle.spec.proofs.Tests.{le-or-lt, leb-true, leb-false}
@@ -20,6 +20,7 @@ use Rattle.spec.proofs.Each.{each-match, each-append, each-none}
 use Rattle.spec.proofs.Folding.{folded-length}
 use Rattle.spec.proofs.KeywordLaws.{Accepted, folded-count, folded-keyword}
 use Rattle.spec.proofs.EntryLaws.{contains-at}
+use Rattle.spec.proofs.Tabulated.{map-match}
 use Rattle.trie.specs.Trie.{isNode, nodeAfter, isEnding, endsAt, prefixAt, walkRecord}
 use Rattle.trie.proofs.Endings.{ends-ending, largest-match, prefix-ending}
 use Rattle.trie.proofs.Nodes.{beginning-is-node, ending-of-longest}
@@ -123,16 +124,12 @@ module _ (keywords : List (List ℕ)) (keyword : List ℕ) (known : contains key
 
 -- ---- all records of a chunk
 
-map-match : (f g : List ℕ → MatchRecord) (xs : List (List ℕ)) → ((k : ℕ) → k < length xs → f (keywordAt xs k) ≡ g (keywordAt xs k)) → map f xs ≡ map g xs
-map-match f g [] h = refl
-map-match f g (x ∷ xs) h = ap₂ {C = List MatchRecord} (λ r rs. r ∷ rs) (h 0 (omega arith)) (map-match f g xs (λ k l. h (suc k) (omega arith)))
-
 -- one walk tells the records of all keywords
 pub walk-records : (keywords : List (List ℕ)) (chunk : List ℕ) → ((k : ℕ) → k < length keywords → 1 ≤ length (keywordAt keywords k))
     → map (λ keyword. walkRecord keywords keyword chunk) keywords ≡ recordsOf keywords chunk .records
 unfolding recordsOf
 walk-records keywords chunk nonempty =
-    map-match (λ keyword. walkRecord keywords keyword chunk) (λ keyword. recordOf keyword chunk) keywords
+    map-match (λ keyword. walkRecord keywords keyword chunk) (λ keyword. recordOf keyword chunk) [] keywords
     (λ k h. walk-record keywords (keywordAt keywords k) (keyword-contained keywords k h) chunk (nonempty k h))
 
 accepted-some : (list : List ℕ) → Accepted list → (k : ℕ) → k < countOf list → 1 ≤ length (keywordAt (foldedKeywords list) k)

@@ -1,16 +1,17 @@
 -- Laws of the walk over a chunk. Its node is the longest ending of the bytes read that is a node, so only the last bytes count; its moves are at
 -- most two a byte, since each link costs depth and each byte adds at most one. Assumes nothing.
-use mathlib.Core.Path.{_≡_, refl, sym, ap, ap₂, _∙_}
+use mathlib.Core.Path.{_≡_, refl, sym, ap, _∙_}
 use mathlib.Core.Bool.{true}
 use mathlib.Core.List.{List, [], _∷_, _++_, map, append-assoc, append-nil}
 use Prim.Native.Nat.{ℕ, _+_, _-_, _*_, _≤_}
 use native.Mathlib.Nat.{zero-add}
 use native.Mathlib.Omega.{arith}
-use lib.ListN.{length, take, drop, length-map, take-append-drop}
+use lib.ListN.{length, take, drop, take-append-drop}
 use lib.Seq.{length-take-le}
 use Rattle.spec.specs.Bytes.{sum}
-use Rattle.spec.specs.Keywords.{foldByte, folded, foldedAll, foldedKeywords, flagOf, longest}
+use Rattle.spec.specs.Keywords.{foldedAll, foldedKeywords, flagOf, longest}
 use Rattle.spec.specs.Store.{chunksOf}
+use Rattle.spec.proofs.Folding.{lengths-folded}
 use Rattle.trie.specs.Trie.{isNode, child, longestNode, step, nodeFrom, movesFrom, nodeAfter, movesOf, movesOfAll, scanMoves, isEnding}
 use Rattle.trie.proofs.Nodes.{longest-node, longest-window}
 use Rattle.trie.proofs.Steps.{step-node, step-is-node, step-moves, step-moves-least}
@@ -72,7 +73,7 @@ module _ (keywords : List (List ℕ)) where
 
   -- ---- the moves
 
-  moves-from : (u bytes : List ℕ) → isNode keywords u ≡ true
+  pub moves-from : (u bytes : List ℕ) → isNode keywords u ≡ true
       → movesFrom keywords u bytes + length (nodeFrom keywords u bytes) ≤ length u + 2 * length bytes
   unfolding nodeFrom movesFrom
   moves-from u [] e = omega arith
@@ -96,15 +97,10 @@ module _ (keywords : List (List ℕ)) where
   walk-moves-all [] = omega arith
   walk-moves-all (chunk ∷ chunks) = omega (arith, walk-moves chunk, walk-moves-all chunks)
 
-folded-sizes : (flag : ℕ) (chunks : List (List ℕ)) → map length (foldedAll flag chunks) ≡ map length chunks
-unfolding folded
-folded-sizes flag [] = refl
-folded-sizes flag (chunk ∷ chunks) = ap₂ {C = List ℕ} (λ n ns. n ∷ ns) (length-map chunk (foldByte flag)) (folded-sizes flag chunks)
-
 -- the moves that a scan reports are at most twice the bytes of the chunks
 pub scan-moves : (list store : List ℕ) → scanMoves list store ≤ 2 * sum (map length (chunksOf store))
 unfolding scanMoves
 scan-moves list store =
     let e : sum (map length (foldedAll (flagOf list) (chunksOf store))) ≡ sum (map length (chunksOf store)) =
-    ap sum (folded-sizes (flagOf list) (chunksOf store)) in
+    ap sum (lengths-folded (flagOf list) (chunksOf store)) in
     omega (arith, walk-moves-all (foldedKeywords list) (foldedAll (flagOf list) (chunksOf store)))

@@ -6,7 +6,7 @@ use lib.ListN.{length}
 use Rattle.spec.specs.declared.Outcome.{Outcome}
 use Rattle.spec.specs.declared.Searched.{Searched}
 use Rattle.spec.specs.Outcome.{codeOf, toldValue}
-use Rattle.spec.specs.Records.{form1}
+use Rattle.spec.specs.Form.{newest}
 use Rattle.spec.specs.Scan.{scanBuffer}
 use Rattle.spec.specs.Search.{searchOutcome, searchBuffer, searchedCode, toldSize, toldCount}
 
@@ -21,11 +21,11 @@ module _ (o r : Outcome) {e : Outcome} (k : r ≡ o) (d : r ≡ e) (before : ℕ
 module _ (list store recipes index out index′ out′ : List ℕ) (o r : Searched) (size count : ℕ) where
   -- the definition's answer
   abbrev searched : Searched
-  searched = searchOutcome form1 list store recipes (length index) (length out)
+  searched = searchOutcome newest list store recipes (length index) (length out)
 
-  pub told-search : r ≡ o → r ≡ searched → index′ ≡ scanBuffer form1 list store index → out′ ≡ searchBuffer form1 list store recipes (length index) out
+  pub told-search : r ≡ o → r ≡ searched → index′ ≡ scanBuffer newest list store index → out′ ≡ searchBuffer newest list store recipes (length index) out
       → (searchedCode o ≡ searchedCode searched) × (toldSize o size ≡ toldSize searched size) × (toldCount o count ≡ toldCount searched count)
-      × (index′ ≡ scanBuffer form1 list store index) × (out′ ≡ searchBuffer form1 list store recipes (length index) out)
+      × (index′ ≡ scanBuffer newest list store index) × (out′ ≡ searchBuffer newest list store recipes (length index) out)
   told-search k e b d =
       let q : o ≡ searched = sym k ∙ e in
       (ap searchedCode q, ap (λ (x : Searched). toldSize x size) q, ap (λ (x : Searched). toldCount x count) q, b, d)

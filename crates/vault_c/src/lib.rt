@@ -5,7 +5,7 @@ ghost use mathlib.Core.Path.{_≡_};
 ghost use lib.ListN.{length};
 ghost use Rattle.spec.specs.Keywords.{keywordCode};
 ghost use Rattle.spec.specs.Store.{storeCode};
-ghost use Rattle.spec.specs.Records.{form1};
+ghost use Rattle.spec.specs.Form.{newest, formOf};
 ghost use Rattle.spec.specs.Index.{indexCode};
 ghost use Rattle.spec.specs.Lookup.{findChunk, chunkStart, chunkLength, findBody, bodyStart, bodyLength};
 ghost use Rattle.spec.specs.Outcome.{codeOf, toldValue};
@@ -31,7 +31,7 @@ pub extern "C" fn vault_check_store(store: &[u8]) -> u8
 
 #[no_mangle]
 pub extern "C" fn vault_check_index(index: &[u8]) -> u8
-    ensures { λ r. ⌜ r ≡ indexCode form1 (now (index .entry)) ⌝ }
+    ensures { λ r. ⌜ r ≡ indexCode (formOf (now (index .entry))) (now (index .entry)) ⌝ }
 {
     index::check(index)
 }
@@ -40,8 +40,8 @@ pub extern "C" fn vault_check_index(index: &[u8]) -> u8
 
 #[no_mangle]
 pub extern "C" fn vault_scan_size(list: &[u8], store: &[u8], size: &mut u64) -> u8
-    ensures { λ r. ⌜ (r ≡ codeOf (sizeOutcome form1 (now (list .entry)) (now (store .entry))))
-        × (now (size .exit) ≡ toldValue (sizeOutcome form1 (now (list .entry)) (now (store .entry))) (now (size .entry))) ⌝ }
+    ensures { λ r. ⌜ (r ≡ codeOf (sizeOutcome newest (now (list .entry)) (now (store .entry))))
+        × (now (size .exit) ≡ toldValue (sizeOutcome newest (now (list .entry)) (now (store .entry))) (now (size .entry))) ⌝ }
 {
     match scan::size(list, store) {
         spec::Outcome::Done(needed) => {
@@ -54,9 +54,9 @@ pub extern "C" fn vault_scan_size(list: &[u8], store: &[u8], size: &mut u64) -> 
 
 #[no_mangle]
 pub extern "C" fn vault_scan(list: &[u8], store: &[u8], out: &mut [u8], size: &mut u64) -> u8
-    ensures { λ r. ⌜ (r ≡ codeOf (scanOutcome form1 (now (list .entry)) (now (store .entry)) (length (now (out .entry)))))
-        × (now (size .exit) ≡ toldValue (scanOutcome form1 (now (list .entry)) (now (store .entry)) (length (now (out .entry)))) (now (size .entry)))
-        × (now (out .exit) ≡ scanBuffer form1 (now (list .entry)) (now (store .entry)) (now (out .entry))) ⌝ }
+    ensures { λ r. ⌜ (r ≡ codeOf (scanOutcome newest (now (list .entry)) (now (store .entry)) (length (now (out .entry)))))
+        × (now (size .exit) ≡ toldValue (scanOutcome newest (now (list .entry)) (now (store .entry)) (length (now (out .entry)))) (now (size .entry)))
+        × (now (out .exit) ≡ scanBuffer newest (now (list .entry)) (now (store .entry)) (now (out .entry))) ⌝ }
 {
     match scan::scan(list, store, out) {
         spec::Outcome::Done(written) => {
@@ -69,8 +69,8 @@ pub extern "C" fn vault_scan(list: &[u8], store: &[u8], out: &mut [u8], size: &m
 
 #[no_mangle]
 pub extern "C" fn vault_count(index: &[u8], recipes: &[u8], count: &mut u64) -> u8
-    ensures { λ r. ⌜ (r ≡ codeOf (countOutcome form1 (now (index .entry)) (now (recipes .entry))))
-        × (now (count .exit) ≡ toldValue (countOutcome form1 (now (index .entry)) (now (recipes .entry))) (now (count .entry))) ⌝ }
+    ensures { λ r. ⌜ (r ≡ codeOf (countOutcome (formOf (now (index .entry))) (now (index .entry)) (now (recipes .entry))))
+        × (now (count .exit) ≡ toldValue (countOutcome (formOf (now (index .entry))) (now (index .entry)) (now (recipes .entry))) (now (count .entry))) ⌝ }
 {
     match join::count(index, recipes) {
         spec::Outcome::Done(counted) => {
@@ -83,9 +83,9 @@ pub extern "C" fn vault_count(index: &[u8], recipes: &[u8], count: &mut u64) -> 
 
 #[no_mangle]
 pub extern "C" fn vault_join(index: &[u8], recipes: &[u8], out: &mut [u8], count: &mut u64) -> u8
-    ensures { λ r. ⌜ (r ≡ codeOf (joinOutcome form1 (now (index .entry)) (now (recipes .entry)) (length (now (out .entry)))))
-        × (now (count .exit) ≡ toldValue (joinOutcome form1 (now (index .entry)) (now (recipes .entry)) (length (now (out .entry)))) (now (count .entry)))
-        × (now (out .exit) ≡ joinBuffer form1 (now (index .entry)) (now (recipes .entry)) (now (out .entry))) ⌝ }
+    ensures { λ r. ⌜ (r ≡ codeOf (joinOutcome (formOf (now (index .entry))) (now (index .entry)) (now (recipes .entry)) (length (now (out .entry)))))
+        × (now (count .exit) ≡ toldValue (joinOutcome (formOf (now (index .entry))) (now (index .entry)) (now (recipes .entry)) (length (now (out .entry)))) (now (count .entry)))
+        × (now (out .exit) ≡ joinBuffer (formOf (now (index .entry))) (now (index .entry)) (now (recipes .entry)) (now (out .entry))) ⌝ }
 {
     match join::join(index, recipes, out) {
         spec::Outcome::Done(listed) => {
@@ -121,21 +121,21 @@ pub extern "C" fn vault_chunk_length(store: &[u8], key: &[u8]) -> u64
 
 #[no_mangle]
 pub extern "C" fn vault_find_body(index: &[u8], key: &[u8]) -> u8
-    ensures { λ r. ⌜ r ≡ findBody form1 (now (index .entry)) (now (key .entry)) ⌝ }
+    ensures { λ r. ⌜ r ≡ findBody (formOf (now (index .entry))) (now (index .entry)) (now (key .entry)) ⌝ }
 {
     index::find_body(index, key)
 }
 
 #[no_mangle]
 pub extern "C" fn vault_body_start(index: &[u8], key: &[u8]) -> u64
-    ensures { λ r. ⌜ r ≡ bodyStart form1 (now (index .entry)) (now (key .entry)) ⌝ }
+    ensures { λ r. ⌜ r ≡ bodyStart (formOf (now (index .entry))) (now (index .entry)) (now (key .entry)) ⌝ }
 {
     index::body_start(index, key) as u64
 }
 
 #[no_mangle]
 pub extern "C" fn vault_body_length(index: &[u8], key: &[u8]) -> u64
-    ensures { λ r. ⌜ r ≡ bodyLength form1 (now (index .entry)) (now (key .entry)) ⌝ }
+    ensures { λ r. ⌜ r ≡ bodyLength (formOf (now (index .entry))) (now (index .entry)) (now (key .entry)) ⌝ }
 {
     index::body_length(index, key) as u64
 }
@@ -152,11 +152,11 @@ pub extern "C" fn vault_search(
     index_length: &mut u64,
     count: &mut u64,
 ) -> u8
-    ensures { λ r. ⌜ (r ≡ searchedCode (searchOutcome form1 (now (list .entry)) (now (store .entry)) (now (recipes .entry)) (length (now (index .entry))) (length (now (out .entry)))))
-        × (now («index_length» .exit) ≡ toldSize (searchOutcome form1 (now (list .entry)) (now (store .entry)) (now (recipes .entry)) (length (now (index .entry))) (length (now (out .entry)))) (now («index_length» .entry)))
-        × (now (count .exit) ≡ toldCount (searchOutcome form1 (now (list .entry)) (now (store .entry)) (now (recipes .entry)) (length (now (index .entry))) (length (now (out .entry)))) (now (count .entry)))
-        × (now (index .exit) ≡ scanBuffer form1 (now (list .entry)) (now (store .entry)) (now (index .entry)))
-        × (now (out .exit) ≡ searchBuffer form1 (now (list .entry)) (now (store .entry)) (now (recipes .entry)) (length (now (index .entry))) (now (out .entry))) ⌝ }
+    ensures { λ r. ⌜ (r ≡ searchedCode (searchOutcome newest (now (list .entry)) (now (store .entry)) (now (recipes .entry)) (length (now (index .entry))) (length (now (out .entry)))))
+        × (now («index_length» .exit) ≡ toldSize (searchOutcome newest (now (list .entry)) (now (store .entry)) (now (recipes .entry)) (length (now (index .entry))) (length (now (out .entry)))) (now («index_length» .entry)))
+        × (now (count .exit) ≡ toldCount (searchOutcome newest (now (list .entry)) (now (store .entry)) (now (recipes .entry)) (length (now (index .entry))) (length (now (out .entry)))) (now (count .entry)))
+        × (now (index .exit) ≡ scanBuffer newest (now (list .entry)) (now (store .entry)) (now (index .entry)))
+        × (now (out .exit) ≡ searchBuffer newest (now (list .entry)) (now (store .entry)) (now (recipes .entry)) (length (now (index .entry))) (now (out .entry))) ⌝ }
 {
     match search::search(list, store, recipes, index, out) {
         spec::Searched::ScanRefused(code) => code,

@@ -1,28 +1,46 @@
--- Counting and listing a file. The number of its occurrences does not hang on the file's number, nor on where it starts. Assumes nothing.
+-- Counting and listing a file, place by place. The number of its occurrences does not hang on the file's number, nor on where it starts.
+-- Assumes nothing.
 use mathlib.Core.Path.{_≡_, refl, sym, ap, ap₂, _∙_, subst}
 use mathlib.Core.Bool.{Bool, true, false}
 use mathlib.Core.List.{List, [], _∷_, _++_}
-use Prim.Native.Nat.{ℕ, zero, suc, _+_, _*_, _^_, _≤_, _<_}
+use Prim.Native.Nat.{ℕ, zero, suc, _+_, _*_, _/_, _^_, _≤_, _<_}
 use native.Mathlib.Nat.{add-zero, add-suc, suc-add, suc-mul, mul-one, zero-lt-suc, mul-le-mul-left}
+use native.Mathlib.Numerals.{add-one}
 use native.Mathlib.Omega.{arith}
-use lib.ListN.{length, getD, set, drop, drop-of-length-le, length-append, replicate, length-replicate}
+use lib.ListN.{length, drop, drop-of-length-le, length-append}
+use lib.Seq.{drop-cons}
+use Rattle.spec.specs.declared.Opened.{Opened}
 use Rattle.spec.specs.Bytes.{splice, each, keep}
 use Rattle.spec.specs.Keywords.{foldedKeywords}
-use Rattle.spec.specs.Records.{ChunkRecords}
-use Rattle.spec.specs.Index.{listIn}
-use Rattle.spec.specs.Join.{Occurrence, occurrencesAt, listed, joinFrom, occurrenceBytes, listBytes}
+use Rattle.spec.specs.Form.{formOf}
+use Rattle.spec.specs.Records.{ChunkRecords, recordAt, inRange}
+use Rattle.spec.specs.Index.{listIn, indexCode}
+use Rattle.spec.specs.Join.{Occurrence, keywordAt, occurrencesAt, listed, joinFrom, listBytes}
 use Rattle.spec.proofs.Writing.{Going, going-start, going-room, going-on, going-end, going-place}
-use Rattle.spec.proofs.ListBytes.{length-occurrence, length-list, list-cons, list-nil}
-use Rattle.listing.specs.Streams.{streamOf, unreadAt, occurrences, total, ReadableStreams}
+use Rattle.spec.proofs.ListBytes.{length-list, list-nil, list-append}
+use Rattle.tables.specs.Tabled.{tablesOf}
+use Rattle.listing.specs.Streams.{unreadAt, occurrences, total, ReadableStreams}
 use Rattle.listing.proofs.Totals.{total-is}
-use Rattle.walk.specs.Walking.{chunksIn, fileList, sizeOf, Directory, File, Keyed, Walkable, LoadedAt, Crossed, AtPlace, coming}
+use Rattle.walk.specs.Walking.{noChunk, chunksIn, fileList, sizeOf, widthOf, Checked, File, LoadedAt, Crossed}
+use Rattle.walk.proofs.Entries.{chunks-length, chunk-at, proper, records-good, size-small, keywords-count, few}
 use Rattle.walk.proofs.Places.{AllGood, place-ready, place-join}
-use Rattle.walk.proofs.Moves.{start-place, start-coming}
 
-pub walkable : (index : List ℕ) (directory entries : ℕ) (heads chain : List ℕ) (tables : List (List (List ℕ))) (file slots : List ℕ) (count : ℕ)
-    → Directory index directory entries heads chain → File index file slots → Keyed index count tables
-    → Walkable index directory entries heads chain tables file slots count
-walkable index directory entries heads chain tables file slots count d f k = record { known = d; whole = f; keyed = k }
+-- ---- what the check of the index says of a file's chunks
+
+pub all-good : (index : List ℕ) → indexCode (formOf index) index ≡ 0 → (file slots : List ℕ) → File index file slots
+    → AllGood (foldedKeywords (listIn index)) (chunksIn index file)
+all-good index good file slots f =
+    record {
+      proper = proper index good;
+      ranges = λ n h k u.
+          let m : n < length file / 20 = rw (chunks-length index file) at h in
+          subst (λ (c : ChunkRecords). inRange (length (keywordAt (foldedKeywords (listIn index)) k)) (c .size) (recordAt c k) ≡ true)
+          (sym (chunk-at index file n m))
+          (records-good index good _ (f .found n m) k u);
+      sizes = λ n h.
+          let m : n < length file / 20 = rw (chunks-length index file) at h in
+          subst (λ (c : ChunkRecords). c .size ≤ 1048576) (sym (chunk-at index file n m)) (size-small index good _ (f .found n m));
+    }
 
 -- ---- lengths
 
@@ -41,7 +59,8 @@ length-keep : {A : Type 0} (b : Bool) (x y : A) → length (keep b x) ≡ length
 length-keep true x y = refl
 length-keep false x y = refl
 
-occurrencesAt-length : (file file′ count offset offset′ : ℕ) (t : ℕ → Bool) → length (occurrencesAt file count t offset) ≡ length (occurrencesAt file′ count t offset′)
+occurrencesAt-length : (file file′ count offset offset′ : ℕ) (t : ℕ → Bool)
+    → length (occurrencesAt file count t offset) ≡ length (occurrencesAt file′ count t offset′)
 unfolding occurrencesAt
 occurrencesAt-length file file′ count offset offset′ t = length-match _ _ 0 0 count (λ k l. length-keep (t (0 + k)) _ _)
 
@@ -52,7 +71,8 @@ join-length keywords [] file base file′ base′ = refl
 join-length keywords (here ∷ rest) file base file′ base′ =
     length-append (each (λ at. occurrencesAt file (length keywords) (listed keywords here rest at) (base + at)) 0 (here .size)) _
     ∙ ap₂ (λ (x y : ℕ). x + y)
-    (length-match _ _ 0 0 (here .size) (λ p l. occurrencesAt-length file file′ (length keywords) (base + (0 + p)) (base′ + (0 + p)) (listed keywords here rest (0 + p))))
+    (length-match _ _ 0 0 (here .size) (λ p l.
+    occurrencesAt-length file file′ (length keywords) (base + (0 + p)) (base′ + (0 + p)) (listed keywords here rest (0 + p))))
     (join-length keywords rest file (base + here .size) file′ (base′ + here .size))
     ∙ sym (length-append (each (λ at. occurrencesAt file′ (length keywords) (listed keywords here rest at) (base′ + at)) 0 (here .size)) _)
 
@@ -91,102 +111,121 @@ join-most keywords (here ∷ rest) base few =
     )
 
 -- THE COUNT OF A FILE IS SMALL
-pub count-few : (index : List ℕ) (count : ℕ) (tables : List (List (List ℕ))) (file slots : List ℕ) → Keyed index count tables → File index file slots
+pub count-few : (index : List ℕ) (opened : Opened) (file slots : List ℕ) → Checked index opened → File index file slots
     → length (fileList 0 index file) < 2 ^ 36
-count-few index count tables file slots k f =
-    omega (arith, join-most (foldedKeywords (listIn index)) (chunksIn index file) 0 (omega (arith, k .few, k .counts)), f .small)
+count-few index opened file slots d f =
+    let most : length (foldedKeywords (listIn index)) ≤ 16 = omega (arith, few index opened d, keywords-count index opened d) in
+    omega (arith, join-most (foldedKeywords (listIn index)) (chunksIn index file) 0 most, f .small)
 
--- ---- while a file is counted: n places are
+-- ---- n places of a file are counted, or listed
+
+abbrev wordsIn : List ℕ → List (List ℕ)
+wordsIn index = foldedKeywords (listIn index)
 
 abbrev pub Counting : List ℕ → List ChunkRecords → ℕ → ℕ → Type 0
-Counting index chunks n sum =
-    sum + length (joinFrom 0 (foldedKeywords (listIn index)) 0 (drop n chunks))
-    ≡ length (joinFrom 0 (foldedKeywords (listIn index)) 0 chunks)
+Counting index chunks n sum = sum + length (joinFrom 0 (wordsIn index) 0 (drop n chunks)) ≡ length (joinFrom 0 (wordsIn index) 0 chunks)
 
-module _ (index : List ℕ) (count : ℕ) (tables : List (List (List ℕ))) (chunks : List ChunkRecords) (keyed : Keyed index count tables)
-    (good : AllGood (foldedKeywords (listIn index)) chunks)
+-- `base` is where place n starts in the file, and p is where its list is to lie in the buffer, that of the file from `place` on.
+pub record ListingFile (index : List ℕ) (number : ℕ) (chunks : List ChunkRecords) (out₀ out : List ℕ) (place p n base : ℕ) : Type 0 where
+  pub small : base + sizeOf (drop n chunks) < 2 ^ 32
+  pub going : Going out₀ out place p (listBytes (joinFrom number (wordsIn index) 0 chunks)) (listBytes (joinFrom number (wordsIn index) base (drop n chunks)))
+
+module _ (index : List ℕ) (opened : Opened) (tables : List (List (List ℕ))) (chunks : List ChunkRecords) (d : Checked index opened)
+    (tabled : tables ≡ tablesOf (foldedKeywords (listIn index))) (good : AllGood (foldedKeywords (listIn index)) chunks)
     (n : ℕ) (rows rows′ : List (List ℕ)) (size size′ : ℕ) (h : n < length chunks)
-    (l : LoadedAt index count chunks n rows size) (l′ : LoadedAt index count chunks (n + 1) rows′ size′)
-    (streams : List (List ℕ)) (c : Crossed size count tables rows rows′ streams) (sum : ℕ) (at : Counting index chunks n sum) where
-  abbrev keywords : List (List ℕ)
-  keywords = foldedKeywords (listIn index)
+    (l : LoadedAt index opened chunks n rows size) (l′ : LoadedAt index opened chunks (n + 1) rows′ size′)
+    (streams : List (List ℕ)) (c : Crossed size (opened .keywords) tables rows rows′ streams) where
+  abbrev count : ℕ
+  count = opened .keywords
 
-  ready : ReadableStreams index 2 size count streams
-  ready = place-ready index count tables chunks keyed good n rows rows′ size size′ h l l′ streams c
+  -- the occurrences at this place
+  abbrev here : ℕ → ℕ → List Occurrence
+  here file base = occurrences file count base size (unreadAt index (widthOf opened) streams)
 
-  rest-count : length (joinFrom 0 keywords 0 (drop n chunks)) ≡ total streams count + length (joinFrom 0 keywords 0 (drop (n + 1) chunks))
-  rest-count =
-      ap length (place-join index count tables chunks keyed good n rows rows′ size size′ h l l′ streams c 0 0)
-      ∙ length-append (occurrences 0 count 0 size (unreadAt index 2 streams)) _
-      ∙ ap₂ (λ (x y : ℕ). x + y) (sym (total-is index 2 size count streams ready 0 0)) (join-length keywords (drop (n + 1) chunks) 0 (0 + size) 0 0)
+  pub ready : ReadableStreams index (widthOf opened) size count streams
+  ready = place-ready index opened tables chunks d tabled good n rows rows′ size size′ h l l′ streams c
 
-  pub counting-on : (m : ℕ) → m ≡ total streams count → Counting index chunks (n + 1) (sum + m)
-  counting-on m e = omega (arith, at, rest-count)
+  next : (file base : ℕ)
+      → joinFrom file (wordsIn index) base (drop n chunks) ≡ here file base ++ joinFrom file (wordsIn index) (base + size) (drop (n + 1) chunks)
+  next file base = place-join index opened tables chunks d tabled good n rows rows′ size size′ h l l′ streams c file base
 
-pub counting-end : (index file : List ℕ) (n sum : ℕ) → length (chunksIn index file) ≤ n → Counting index (chunksIn index file) n sum
-    → sum ≡ length (fileList 0 index file)
-unfolding joinFrom
-counting-end index file n sum h c =
-    let z = ap (λ (l : List ChunkRecords). length (joinFrom 0 (foldedKeywords (listIn index)) 0 l)) (drop-of-length-le (chunksIn index file) h) in
-    omega (arith, c, z)
-
--- ---- while a list is written
-
-pub one-less : (o : Occurrence) (still rest : List Occurrence) → still ≡ o ∷ rest → length rest < length still
-one-less o still rest e = omega (arith, ap length e)
-
-module _ (out₀ out : List ℕ) (place p : ℕ) (whole rest : List Occurrence) (g : Going out₀ out place p (listBytes whole) (listBytes rest)) where
-  pub list-room : (o : Occurrence) (rest′ : List Occurrence) → place + 9 * length whole ≤ length out₀ → rest ≡ o ∷ rest′ → p + 9 ≤ length out
-  list-room o rest′ room e =
-      let fits : place + length (listBytes whole) ≤ length out₀ = omega (arith, length-list whole) in
-      let first : listBytes rest ≡ occurrenceBytes o ++ listBytes rest′ = ap listBytes e ∙ list-cons o rest′ in
+  pub counting-on : (sum m : ℕ) → Counting index chunks n sum → m ≡ total streams count → Counting index chunks (n + 1) (sum + m)
+  counting-on sum m at e =
       omega (
         arith,
-        length-occurrence o,
-        going-room out₀ out place p (listBytes whole) (listBytes rest) g (occurrenceBytes o) (listBytes rest′) fits first,
+        at,
+        ap length (next 0 0) ∙ length-append (here 0 0) _,
+        total-is index (widthOf opened) size count streams ready 0 0,
+        join-length (wordsIn index) (drop (n + 1) chunks) 0 (0 + size) 0 0,
       )
 
-  pub list-on : (out′ : List ℕ) (o : Occurrence) (rest′ : List Occurrence) → place + 9 * length whole ≤ length out₀ → rest ≡ o ∷ rest′
-      → out′ ≡ splice out p (occurrenceBytes o)
-      → Going out₀ out′ place (p + 9) (listBytes whole) (listBytes rest′)
-  list-on out′ o rest′ room e w =
-      let fits : place + length (listBytes whole) ≤ length out₀ = omega (arith, length-list whole) in
-      let first : listBytes rest ≡ occurrenceBytes o ++ listBytes rest′ = ap listBytes e ∙ list-cons o rest′ in
-      going-on out₀ out place p (listBytes whole) (listBytes rest) g out′ (occurrenceBytes o) (listBytes rest′) (p + 9)
-      fits first (omega (arith, length-occurrence o)) w
+  module _ (number : ℕ) (out₀ out : List ℕ) (place p base : ℕ) (at : ListingFile index number chunks out₀ out place p n base) where
+    sizes : sizeOf (drop n chunks) ≡ size + sizeOf (drop (n + 1) chunks)
+    sizes = rw (drop-cons chunks n noChunk h, add-one) (ap (λ (z : ℕ). z + sizeOf (drop (suc n) chunks)) (sym (l .sized h)))
 
-  none : rest ≡ [] → listBytes rest ≡ []
-  none e = ap listBytes e ∙ list-nil
+    pub listing-fits : base + size < 2 ^ 32
+    listing-fits = omega (arith, at .small, sizes)
 
-  pub list-bytes : rest ≡ [] → out ≡ splice out₀ place (listBytes whole)
-  list-bytes e = going-end out₀ out place p (listBytes whole) (listBytes rest) g (none e)
+    module _ (room : place + 9 * length (joinFrom number (wordsIn index) 0 chunks) ≤ length out₀) where
+      abbrev whole : List ℕ
+      whole = listBytes (joinFrom number (wordsIn index) 0 chunks)
 
-  pub list-ends : rest ≡ [] → p ≡ place + 9 * length whole
-  list-ends e = omega (arith, going-place out₀ out place p (listBytes whole) (listBytes rest) g (none e), length-list whole)
+      abbrev rest : List ℕ
+      rest = listBytes (joinFrom number (wordsIn index) base (drop n chunks))
 
--- ---- before the first place, with arrays of zeros
+      abbrev rest′ : List ℕ
+      rest′ = listBytes (joinFrom number (wordsIn index) (base + size) (drop (n + 1) chunks))
 
-zero-streams : (n k : ℕ) → let s = streamOf (replicate {A = List ℕ} n (replicate {A = ℕ} 5 0)) k in
-    (_≡_ {A = ℕ} (getD s 1 0) 0) × (_≡_ {A = ℕ} (getD s 2 0) 0) × (_≡_ {A = ℕ} (getD s 4 0) 0)
-zero-streams zero k = (refl, refl, refl)
-zero-streams (suc n) zero = (refl, refl, refl)
-zero-streams (suc n) (suc k) = zero-streams n k
+      fits : place + length whole ≤ length out₀
+      fits = omega (arith, room, length-list (joinFrom number (wordsIn index) 0 chunks))
 
-module _ (index file : List ℕ) (count : ℕ) (rows : List (List ℕ)) (size : ℕ) where
-  abbrev zeros : List (List ℕ)
-  zeros = replicate {A = List ℕ} 16 (replicate {A = ℕ} 5 0)
+      split : rest ≡ listBytes (here number base) ++ rest′
+      split = ap listBytes (next number base) ∙ list-append (here number base) (joinFrom number (wordsIn index) (base + size) (drop (n + 1) chunks))
 
-  abbrev here : List ℕ
-  here = set (replicate {A = ℕ} 4 0) 3 size
+      pub listing-room : p + 9 * length (here number base) ≤ length out
+      listing-room =
+          omega (arith, length-list (here number base), going-room out₀ out place p whole rest (at .going) (listBytes (here number base)) rest′ fits split)
 
-  pub first-place : (slots : List ℕ) → count ≤ 16 → File index file slots → LoadedAt index count (chunksIn index file) 0 rows size
-      → AtPlace index count (chunksIn index file) here zeros rows
-  first-place slots few f l =
-      start-place index count (chunksIn index file) here zeros rows refl refl refl refl
-      (omega (arith, length-replicate {A = List ℕ} 16 (replicate {A = ℕ} 5 0))) (λ k h. zero-streams 16 k) (f .small) l
+      -- this place's list is written
+      pub listing-on : (out′ : List ℕ) (p′ : ℕ) → p′ ≡ p + 9 * length (here number base) → out′ ≡ splice out p (listBytes (here number base))
+          → ListingFile index number chunks out₀ out′ place p′ (n + 1) (base + size)
+      listing-on out′ p′ q w =
+          record {
+            small = omega (arith, at .small, sizes);
+            going = going-on out₀ out place p whole rest (at .going) out′ (listBytes (here number base)) rest′ p′ fits split
+                (omega (arith, q, length-list (here number base))) w;
+          }
 
-  pub first-going : (out : List ℕ) (place number : ℕ)
-      → Going out out place place (listBytes (fileList number index file)) (listBytes (coming number index count (chunksIn index file) here zeros))
-  first-going out place number =
-      subst (λ (os : List Occurrence). Going out out place place (listBytes (fileList number index file)) (listBytes os))
-      (sym (start-coming number index count (chunksIn index file) here zeros refl refl refl)) (going-start out place _)
+-- ---- before the first place and behind the last
+
+module _ (index file : List ℕ) where
+  past : (number base n : ℕ) → length (chunksIn index file) ≤ n → joinFrom number (wordsIn index) base (drop n (chunksIn index file)) ≡ []
+  unfolding joinFrom
+  past number base n h = ap (joinFrom number (wordsIn index) base) (drop-of-length-le (chunksIn index file) h)
+
+  pub counting-end : (n sum : ℕ) → length (chunksIn index file) ≤ n → Counting index (chunksIn index file) n sum → sum ≡ length (fileList 0 index file)
+  counting-end n sum h c = omega (arith, c, ap length (past 0 0 n h))
+
+  module _ (number : ℕ) (out₀ : List ℕ) (place : ℕ) where
+    -- the list is in the buffer
+    abbrev Done : List ℕ → ℕ → Type 0
+    Done out p = (p ≡ place + 9 * length (fileList number index file)) × (out ≡ splice out₀ place (listBytes (fileList number index file)))
+
+    done : (out : List ℕ) (p : ℕ) (rest : List Occurrence) → rest ≡ []
+        → Going out₀ out place p (listBytes (fileList number index file)) (listBytes rest) → Done out p
+    done out p rest e g =
+        let whole : List ℕ = listBytes (fileList number index file) in
+        let z : listBytes rest ≡ [] = ap listBytes e ∙ list-nil in (
+          omega (arith, going-place out₀ out place p whole (listBytes rest) g z, length-list (fileList number index file)),
+          going-end out₀ out place p whole (listBytes rest) g z,
+        )
+
+    pub listing-none : fileList number index file ≡ [] → Done out₀ place
+    listing-none e = done out₀ place (fileList number index file) e (going-start out₀ place (listBytes (fileList number index file)))
+
+    pub listing-start : (slots : List ℕ) → File index file slots → ListingFile index number (chunksIn index file) out₀ out₀ place place 0 0
+    listing-start slots f = record { small = omega (arith, f .small); going = going-start out₀ place (listBytes (fileList number index file)) }
+
+    pub listing-end : (out : List ℕ) (p n base : ℕ) → length (chunksIn index file) ≤ n → ListingFile index number (chunksIn index file) out₀ out place p n base
+        → Done out p
+    listing-end out p n base h at = done out p (joinFrom number (wordsIn index) base (drop n (chunksIn index file))) (past number base n h) (at .going)

@@ -11,6 +11,7 @@ use lib.ListN.{length, getD, drop, set, length-set, length-drop}
 use lib.Seq.{drop-cons, getD-drop, getD-set-same, getD-set-other}
 use lib.Dec.{ltb}
 use lib.Pow.{pow-mono}
+use Rattle.spec.specs.declared.Opened.{Opened}
 use Rattle.spec.specs.Bytes.{each, rising}
 use Rattle.spec.specs.Keywords.{foldedKeywords}
 use Rattle.spec.specs.Table.{inCell, setOf}
@@ -25,13 +26,14 @@ use Rattle.spec.proofs.Sets.{set-lt}
 use Rattle.spec.proofs.Stream.{atPlace, stream, cell-no-suffix}
 use Rattle.spec.proofs.RecordRanges.{passing-rises, passing-every}
 use Rattle.spec.proofs.RecordLaws.{prefix-in, suffix-in, offsets-rise, offsets-in, offsets-count}
-use Rattle.tables.specs.Tabled.{cellSet, cellAt}
+use Rattle.tables.specs.Tabled.{cellSet, cellAt, tablesOf}
 use Rattle.tables.proofs.Cells.{cell-at}
 use Rattle.listing.specs.Streams.{below, bits, unread, streamOf, unreadAt, occurrences, numbers, total, ReadableStreams}
 use Rattle.listing.proofs.Digits.{bits-set}
 use Rattle.listing.proofs.Totals.{total-set}
 use Rattle.loader.specs.Loaded.{rowOf}
-use Rattle.walk.specs.Walking.{noChunk, chunkIn, firstSuffix, Keyed, LoadedAt, Crossable, Crossed, Filled}
+use Rattle.walk.specs.Walking.{noChunk, chunkIn, firstSuffix, widthOf, Checked, LoadedAt, Crossable, Crossed, Filled}
+use Rattle.walk.proofs.Entries.{keywords-count, few}
 
 -- ---- filling the streams, one after the other
 
@@ -84,11 +86,6 @@ listed-is keywords here [] p k h =
     rw (cell-no-suffix (keywordAt keywords k) (recordAt here k .prefix) (recordAt here k .prefix - (here .size - p)) h, and-false)
 listed-is keywords here (next ∷ rest) p k h = refl
 
-pub occurrences-same : (file count base size : ℕ) (s t : ℕ → List ℕ) → ((k : ℕ) → k < count → s k ≡ t k)
-    → occurrences file count base size s ≡ occurrences file count base size t
-unfolding occurrences
-occurrences-same file count base size s t h = each-match _ _ 0 0 size (λ p l. occurrencesAt-same file count (base + (0 + p)) _ _ (λ k hk. rw (h k hk)))
-
 -- streams that are the numbers which pass tests give what passes them
 occurrences-are : (file count base size : ℕ) (s : ℕ → List ℕ) (t : ℕ → ℕ → Bool) → ((k : ℕ) → k < count → s k ≡ passing (t k) 0 size)
     → occurrences file count base size s ≡ each (λ p. occurrencesAt file count (λ k. t k p) (base + p)) 0 size
@@ -102,7 +99,7 @@ occurrences-are file count base size s t h =
 -- every chunk's records are in range, for keywords of 1 to 32 bytes
 pub record AllGood (keywords : List (List ℕ)) (chunks : List ChunkRecords) : Type 0 where
   pub proper : (k : ℕ) → k < length keywords → (1 ≤ length (keywordAt keywords k)) × (length (keywordAt keywords k) ≤ 32)
-  pub sizes : (n : ℕ) → n < length chunks → chunkIn chunks n .size ≤ 65535
+  pub sizes : (n : ℕ) → n < length chunks → chunkIn chunks n .size ≤ 1048576
   pub ranges : (n : ℕ) → n < length chunks → (k : ℕ) → k < length keywords
       → inRange (length (keywordAt keywords k)) (chunkIn chunks n .size) (recordAt (chunkIn chunks n) k) ≡ true
 
@@ -144,10 +141,13 @@ module _ (keywords : List (List ℕ)) (chunks : List ChunkRecords) (good : AllGo
           let q : c ≡ chunkIn chunks n = first ∙ getD-drop n chunks 0 noChunk ∙ ap (λ (i : ℕ). getD chunks i noChunk) (add-zero n) in
           rw q (suffix-one n m k u)
 
-module _ (index : List ℕ) (count : ℕ) (tables : List (List (List ℕ))) (chunks : List ChunkRecords) (keyed : Keyed index count tables)
-    (good : AllGood (foldedKeywords (listIn index)) chunks)
+module _ (index : List ℕ) (opened : Opened) (tables : List (List (List ℕ))) (chunks : List ChunkRecords) (d : Checked index opened)
+    (tabled : tables ≡ tablesOf (foldedKeywords (listIn index))) (good : AllGood (foldedKeywords (listIn index)) chunks)
     (n : ℕ) (rows rows′ : List (List ℕ)) (size size′ : ℕ) (h : n < length chunks)
-    (l : LoadedAt index count chunks n rows size) (l′ : LoadedAt index count chunks (n + 1) rows′ size′) where
+    (l : LoadedAt index opened chunks n rows size) (l′ : LoadedAt index opened chunks (n + 1) rows′ size′) where
+  abbrev count : ℕ
+  count = opened .keywords
+
   abbrev keywords : List (List ℕ)
   keywords = foldedKeywords (listIn index)
 
@@ -158,7 +158,7 @@ module _ (index : List ℕ) (count : ℕ) (tables : List (List (List ℕ))) (chu
   rest = drop (n + 1) chunks
 
   in-keywords : (k : ℕ) → k < count → k < length keywords
-  in-keywords k u = omega (arith, keyed .counts)
+  in-keywords k u = omega (arith, keywords-count index opened d)
 
   pub crossable : Crossable size count rows rows′
   crossable =
@@ -178,7 +178,7 @@ module _ (index : List ℕ) (count : ℕ) (tables : List (List (List ℕ))) (chu
   cell-is k u =
       let v = in-keywords k u in
       rw (l .each k u h .prefix, l′ .suffix k u)
-      (cell-at keywords tables (keyed .tabled) k (recordAt here k .prefix) (firstSuffix rest k) (omega (arith, keyed .few)) (good .proper k v .1)
+      (cell-at keywords tables tabled k (recordAt here k .prefix) (firstSuffix rest k) (omega (arith, few index opened d)) (good .proper k v .1)
       (prefix-small keywords chunks good n h k v) (suffix-small keywords chunks good (n + 1) k v))
 
   cell-lt : (k : ℕ) → k < count → cellAt tables k (getD (rowOf rows k) 0 0) (getD (rowOf rows′ k) 1 0) < 2 ^ 32
@@ -189,7 +189,7 @@ module _ (index : List ℕ) (count : ℕ) (tables : List (List (List ℕ))) (chu
       rw (cell-is k u) (lt-of-lt-of-le (set-lt (inCell (keywordAt keywords k) i (firstSuffix rest k)) i) (pow-mono {i = i} {j = 32} short))
 
   module _ (streams : List (List ℕ)) (c : Crossed size count tables rows rows′ streams) where
-    unread-is : (k : ℕ) → k < count → unreadAt index 2 streams k ≡ passing (test k) 0 size
+    unread-is : (k : ℕ) → k < count → unreadAt index (widthOf opened) streams k ≡ passing (test k) 0 size
     unfolding unread
     unread-is k u =
         let v = in-keywords k u in
@@ -206,7 +206,7 @@ module _ (index : List ℕ) (count : ℕ) (tables : List (List (List ℕ))) (chu
         (stream-is (keywordAt keywords k) offsets i (firstSuffix rest k) size up
         (rw (l .sized h) inside) (rw (l .sized h) (prefix-short keywords chunks good n h k v)) (omega arith))
 
-    pub place-ready : ReadableStreams index 2 size count streams
+    pub place-ready : ReadableStreams index (widthOf opened) size count streams
     place-ready =
         record {
           long = c .long;
@@ -219,10 +219,11 @@ module _ (index : List ℕ) (count : ℕ) (tables : List (List (List ℕ))) (chu
         }
 
     place-is : (file base : ℕ)
-        → occurrences file count base size (unreadAt index 2 streams) ≡ each (λ p. occurrencesAt file (length keywords) (listed keywords here rest p) (base + p)) 0 size
+        → occurrences file count base size (unreadAt index (widthOf opened) streams)
+        ≡ each (λ p. occurrencesAt file (length keywords) (listed keywords here rest p) (base + p)) 0 size
     place-is file base =
         occurrences-are file count base size _ test unread-is
-        ∙ ap (λ (m : ℕ). each (λ p. occurrencesAt file m (λ k. test k p) (base + p)) 0 size) (keyed .counts)
+        ∙ ap (λ (m : ℕ). each (λ p. occurrencesAt file m (λ k. test k p) (base + p)) 0 size) (keywords-count index opened d)
         ∙ each-match _ _ 0 0 size (λ x u. occurrencesAt-same file (length keywords) (base + (0 + x)) _ _ (λ k v.
         sym (listed-is keywords here rest (0 + x) k (prefix-small keywords chunks good n h k v)
         ∙ ap (λ (z : ℕ). atPlace (keywordAt keywords k) (recordAt here k .offsets) (recordAt here k .prefix) (firstSuffix rest k) z (0 + x))
@@ -231,7 +232,7 @@ module _ (index : List ℕ) (count : ℕ) (tables : List (List (List ℕ))) (chu
     -- what the definition lists from this place on: what the streams give, and then the places behind
     pub place-join : (file base : ℕ)
         → joinFrom file keywords base (drop n chunks)
-        ≡ occurrences file count base size (unreadAt index 2 streams) ++ joinFrom file keywords (base + size) (drop (n + 1) chunks)
+        ≡ occurrences file count base size (unreadAt index (widthOf opened) streams) ++ joinFrom file keywords (base + size) (drop (n + 1) chunks)
     unfolding joinFrom
     place-join file base =
         let e : drop (suc n) chunks ≡ drop (n + 1) chunks = ap (λ (m : ℕ). drop m chunks) (sym (add-one n)) in

@@ -1,16 +1,15 @@
-// The occurrences of a file, one after the other, across its places. A file is a run of fingerprints in the recipes; the entry of each is
-// taken from its slot, or looked up in the index where it has none, when the place before it is opened.
+// The occurrences of a file, place by place. A file is a run of fingerprints in the recipes; the entry of each is taken from its slot, or
+// looked up in the index where it has none, when the place before it is counted or listed.
 ghost use mathlib.Core.Path.{_≡_};
-ghost use Prim.Native.Nat.{_+_, _*_, _/_, _^_, _≤_, _<_};
-ghost use lib.ListN.{length, getD};
-ghost use Rattle.spec.specs.Bytes.{part, splice, positionOf};
+ghost use mathlib.Core.List.{[]};
+ghost use Prim.Native.Nat.{_+_, _*_, _^_, _≤_, _<_};
+ghost use lib.ListN.{length};
+ghost use Rattle.spec.specs.Bytes.{splice};
 ghost use Rattle.spec.specs.Keywords.{foldedKeywords};
-ghost use Rattle.spec.specs.Index.{listIn, indexKeys};
+ghost use Rattle.spec.specs.Index.{listIn};
 ghost use Rattle.spec.specs.Join.{listBytes};
-ghost use Rattle.walk.specs.Walking.{chunksIn, fileList, Directory, File, Keyed, Walkable, LoadedAt, Crossable, Filled, AtPlace, PlaceOpened, NextOf};
-
-// Bytes of an offset.
-const WIDTH: usize = 2;
+ghost use Rattle.tables.specs.Tabled.{tablesOf};
+ghost use Rattle.walk.specs.Walking.{fileList, Checked, Directory, File, EntryAt, LoadedEntry, Crossable, Filled};
 
 // A row is prefix, suffix, the place of the list of offsets, and how many there are.
 const PREFIX: usize = 0;
@@ -21,56 +20,42 @@ const PLACE: usize = 2;
 
 const LEFT: usize = 3;
 
-// The entry of place n of a file.
+// The entry of place n of a file; the number of entries behind the last place.
 fn entry_at(
     index: &[u8],
-    directory: usize,
-    entries: usize,
-    heads: &[u32],
-    chain: &[u32],
+    opened: spec::Opened,
+    chains: &[u32],
     file: &[u8],
     slots: &[u32],
     n: usize,
 ) -> usize
-    requires { ⌜ Directory (now index) directory entries (now heads) (now chain) ⌝ }
+    requires { ⌜ Directory (now index) opened (now chains) ⌝ }
     requires { ⌜ File (now index) (now file) (now slots) ⌝ }
-    requires { ⌜ n < length (now file) / 20 ⌝ }
-    ensures { λ r. ⌜ r ≡ positionOf (part (now (file .entry)) (20 * n) 20) (indexKeys (now (index .entry))) ⌝ }
+    ensures { λ r. ⌜ EntryAt (now (index .entry)) (now (file .entry)) n r ⌝ }
 {
+    if file.len() / 20 <= n {
+        return opened.entries;
+    }
     if n < slots.len() {
         return slots[n] as usize;
     }
-    files::entry_of(file, n, index, directory, entries, heads, chain)
+    files::entry_of(file, n, index, opened, chains)
 }
 
-// Loads place n of a file, and returns its size. Behind the last place nothing is to be crossed into.
-fn load(
-    index: &[u8],
-    directory: usize,
-    entries: usize,
-    heads: &[u32],
-    chain: &[u32],
-    file: &[u8],
-    slots: &[u32],
-    n: usize,
-    count: usize,
-    rows: &mut [[usize; 4]; 16],
-) -> usize
-    requires { ⌜ Directory (now index) directory entries (now heads) (now chain) ⌝ }
-    requires { ⌜ File (now index) (now file) (now slots) ⌝ }
-    requires { ⌜ (count ≡ length (foldedKeywords (listIn (now index)))) × (count ≤ 16) × (count ≤ length (now rows)) ⌝ }
-    ensures { λ r. ⌜ LoadedAt (now (index .entry)) count (chunksIn (now (index .entry)) (now (file .entry))) n (now (rows .exit)) r ⌝ }
+// Loads the rows of entry e, and returns its chunk's size. Behind the last entry nothing is to be crossed into.
+fn load(index: &[u8], opened: spec::Opened, e: usize, rows: &mut [[usize; 4]; 16]) -> usize
+    requires { ⌜ Checked (now index) opened × (e ≤ opened .entries) × (opened .keywords ≤ length (now rows)) ⌝ }
+    ensures { λ r. ⌜ LoadedEntry (now (index .entry)) opened e (now (rows .exit)) r ⌝ }
 {
-    if file.len() / 20 <= n {
+    if opened.entries <= e {
         let none = [[0usize; 4]; 16];
         *rows = none;
         return 0;
     }
-    let e = entry_at(index, directory, entries, heads, chain, file, slots, n);
-    let entry = directory + 32 * e;
+    let entry = opened.directory + 32 * e;
     let from = field::read(index, entry + 24, 4) as usize;
     let long = field::read(index, entry + 28, 4) as usize;
-    loader::load(index, from, long, count, rows);
+    loader::load(index, opened.format, from, long, opened.keywords, rows);
     field::read(index, entry + 20, 4) as usize
 }
 
@@ -110,211 +95,94 @@ fn cross(
     many
 }
 
-// Opens the next place. `here` has the number of the next place to open, where the open place starts, its size, and the next place's size.
-fn move_on(
-    index: &[u8],
-    directory: usize,
-    entries: usize,
-    heads: &[u32],
-    chain: &[u32],
-    tables: &[[[u32; 32]; 32]; 16],
-    file: &[u8],
-    slots: &[u32],
-    count: usize,
-    here: &mut [usize; 4],
-    streams: &mut [[usize; 5]; 16],
-    rows: &mut [[usize; 4]; 16],
-)
-    requires { ⌜ Walkable (now index) directory entries (now heads) (now chain) (now tables) (now file) (now slots) count ⌝ }
-    requires { ⌜ AtPlace (now index) count (chunksIn (now index) (now file)) (now here) (now streams) (now rows) ⌝ }
-    requires { ⌜ getD (now here) 0 0 < length (now file) / 20 ⌝ }
-    ensures { λ _. ⌜ PlaceOpened (now (index .entry)) count (chunksIn (now (index .entry)) (now (file .entry))) (now (here .entry)) (now (here .exit)) (now (streams .exit)) (now (rows .exit)) ⌝ }
-{
-    let n = here[0];
-    let size = here[3];
-    let first = *rows;
-    here[1] = here[1] + here[2];
-    here[2] = size;
-    here[0] = n + 1;
-    here[3] = load(
-        index,
-        directory,
-        entries,
-        heads,
-        chain,
-        file,
-        slots,
-        n + 1,
-        count,
-        rows,
-    );
-    let many = cross(size, count, tables, &first, rows, streams);
-    listing::open(index, WIDTH, size, count, many, streams);
-}
-
-// The next occurrence of a file: its keyword, and its offset in the file. The keyword is `count` where there is none.
-fn next(
-    index: &[u8],
-    directory: usize,
-    entries: usize,
-    heads: &[u32],
-    chain: &[u32],
-    tables: &[[[u32; 32]; 32]; 16],
-    file: &[u8],
-    slots: &[u32],
-    count: usize,
-    here: &mut [usize; 4],
-    streams: &mut [[usize; 5]; 16],
-    rows: &mut [[usize; 4]; 16],
-) -> listing::Taken
-    requires { ⌜ Walkable (now index) directory entries (now heads) (now chain) (now tables) (now file) (now slots) count ⌝ }
-    requires { ⌜ AtPlace (now index) count (chunksIn (now index) (now file)) (now here) (now streams) (now rows) ⌝ }
-    ensures { λ r. ⌜ NextOf (now (index .entry)) count (chunksIn (now (index .entry)) (now (file .entry))) (now (here .entry)) (now (streams .entry))
-        (now (here .exit)) (now (streams .exit)) (now (rows .exit)) (r .keyword) (r .offset) ⌝ }
-{
-    loop {
-        let size = here[2];
-        let t = listing::next(index, WIDTH, size, count, streams);
-        if t.offset < size {
-            return listing::Taken {
-                keyword: t.keyword,
-                offset: here[1] + t.offset,
-            };
-        }
-        if file.len() / 20 <= here[0] {
-            return listing::Taken {
-                keyword: count,
-                offset: 0,
-            };
-        }
-        move_on(
-            index,
-            directory,
-            entries,
-            heads,
-            chain,
-            tables,
-            file,
-            slots,
-            count,
-            here,
-            streams,
-            rows,
-        );
-    }
-}
-
 // How many occurrences a file has.
 pub fn count_file(
     index: &[u8],
-    directory: usize,
-    entries: usize,
-    heads: &[u32],
-    chain: &[u32],
+    opened: spec::Opened,
+    chains: &[u32],
+    tables: &[[[u32; 32]; 32]; 16],
     file: &[u8],
     slots: &[u32],
-    count: usize,
-    tables: &[[[u32; 32]; 32]; 16],
 ) -> usize
-    requires { ⌜ Directory (now index) directory entries (now heads) (now chain) ⌝ }
+    requires { ⌜ Directory (now index) opened (now chains) ⌝ }
+    requires { ⌜ now tables ≡ tablesOf (foldedKeywords (listIn (now index))) ⌝ }
     requires { ⌜ File (now index) (now file) (now slots) ⌝ }
-    requires { ⌜ Keyed (now index) count (now tables) ⌝ }
     ensures { λ r. ⌜ r ≡ length (fileList 0 (now (index .entry)) (now (file .entry))) ⌝ }
 {
     let mut rows = [[0usize; 4]; 16];
     let mut streams = [[0usize; 5]; 16];
-    let mut size = load(
-        index,
-        directory,
-        entries,
-        heads,
-        chain,
-        file,
-        slots,
-        0,
-        count,
-        &mut rows,
-    );
+    let start = entry_at(index, opened, chains, file, slots, 0);
+    let mut size = load(index, opened, start, &mut rows);
     let mut sum: usize = 0;
     let mut n: usize = 0;
     while n < file.len() / 20 {
         let first = rows;
-        let after = load(
-            index,
-            directory,
-            entries,
-            heads,
-            chain,
-            file,
-            slots,
-            n + 1,
-            count,
-            &mut rows,
-        );
-        sum += cross(size, count, tables, &first, &rows, &mut streams);
+        let e = entry_at(index, opened, chains, file, slots, n + 1);
+        let after = load(index, opened, e, &mut rows);
+        sum += cross(size, opened.keywords, tables, &first, &rows, &mut streams);
         size = after;
         n += 1;
     }
     sum
 }
 
-// Lists the occurrences of a file, from a place of the buffer on, and returns the place behind.
+// What a listing of a file goes by: the opened index, the file's number, where in the buffer its list starts, and its mark, which is 0
+// where it has no occurrence, so that none of its places is looked at.
+pub struct Listing {
+    pub opened: spec::Opened,
+    pub number: usize,
+    pub place: usize,
+    pub mark: u8,
+}
+
+// Lists the occurrences of a file, from a place of the buffer on, and returns the place behind. Every place is looked up.
 pub fn list_file(
     index: &[u8],
-    directory: usize,
-    entries: usize,
-    heads: &[u32],
-    chain: &[u32],
-    file: &[u8],
-    slots: &[u32],
-    count: usize,
+    listing: Listing,
+    chains: &[u32],
     tables: &[[[u32; 32]; 32]; 16],
-    number: usize,
+    file: &[u8],
     out: &mut [u8],
-    place: usize,
 ) -> usize
-    requires { ⌜ Directory (now index) directory entries (now heads) (now chain) ⌝ }
-    requires { ⌜ File (now index) (now file) (now slots) ⌝ }
-    requires { ⌜ Keyed (now index) count (now tables) ⌝ }
-    requires { ⌜ place + 9 * length (fileList number (now index) (now file)) ≤ length (now out) ⌝ }
-    ensures { λ r. ⌜ (r ≡ place + 9 * length (fileList number (now (index .entry)) (now (file .entry))))
-        × (now (out .exit) ≡ splice (now (out .entry)) place (listBytes (fileList number (now (index .entry)) (now (file .entry))))) ⌝ }
+    requires { ⌜ (listing .mark ≡ 0 → fileList (listing .number) (now index) (now file) ≡ []) ⌝ }
+    requires { ⌜ Directory (now index) (listing .opened) (now chains) ⌝ }
+    requires { ⌜ now tables ≡ tablesOf (foldedKeywords (listIn (now index))) ⌝ }
+    requires { ⌜ File (now index) (now file) [] ⌝ }
+    requires { ⌜ listing .place + 9 * length (fileList (listing .number) (now index) (now file)) ≤ length (now out) ⌝ }
+    ensures { λ r. ⌜ (r ≡ listing .place + 9 * length (fileList (listing .number) (now (index .entry)) (now (file .entry))))
+        × (now (out .exit) ≡ splice (now (out .entry)) (listing .place) (listBytes (fileList (listing .number) (now (index .entry)) (now (file .entry))))) ⌝ }
 {
-    let mut here = [0usize; 4];
-    let mut streams = [[0usize; 5]; 16];
-    let mut rows = [[0usize; 4]; 16];
-    here[3] = load(
-        index,
-        directory,
-        entries,
-        heads,
-        chain,
-        file,
-        slots,
-        0,
-        count,
-        &mut rows,
-    );
-    let mut p = place;
-    loop {
-        let t = next(
-            index,
-            directory,
-            entries,
-            heads,
-            chain,
-            tables,
-            file,
-            slots,
-            count,
-            &mut here,
-            &mut streams,
-            &mut rows,
-        );
-        if count <= t.keyword {
-            return p;
-        }
-        listing::put(out, p, number as u64, t.offset as u64, t.keyword);
-        p += 9;
+    if listing.mark == 0 {
+        return listing.place;
     }
+    let opened = listing.opened;
+    let width = opened.format.width;
+    let slots = [0u32; 0];
+    let mut rows = [[0usize; 4]; 16];
+    let mut streams = [[0usize; 5]; 16];
+    let start = entry_at(index, opened, chains, file, &slots, 0);
+    let mut size = load(index, opened, start, &mut rows);
+    let mut base: usize = 0;
+    let mut p = listing.place;
+    let mut n: usize = 0;
+    while n < file.len() / 20 {
+        let first = rows;
+        let e = entry_at(index, opened, chains, file, &slots, n + 1);
+        let after = load(index, opened, e, &mut rows);
+        let many = cross(size, opened.keywords, tables, &first, &rows, &mut streams);
+        let place = listing::Place {
+            file: listing.number,
+            base: base,
+            size: size,
+            width: width,
+            count: opened.keywords,
+            many: many,
+            at: p,
+        };
+        p = listing::list_place(index, place, &streams, out);
+        base += size;
+        size = after;
+        n += 1;
+    }
+    p
 }

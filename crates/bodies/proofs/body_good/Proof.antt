@@ -8,22 +8,25 @@ use borrow.Author.Needs.{needs}
 use borrow.Author.Tests.{not-true, not-false}
 use Rattle.bodies.proofs.Turns.{left-all, turn-absent, turn-start, turn-length, turn-bad, turn-good, turn-within, left-end}
 use lib.ListN.{take}
-use Rattle.spec.specs.Records.{form1, goodBody}
+use Rattle.spec.specs.Form.{formIn}
+use Rattle.spec.specs.Records.{goodBody}
 use Rattle.bodies.specs.Steps.{goodFrom}
 use Rattle.bodies.proofs.body_good.Statement.{statement}
 use Rattle.bodies.proofs.body_good.Tie as tie
 
 abbrev Inv-loop : tie.InvT-loop
-Inv-loop body lengths count size at₀ k₀ at k =
-    (k ≤ count) × (at ≤ length body) × (goodFrom form1 k (drop k (take count lengths)) size (drop at body) ≡ goodBody form1 (take count lengths) size body)
+Inv-loop body format lengths count size at₀ k₀ at k =
+    (k ≤ count)
+    × (at ≤ length body)
+    × (goodFrom (formIn format) k (drop k (take count lengths)) size (drop at body) ≡ goodBody (formIn format) (take count lengths) size body)
 
 abbrev μ-loop : tie.MeasureT-loop
-μ-loop body lengths count size at₀ k₀ at k = count - k
+μ-loop body format lengths count size at₀ k₀ at k = count - k
 
 loop-holds : tie.Need-loop-holds Inv-loop μ-loop
 loop-holds c =
     let a = c .before .before .args in
-    (omega arith, omega arith, left-all (now (a .lengths)) (now (a .body)) (a .count) (a .size) (c .before .before .pre))
+    (omega arith, omega arith, left-all (a .format) (now (a .lengths)) (now (a .body)) (a .count) (a .size) (c .before .before .pre))
 
 is-next-requires : tie.Need-is-next-requires Inv-loop μ-loop
 is-next-requires c κs = search needs
@@ -42,7 +45,7 @@ loop-again c =
     let absent = sym (c .before .is-next .ensures) ∙ not-true _ (c .if1 .taken) in (
       omega arith,
       at .inv .1,
-      turn-absent (now (a .lengths)) (now (a .body)) (a .count) (a .size) (s .pre) (at .k) (at .at) (c .before .before .loop-test .taken) absent
+      turn-absent (a .format) (now (a .lengths)) (now (a .body)) (a .count) (a .size) (s .pre) (at .k) (at .at) (c .before .before .loop-test .taken) absent
           ∙ at .inv .2,
     )
 
@@ -68,8 +71,8 @@ record-good-requires c κs =
     let a = s .args in
     let at = turn .before .loop in
     let here = sym (c .before .before .before .is-next .ensures) ∙ not-false _ (c .before .before .if1 .left) in (
-      turn-start (now (a .lengths)) (now (a .body)) (a .count) (a .size) (s .pre) (at .k) (at .at) (turn .loop-test .taken) here,
-      turn-length (now (a .lengths)) (now (a .body)) (a .count) (a .size) (s .pre) (at .k) (at .at) (turn .loop-test .taken) here,
+      turn-start (a .format) (now (a .lengths)) (now (a .body)) (a .count) (a .size) (s .pre) (at .k) (at .at) (turn .loop-test .taken) here,
+      turn-length (a .format) (now (a .lengths)) (now (a .body)) (a .count) (a .size) (s .pre) (at .k) (at .at) (turn .loop-test .taken) here,
     )
 
 returns : tie.Need-returns Inv-loop μ-loop
@@ -80,7 +83,7 @@ returns c =
     let at = turn .before .loop in
     let here = sym (c .before .before .before .before .before .is-next .ensures) ∙ not-false _ (c .before .before .before .before .if1 .left) in
     let got = c .before .record-good in
-    turn-bad (now (a .lengths)) (now (a .body)) (a .count) (a .size) (s .pre) (at .k) (at .at) (turn .loop-test .taken) here
+    turn-bad (a .format) (now (a .lengths)) (now (a .body)) (a .count) (a .size) (s .pre) (at .k) (at .at) (turn .loop-test .taken) here
     (got .result) (got .ensures) (c .if2 .taken)
     ∙ at .inv .2
 
@@ -95,7 +98,7 @@ ends-within c =
     let at = turn .before .loop in
     let here = sym (c .before .before .before .before .before .is-next .ensures) ∙ not-false _ (c .before .before .before .before .if1 .left) in
     let got = c .before .record-good in
-    turn-within (now (a .lengths)) (now (a .body)) (a .count) (a .size) (s .pre) (at .k) (at .at) (turn .loop-test .taken) here
+    turn-within (a .format) (now (a .lengths)) (now (a .body)) (a .count) (a .size) (s .pre) (at .k) (at .at) (turn .loop-test .taken) here
     (got .result) (got .ensures) (at .inv .1)
 
 add-at : tie.Need-add-at Inv-loop μ-loop
@@ -117,7 +120,7 @@ loop-again-2 c =
     let got = c .before .record-good in (
       omega arith,
       ends-within c,
-      turn-good (now (a .lengths)) (now (a .body)) (a .count) (a .size) (s .pre) (at .k) (at .at) (turn .loop-test .taken) here
+      turn-good (a .format) (now (a .lengths)) (now (a .body)) (a .count) (a .size) (s .pre) (at .k) (at .at) (turn .loop-test .taken) here
           (got .result) (got .ensures) (c .if2 .left)
           ∙ at .inv .2,
     )
@@ -127,7 +130,7 @@ returns-2 c =
     let s = c .before .before .before .before in
     let a = s .args in
     let at = c .before .loop in
-    left-end (now (a .lengths)) (now (a .body)) (a .count) (a .size) (s .pre) (at .k) (at .at) (c .loop-test .left) (at .inv .1)
+    left-end (a .format) (now (a .lengths)) (now (a .body)) (a .count) (a .size) (s .pre) (at .k) (at .at) (c .loop-test .left) (at .inv .1)
     ∙ at .inv .2
 
 pub body-good-spec : {M : Type 1} → statement M

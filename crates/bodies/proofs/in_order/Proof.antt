@@ -22,8 +22,8 @@ abbrev μ-loop : tie.MeasureT-loop
 loop-holds : tie.Need-loop-holds Inv-loop μ-loop
 loop-holds c = (c .before .pre .1, order-all (c .before .args .n) (c .before .args .size) _)
 
-read-requires : tie.Need-read-requires Inv-loop μ-loop
-read-requires c κs =
+read-offset-requires : tie.Need-read-offset-requires Inv-loop μ-loop
+read-offset-requires c κs =
     let s = c .before .before .before in
     (s .pre .0, omega (arith, mul-less (s .args .width) (c .before .loop .left) (c .loop-test .taken)))
 
@@ -32,7 +32,7 @@ returns c =
     let at = c .before .before .before in
     let a = at .before .before .args in
     let nonempty = c .before .before .loop-test .taken in
-    let got = c .before .read in
+    let got = c .before .read-offset in
     order-low (a .n) (a .size) (a .width) (at .loop .left) (at .loop .place) (at .loop .least) (now (a .bytes)) nonempty
     (got .result) (got .ensures) (c .if1 .taken)
     ∙ at .loop .inv .1
@@ -42,7 +42,7 @@ returns-2 c =
     let at = c .before .before .before .before in
     let a = at .before .before .args in
     let nonempty = c .before .before .before .loop-test .taken in
-    let got = c .before .before .read in
+    let got = c .before .before .read-offset in
     order-out (a .n) (a .size) (a .width) (at .loop .left) (at .loop .place) (at .loop .least) (now (a .bytes)) nonempty
     (got .result) (got .ensures) (omega arith) (omega arith)
     ∙ at .loop .inv .1
@@ -52,7 +52,7 @@ returns-3 c =
     let at = c .before .before .before .before .before in
     let a = at .before .before .args in
     let nonempty = c .before .before .before .before .loop-test .taken in
-    let got = c .before .before .before .read in
+    let got = c .before .before .before .read-offset in
     order-out (a .n) (a .size) (a .width) (at .loop .left) (at .loop .place) (at .loop .least) (now (a .bytes)) nonempty
     (got .result) (got .ensures) (omega arith) (omega arith)
     ∙ at .loop .inv .1
@@ -76,7 +76,7 @@ loop-again c =
     let at = c .before .before .before .before .before in
     let a = at .before .before .args in
     let nonempty = c .before .before .before .before .loop-test .taken in
-    let got = c .before .before .before .read in (
+    let got = c .before .before .before .read-offset in (
       omega (arith, mul-less (a .width) (at .loop .left) (omega arith)),
       order-on (a .n) (a .size) (a .width) (at .loop .left) (at .loop .place) (at .loop .least) (now (a .bytes)) nonempty
           (got .result) (got .ensures) (omega arith) (omega arith)
@@ -96,7 +96,7 @@ in-order-spec =
     Inv-loop
     μ-loop
     loop-holds
-    read-requires
+    read-offset-requires
     returns
     returns-2
     returns-3

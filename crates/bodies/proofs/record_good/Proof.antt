@@ -1,9 +1,9 @@
--- `record_good` meets its contract: the head's tests, then the record's kind.
-use native.Mathlib.Omega.{arith}
-use denote.Ref.{now}
-use borrow.Author.Needs.{needs}
+-- `record_good` meets its contract: each test decides it, or a function of one kind does (KindChecks).
 use lib.ListN.{List·getD-eq-default}
 use Rattle.bodies.proofs.KindChecks.{tiny-short, kind-large, head-short, head-prefix, head-suffix}
+use denote.Ref.{now}
+use native.Mathlib.Omega.{arith}
+use borrow.Author.Needs.{needs}
 use Rattle.bodies.proofs.record_good.Statement.{statement}
 use Rattle.bodies.proofs.record_good.Tie as tie
 
@@ -11,7 +11,7 @@ returns : tie.Need-returns
 returns c =
     let s = c .before .before in
     let a = s .args in
-    tiny-short (a .n) (a .size) (now (a .bytes)) (s .pre .0) (List·getD-eq-default (now (a .bytes)) 0 {n = 1} (omega arith)) (omega arith)
+    tiny-short (a .format) (a .n) (a .size) (now (a .bytes)) (s .pre .0) (List·getD-eq-default (now (a .bytes)) 0 {n = 1} (omega arith)) (omega arith)
 
 shared-slice-read-kind : tie.Need-shared-slice-read-kind
 shared-slice-read-kind c = search needs
@@ -26,13 +26,16 @@ returns-3 : tie.Need-returns-3
 returns-3 c =
     let s = c .before .before .before .before .before in
     let a = s .args in
-    kind-large (a .n) (a .size) (now (a .bytes)) (s .pre .0) (s .pre .1) (omega arith)
+    kind-large (a .format) (a .n) (a .size) (now (a .bytes)) (s .pre .0) (s .pre .1) (omega arith)
+
+add-if4 : tie.Need-add-if4
+add-if4 c = search needs
 
 returns-4 : tie.Need-returns-4
 returns-4 c =
-    let s = c .before .before .before .before .before .before in
+    let s = c .before .before .before .before .before .before .before in
     let a = s .args in
-    head-short (a .n) (a .size) (now (a .bytes)) (s .pre .0) (s .pre .1) (omega arith) (omega arith)
+    head-short (a .format) (a .n) (a .size) (now (a .bytes)) (s .pre .0) (s .pre .1) (omega arith) (omega arith)
 
 reach-of-requires : tie.Need-reach-of-requires
 reach-of-requires c κs = search needs
@@ -45,9 +48,9 @@ cast-if5 c = omega (arith, c .shared-slice-known3 .given 2)
 
 returns-5 : tie.Need-returns-5
 returns-5 c =
-    let s = c .before .before .before .before .before .before .before .before .before in
+    let s = c .before .before .before .before .before .before .before .before .before .before in
     let a = s .args in
-    head-prefix (a .n) (a .size) (now (a .bytes)) (s .pre .0) (s .pre .1) (omega arith) (omega arith)
+    head-prefix (a .format) (a .n) (a .size) (now (a .bytes)) (s .pre .0) (s .pre .1) (omega arith) (omega arith)
 
 shared-slice-read-if6 : tie.Need-shared-slice-read-if6
 shared-slice-read-if6 c = search needs
@@ -57,9 +60,9 @@ cast-if6 c = omega (arith, c .shared-slice-known4 .given 3)
 
 returns-6 : tie.Need-returns-6
 returns-6 c =
-    let s = c .before .before .before .before .before .before .before .before .before .before .before in
+    let s = c .before .before .before .before .before .before .before .before .before .before .before .before in
     let a = s .args in
-    head-suffix (a .n) (a .size) (now (a .bytes)) (s .pre .0) (s .pre .1) (omega arith) (omega arith)
+    head-suffix (a .format) (a .n) (a .size) (now (a .bytes)) (s .pre .0) (s .pre .1) (omega arith) (omega arith)
 
 several-requires : tie.Need-several-requires
 several-requires c κs = search needs
@@ -97,6 +100,7 @@ record-good-spec =
     tiny-requires
     returns-2
     returns-3
+    add-if4
     returns-4
     reach-of-requires
     shared-slice-read-if5

@@ -10,7 +10,7 @@ returns : tie.Need-returns
 returns c =
     let s = c .before .before in
     let a = s .args in
-    tiny-short (a .n) (a .size) (now (a .bytes)) (s .pre .0) (s .pre .1) (omega arith)
+    tiny-short (a .format) (a .n) (a .size) (now (a .bytes)) (s .pre .0) (s .pre .1) (omega arith)
 
 shared-slice-read-both : tie.Need-shared-slice-read-both
 shared-slice-read-both c = search needs
@@ -19,13 +19,13 @@ returns-2 : tie.Need-returns-2
 returns-2 c =
     let s = c .before .before .before .before in
     let a = s .args in
-    tiny-none (a .n) (a .size) (now (a .bytes)) (s .pre .0) (s .pre .1) (omega arith)
+    tiny-none (a .format) (a .n) (a .size) (now (a .bytes)) (s .pre .0) (s .pre .1) (omega arith)
 
 returns-3 : tie.Need-returns-3
 returns-3 c =
     let s = c .before .before .before .before .before in
     let a = s .args in
-    tiny-large (a .n) (a .size) (now (a .bytes)) (s .pre .0) (s .pre .1) (omega arith)
+    tiny-large (a .format) (a .n) (a .size) (now (a .bytes)) (s .pre .0) (s .pre .1) (omega arith)
 
 reach-of-requires : tie.Need-reach-of-requires
 reach-of-requires c κs = search needs
@@ -37,7 +37,7 @@ returns-4 : tie.Need-returns-4
 returns-4 c =
     let s = c .before .before .before .before .before .before .before in
     let a = s .args in
-    tiny-prefix (a .n) (a .size) (now (a .bytes)) (s .pre .0) (s .pre .1) (omega arith)
+    tiny-prefix (a .format) (a .n) (a .size) (now (a .bytes)) (s .pre .0) (s .pre .1) (omega arith)
 
 cast-if5 : tie.Need-cast-if5
 cast-if5 c = search needs
@@ -46,13 +46,13 @@ returns-5 : tie.Need-returns-5
 returns-5 c =
     let s = c .before .before .before .before .before .before .before .before in
     let a = s .args in
-    tiny-suffix (a .n) (a .size) (now (a .bytes)) (s .pre .0) (s .pre .1) (omega arith)
+    tiny-suffix (a .format) (a .n) (a .size) (now (a .bytes)) (s .pre .0) (s .pre .1) (omega arith)
 
 returns-6 : tie.Need-returns-6
 returns-6 c =
     let s = c .before .before .before .before .before .before .before .before in
     let a = s .args in
-    tiny-good (a .n) (a .size) (now (a .bytes)) (s .pre .0) (s .pre .1) (omega arith) (omega arith) (omega arith) (omega arith) (omega arith)
+    tiny-good (a .format) (a .n) (a .size) (now (a .bytes)) (s .pre .0) (s .pre .1) (omega arith) (omega arith) (omega arith) (omega arith) (omega arith)
 
 pub tiny-spec : {M : Type 1} → statement M
 tiny-spec =

@@ -32,7 +32,7 @@ part-find-end c = search needs
 
 find-requires : tie.Need-find-requires
 find-requires c κs =
-    let s = c .before .before .before .before .before in
+    let s = c .before .before .before .before in
     (s .pre .0, (s .pre .1 .0, rw (length-take, length-drop) (omega (arith, s .pre .1 .1))))
 
 -- the place of the slice is that of the fingerprint
@@ -42,8 +42,8 @@ place file at keys k e = e ∙ ap (λ (x : List ℕ). positionOf x keys) (slice-
 
 returns : tie.Need-returns
 returns c =
-    let a = c .before .before .before .before .before .before .args in
-    place (now (a .file)) (20 * a .j) (keysAt (now (a .index)) (a .start) (a .count)) (c .find .result) (c .find .ensures)
+    let a = c .before .before .before .before .before .args in
+    place (now (a .file)) (20 * a .j) (keysAt (now (a .index)) (a .opened .directory) (a .opened .entries)) (c .find .result) (c .find .ensures)
 
 pub entry-of-spec : {M : Type 1} → statement M
 entry-of-spec =

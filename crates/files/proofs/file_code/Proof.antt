@@ -1,4 +1,5 @@
 -- `files::file_code` meets its contract: the measure's tests in their order. Assumes nothing.
+use Prim.Native.Nat.{_-_}
 use denote.Ref.{now}
 use Rattle.files.specs.Measures.{named, keysAt, sizesAt}
 use Rattle.files.proofs.Measuring.{tested}
@@ -18,10 +19,12 @@ same-length c = search needs
 returns : tie.Need-returns
 returns c =
     let m = c .before .before .before .before in
-    let a = m .before .before .before .before .before .before .before .args in
+    let a = m .before .before .before .before .before .before .args in
     let r = m .measure-file in
-    tested (keysAt (now (a .index)) (a .start) (a .count)) (sizesAt (now (a .index)) (a .start)) (a .innerLeast) (named (now (a .file))) (now (a .slots))
-    (r .last .1 .1 .1 .1 .1 .1 .1 .0) (r .result .missing) (r .result .total) (r .result .short)
+    let index = now (a .index) in
+    tested (keysAt index (a .opened .directory) (a .opened .entries)) (sizesAt index (a .opened .directory)) (a .opened .longest - 1)
+    (named (now (a .file))) (now (a .slots))
+    (r .last .1 .1 .1 .1 .0) (r .result .missing) (r .result .total) (r .result .short)
     (c .first-of .result) (r .ensures) (c .first-of .ensures)
 
 pub file-code-spec : {M : Type 1} → statement M

@@ -1,21 +1,25 @@
 -- `files::measure_file` meets its contract: the walk over the places. Assumes nothing.
-use mathlib.Core.Path.{_≡_, refl, _∙_}
+use mathlib.Core.Path.{_≡_, refl, ap, _∙_}
 use Prim.Native.Nat.{_-_, _/_, _≤_}
 use native.Mathlib.Omega.{arith}
 use lib.ListN.{length}
 use denote.Ref.{now}
-use Rattle.files.specs.Measures.{named, keysAt, sizesAt}
+use Rattle.files.specs.Measures.{named, keysAt, sizesAt, innerShort}
 use Rattle.files.proofs.Measuring.{measuring-start}
 use Rattle.files.proofs.Places.{Before, place-missing, place-on, place-end}
 use Rattle.files.proofs.measure_file.Statement.{statement}
 use Rattle.files.proofs.measure_file.Tie as tie
 
 abbrev Inv-loop : tie.InvT-loop
-Inv-loop file index start count heads chain innerLeast slots₀ n total₀ short₀ j₀ slots total short j =
-    (j ≤ length file / 20) × (n ≡ length file / 20) × (length slots ≡ length slots₀) × Before file index start count innerLeast slots₀ j total short slots
+Inv-loop file index opened chains slots₀ least count n total₀ short₀ j₀ slots total short j =
+    (j ≤ length file / 20) × (n ≡ length file / 20) × (length slots ≡ length slots₀)
+    × Before file index (opened .directory) (opened .entries) (opened .longest - 1) slots₀ j total short slots
 
 abbrev μ-loop : tie.MeasureT-loop
-μ-loop file index start count heads chain innerLeast slots₀ n total₀ short₀ j₀ slots total short j = n - j
+μ-loop file index opened chains slots₀ least count n total₀ short₀ j₀ slots total short j = n - j
+
+inner-least-requires : tie.Need-inner-least-requires Inv-loop μ-loop
+inner-least-requires c κs = tt
 
 loop-holds : tie.Need-loop-holds Inv-loop μ-loop
 loop-holds c =
@@ -24,7 +28,8 @@ loop-holds c =
       omega arith,
       refl,
       refl,
-      measuring-start (keysAt index (a .start) (a .count)) (sizesAt index (a .start)) (a .innerLeast) (named (now (a .file))) (now (a .slots)),
+      measuring-start (keysAt index (a .opened .directory) (a .opened .entries)) (sizesAt index (a .opened .directory)) (a .opened .longest - 1)
+          (named (now (a .file))) (now (a .slots)),
     )
 
 entry-of-requires : tie.Need-entry-of-requires Inv-loop μ-loop
@@ -41,7 +46,7 @@ returns c =
     let a = p .before .before .before .before .before .before .args in
     let l = p .loop in
     let e = c .before .entry-of in
-    place-missing (now (a .file)) (now (a .index)) (a .start) (a .count) (a .innerLeast) (now (a .slots))
+    place-missing (now (a .file)) (now (a .index)) (a .opened .directory) (a .opened .entries) (a .opened .longest - 1) (now (a .slots))
     (l .j) (l .total) (l .short) (l .slots) (l .inv .3) (omega arith) (e .result) (e .ensures) (c .if1 .taken)
 
 keep-requires : tie.Need-keep-requires Inv-loop μ-loop
@@ -75,14 +80,15 @@ loop-again c =
     let l = p .loop in
     let f = e .before .entry-of in
     let z = c .before .before .size-of in
-    let t = c .before .capped in (
+    let t = c .before .capped in
+    let short = ap (innerShort (l .j) (length (now (a .file)) / 20) (z .result)) (p .before .inner-least .ensures) in (
       omega arith,
       l .inv .1,
       k .keep .kept .0 ∙ l .inv .2,
-      place-on (now (a .file)) (now (a .index)) (a .start) (a .count) (a .innerLeast) (now (a .slots))
+      place-on (now (a .file)) (now (a .index)) (a .opened .directory) (a .opened .entries) (a .opened .longest - 1) (now (a .slots))
           (l .j) (l .total) (l .short) (l .slots) (l .inv .3) (omega arith)
           (f .result) (z .result) (f .ensures) (e .if1 .left) (z .ensures) (t .result) (t .ensures)
-          (c .inner-short .result) (c .inner-short .ensures) (k .keep .last .0) (k .keep .ensures),
+          (c .inner-short .result) (c .inner-short .ensures ∙ short) (k .keep .last .0) (k .keep .ensures),
     )
 
 same-length-2 : tie.Need-same-length-2 Inv-loop μ-loop
@@ -93,7 +99,8 @@ returns-2 c =
     let p = c .before in
     let a = p .before .before .before .before .before .before .args in
     let l = p .loop in
-    place-end (now (a .file)) (now (a .index)) (a .start) (a .count) (a .innerLeast) (now (a .slots)) (l .j) (l .total) (l .short) (l .slots) (l .inv .3) (omega arith)
+    place-end (now (a .file)) (now (a .index)) (a .opened .directory) (a .opened .entries) (a .opened .longest - 1) (now (a .slots))
+    (l .j) (l .total) (l .short) (l .slots) (l .inv .3) (omega arith)
 
 pub measure-file-spec : {M : Type 1} → statement M
 measure-file-spec =
@@ -101,6 +108,7 @@ measure-file-spec =
     (tie.spec
     Inv-loop
     μ-loop
+    inner-least-requires
     loop-holds
     entry-of-requires
     same-length

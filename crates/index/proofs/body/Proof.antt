@@ -4,7 +4,7 @@ use Prim.Native.Nat.{ℕ, _+_}
 use native.Mathlib.Nat.{zero-add}
 use denote.Ref.{now}
 use Rattle.spec.specs.Bytes.{positionOf}
-use Rattle.spec.specs.Records.{form1}
+use Rattle.spec.specs.Form.{formOf}
 use Rattle.spec.specs.Index.{indexKeys}
 use Rattle.spec.specs.Lookup.{findBody}
 use Rattle.index.proofs.LookupLaws.{told-done, told-refused, found-entry, body-there, offset-there, slice-none, start-none}
@@ -15,7 +15,8 @@ use Rattle.index.proofs.body.Tie as tie
 -- the entry that was found
 told : (c : tie.After-known-told)
     → let a = c .before .before .before .before .before .before .args in
-    (findBody form1 (now (a .index)) (now (a .fp)) ≡ 0) × (c .before .k .given .0 .0 ≡ positionOf (now (a .fp)) (indexKeys (now (a .index))))
+    (findBody (formOf (now (a .index))) (now (a .index)) (now (a .fp)) ≡ 0)
+    × (c .before .k .given .0 .0 ≡ positionOf (now (a .fp)) (indexKeys (now (a .index))))
 told c =
     let called = c .before .before .before in
     let a = called .before .before .before .args in

@@ -1,4 +1,4 @@
--- `check` meets its contract: the examination with arrays of its own.
+-- `check` meets its contract: the examination with an array of its own.
 use mathlib.Core.Path.{refl}
 use Rattle.directory.proofs.ChainLaws.{zeros}
 use borrow.Author.Needs.{needs}
@@ -8,9 +8,6 @@ use Rattle.index.proofs.check.Tie as tie
 slice-aggregate-examine : tie.Need-slice-aggregate-examine
 slice-aggregate-examine c = refl
 
-slice-aggregate-examine-2 : tie.Need-slice-aggregate-examine-2
-slice-aggregate-examine-2 c = refl
-
 examine-requires : tie.Need-examine-requires
 examine-requires c κs = zeros
 
@@ -19,4 +16,4 @@ returns c = search needs
 
 pub check-spec : {M : Type 1} → statement M
 check-spec =
-    tie.close (tie.spec slice-aggregate-examine slice-aggregate-examine-2 examine-requires returns)
+    tie.close (tie.spec slice-aggregate-examine examine-requires returns)

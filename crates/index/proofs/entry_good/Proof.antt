@@ -4,6 +4,7 @@ use native.Mathlib.Omega.{arith}
 use lib.ListN.{length}
 use denote.Ref.{now}
 use borrow.Author.Needs.{needs}
+use Rattle.spec.specs.Store.{chunkCount}
 use Rattle.index.proofs.StageLaws.{body-within, body-ready, good-is}
 use Rattle.index.proofs.entry_good.Statement.{statement}
 use Rattle.index.proofs.entry_good.Tie as tie
@@ -15,8 +16,9 @@ within c =
     let size = offset .before in
     let s = size .before .before .before in
     let a = s .args in
-    body-within (now (a .index)) (a .start) (a .count) (s .pre .0) (a .words) (now (a .lens)) (s .pre .2) (a .e)
+    body-within (now (a .index)) (a .start) (chunkCount (now (a .index))) (s .pre .0) (a .words) (now (a .lens)) (s .pre .2) (a .e)
     (size .read .result) (offset .read2 .result) (c .read3 .result) (s .pre .1) (size .read .ensures) (offset .read2 .ensures) (c .read3 .ensures)
+    (a .format) (s .pre .3)
 
 mul-base : tie.Need-mul-base
 mul-base c = search needs
@@ -61,8 +63,9 @@ body-good-requires c κs =
     let size = offset .before in
     let s = size .before .before .before in
     let a = s .args in
-    body-ready (now (a .index)) (a .start) (a .count) (s .pre .0) (a .words) (now (a .lens)) (s .pre .2) (a .e)
+    body-ready (now (a .index)) (a .start) (chunkCount (now (a .index))) (s .pre .0) (a .words) (now (a .lens)) (s .pre .2) (a .e)
     (size .read .result) (offset .read2 .result) (long .read3 .result) (s .pre .1) (size .read .ensures) (offset .read2 .ensures) (long .read3 .ensures)
+    (a .format) (s .pre .3)
 
 returns : tie.Need-returns
 returns c =
@@ -71,8 +74,9 @@ returns c =
     let size = offset .before in
     let s = size .before .before .before in
     let a = s .args in
-    good-is (now (a .index)) (a .start) (a .count) (s .pre .0) (a .words) (now (a .lens)) (s .pre .2) (a .e)
+    good-is (now (a .index)) (a .start) (chunkCount (now (a .index))) (s .pre .0) (a .words) (now (a .lens)) (s .pre .2) (a .e)
     (size .read .result) (offset .read2 .result) (long .read3 .result) (s .pre .1) (size .read .ensures) (offset .read2 .ensures) (long .read3 .ensures)
+    (a .format) (s .pre .3)
     (c .body-good .result) (c .body-good .ensures)
 
 pub entry-good-spec : {M : Type 1} → statement M

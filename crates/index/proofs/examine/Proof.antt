@@ -7,14 +7,14 @@ use denote.Ref.{now}
 use borrow.Author.Needs.{needs}
 use borrow.Author.Tests.{not-true, not-false}
 use Rattle.spec.specs.Keywords.{keywordFrontCode}
-use Rattle.spec.specs.Records.{form1}
+use Rattle.spec.specs.Form.{formOf, formatOf}
 use Rattle.spec.specs.Index.{listIn, indexKeys, headerCode, directoryCode, laidCode}
 use Rattle.keywords.specs.Parsed.{Parsed}
 use Rattle.directory.proofs.ChainLists.{Built}
-use Rattle.index.specs.Stages.{Opened, Laid}
+use Rattle.index.specs.Stages.{Headed, Laid}
 use Rattle.index.proofs.StageLaws.{header-passed, laid, built-of}
 use Rattle.index.proofs.CheckLaws.{header-stops, list-stops, directory-stops, refused-early, duplicate-told, body-told, all-told}
-use Rattle.index.proofs.CheckLaws.{list-is, listed, opened, lens}
+use Rattle.index.proofs.CheckLaws.{list-is, listed, headed, lens}
 use Rattle.index.proofs.examine.Statement.{statement}
 use Rattle.index.proofs.examine.Tie as tie
 
@@ -23,14 +23,14 @@ use Rattle.index.proofs.examine.Tie as tie
 abbrev lent : tie.Else1 → List ℕ
 lent c = now (c .before .before .before .before .before .args .index)
 
--- the arrays as they were
-abbrev heads₀ : tie.Else1 → List ℕ
-heads₀ c = now (c .before .before .before .before .before .args .heads)
+-- the array as it was
+abbrev chains₀ : tie.Else1 → List ℕ
+chains₀ c = now (c .before .before .before .before .before .args .chains)
 
-abbrev chain₀ : tie.Else1 → List ℕ
-chain₀ c = now (c .before .before .before .before .before .args .chain)
+format-is : (c : tie.Else1) → c .before .before .of .result ≡ formatOf (formOf (lent c))
+format-is c = c .before .before .of .ensures
 
-header-good : (c : tie.Else1) → headerCode form1 (lent c) ≡ 0
+header-good : (c : tie.Else1) → headerCode (formOf (lent c)) (lent c) ≡ 0
 header-good c = sym (c .before .header .ensures) ∙ c .if1 .left
 
 -- the number of the keyword list
@@ -50,14 +50,17 @@ read c =
     let l = c .before .before in
     listed (lent (l .before .before .before)) (c .parse .result) (list-good l) (c .parse .ensures)
 
-opens : (c : tie.After-chunk-count) → Opened (lent (behind-list c .before .before .before)) (8 + c .before .before .parse .result .size) (c .chunk-count .result)
+opens : (c : tie.After-chunk-count)
+    → Headed (lent (behind-list c .before .before .before)) (8 + c .before .before .parse .result .size) (c .chunk-count .result)
 opens c =
     let l = behind-list c in
     let h = l .before .before .before in
     let w = c .before .before .parse in
-    opened (lent h) (w .result) (list-good l) (w .ensures) (c .chunk-count .result) (header-good h) (c .chunk-count .ensures)
+    headed (lent h) (w .result) (list-good l) (w .ensures) (c .chunk-count .result) (header-good h) (c .chunk-count .ensures)
 
-directory-good : (c : tie.Else3) → directoryCode form1 (lent (behind-list (c .before .before) .before .before .before)) ≡ 0
+directory-good : (c : tie.Else3)
+    → let index = lent (behind-list (c .before .before) .before .before .before) in
+    directoryCode (formOf index) index ≡ 0
 directory-good c = sym (c .before .entries .ensures) ∙ c .if3 .left
 
 lies : (c : tie.Else3)
@@ -69,41 +72,41 @@ lies c =
 
 -- the header's place, seen from behind the chains
 abbrev behind-header : tie.After-build → tie.Else1
-behind-header c = behind-list (c .before .before .before .before .before) .before .before .before
+behind-header c = behind-list (c .before .before .before .before) .before .before .before
 
--- the arrays as they are left
-abbrev heads₁ : tie.After-build → List ℕ
-heads₁ c = c .build .last .1 .1 .1 .1 .0
+-- the array as it is left
+abbrev chains₁ : tie.After-build → List ℕ
+chains₁ c = c .build .last .1 .1 .1 .1 .0
 
-abbrev chain₁ : tie.After-build → List ℕ
-chain₁ c = c .build .last .1 .1 .1 .1 .1 .0
-
-whole-directory : (c : tie.After-build) → laidCode form1 (lent (behind-header c)) ≡ 0
+whole-directory : (c : tie.After-build) → let index = lent (behind-header c) in laidCode (formOf index) index ≡ 0
 whole-directory c =
-    let good = c .before .before .before in
+    let good = c .before .before in
     let l = behind-list (good .before .before) in
     sym (directory-stops (lent (behind-header c)) (header-good (behind-header c)) (list-good l)) ∙ directory-good good
 
 -- the chains are those of the index's fingerprints
 chains : (c : tie.After-build)
     → let h = behind-header c in
-    Built (indexKeys (lent h)) (chain₀ h) (heads₁ c) (chain₁ c) (c .build .result)
+    Built (indexKeys (lent h)) (chains₀ h) (chains₁ c) (c .build .result)
 chains c =
-    let n = c .before .before .before .before .before in
+    let n = c .before .before .before .before in
     let h = behind-header c in
-    built-of (lent h) (8 + n .before .before .parse .result .size) (n .chunk-count .result) (opens n) (chain₀ h) (heads₁ c) (chain₁ c)
+    built-of (lent h) (8 + n .before .before .parse .result .size) (n .chunk-count .result) (opens n) (chains₀ h) (chains₁ c)
     (c .build .result) (c .build .ensures)
 
 -- ---- the needs
 
+of-requires : tie.Need-of-requires
+of-requires c κs = search needs
+
 header-requires : tie.Need-header-requires
-header-requires c κs = search needs
+header-requires c κs = c .of .ensures
 
 returns : tie.Need-returns
 returns c =
     let a = c .before .before .before .before .before .args in
     let e = c .before .header .ensures in
-    refused-early (now (a .index)) (now (a .heads)) (now (a .chain)) (c .before .header .result)
+    refused-early (now (a .index)) (now (a .chains)) (c .before .header .result)
     (e ∙ header-stops (now (a .index)) (λ z. c .if1 .taken (e ∙ z))) (c .if1 .taken)
 
 sub-check-front : tie.Need-sub-check-front
@@ -122,7 +125,7 @@ returns-2 : tie.Need-returns-2
 returns-2 c =
     let h = c .before .before .before in
     let e = front (c .before) in
-    refused-early (lent h) (heads₀ h) (chain₀ h) (c .before .check-front .result)
+    refused-early (lent h) (chains₀ h) (c .before .check-front .result)
     (e ∙ list-stops (lent h) (header-good h) (λ z. c .if2 .taken (e ∙ z))) (c .if2 .taken)
 
 sub-parse : tie.Need-sub-parse
@@ -144,80 +147,72 @@ chunk-count-requires : tie.Need-chunk-count-requires
 chunk-count-requires c κs = let h = c .before .before .before .before .before .before in header-passed (lent h) (header-good h) .0
 
 entries-requires : tie.Need-entries-requires
-entries-requires c κs = opens c
+entries-requires c κs = (opens c, format-is (behind-list c .before .before .before))
 
 returns-3 : tie.Need-returns-3
 returns-3 c =
     let l = behind-list (c .before .before) in
     let h = l .before .before .before in
-    refused-early (lent h) (heads₀ h) (chain₀ h) (c .before .entries .result)
+    refused-early (lent h) (chains₀ h) (c .before .entries .result)
     (c .before .entries .ensures ∙ directory-stops (lent h) (header-good h) (list-good l)) (c .if3 .taken)
 
 build-requires : tie.Need-build-requires
 build-requires c κs =
-    let l = lies (c .before .before) in (
-      record { inside = l .room; keyed = omega arith; few = l .opened .few },
-      behind-list (c .before .before .before .before) .before .before .before .before .before .before .before .before .pre,
+    let l = lies (c .before) in (
+      record { inside = l .room; keyed = omega arith; few = l .headed .few },
+      behind-list (c .before .before .before) .before .before .before .before .before .before .before .before .pre,
     )
 
 same-length : tie.Need-same-length
 same-length c = search needs
 
-same-length-2 : tie.Need-same-length-2
-same-length-2 c = search needs
-
 returns-4 : tie.Need-returns-4
 returns-4 c =
-    let built = c .before .before .before .before .before in
+    let built = c .before .before .before in
     let h = behind-header built in
-    duplicate-told (lent h) (whole-directory built) (heads₀ h) (chain₀ h) (heads₁ built) (chain₁ built) (built .build .result) (chains built)
+    duplicate-told (lent h) (whole-directory built) (chains₀ h) (chains₁ built) (built .build .result) (chains built)
     (c .if4 .taken)
 
 slice-aggregate-all-good : tie.Need-slice-aggregate-all-good
 slice-aggregate-all-good c =
-    let good = c .before .before .before .before .before .before .before .before .before .before in
+    let good = c .before .before .before .before .before .before .before in
     sym (read (good .before .before .before .before) .lens)
 
 all-good-requires : tie.Need-all-good-requires
 all-good-requires c κs =
-    let good = c .before .before .before .before .before .before .before .before .before .before in
+    let good = c .before .before .before .before .before .before .before in
     let n = good .before .before in
     let l = behind-list n in
     let w = n .before .before .parse in
-    (lies good, lens (lent (l .before .before .before)) (w .result) (list-good l) (w .ensures))
+    (lies good, lens (lent (l .before .before .before)) (w .result) (list-good l) (w .ensures), format-is (l .before .before .before))
 
-same-length-3 : tie.Need-same-length-3
-same-length-3 c = search needs
-
-same-length-4 : tie.Need-same-length-4
-same-length-4 c = search needs
+same-length-2 : tie.Need-same-length-2
+same-length-2 c = search needs
 
 returns-5 : tie.Need-returns-5
 returns-5 c =
     let tested = c .before .before .before .before in
-    let built = tested .before .before .before .before .before in
+    let built = tested .before .before .before in
     let h = behind-header built in
-    body-told (lent h) (whole-directory built) (heads₀ h) (chain₀ h) (heads₁ built) (chain₁ built) (built .build .result) (chains built)
+    body-told (lent h) (whole-directory built) (chains₀ h) (chains₁ built) (built .build .result) (chains built)
     (tested .if4 .left) (sym (c .before .all-good .ensures) ∙ not-true _ (c .if5 .taken))
 
-same-length-5 : tie.Need-same-length-5
-same-length-5 c = search needs
-
-same-length-6 : tie.Need-same-length-6
-same-length-6 c = search needs
+same-length-3 : tie.Need-same-length-3
+same-length-3 c = search needs
 
 returns-6 : tie.Need-returns-6
 returns-6 c =
     let tested = c .before .before .before .before in
-    let built = tested .before .before .before .before .before in
+    let built = tested .before .before .before in
     let h = behind-header built in
-    all-told (lent h) (whole-directory built) (heads₀ h) (chain₀ h) (heads₁ built) (chain₁ built) (built .build .result) (chains built)
+    all-told (lent h) (whole-directory built) (chains₀ h) (chains₁ built) (built .build .result) (chains built)
     (tested .if4 .left) (sym (c .before .all-good .ensures) ∙ not-false _ (c .if5 .left))
 
 pub examine-spec : {M : Type 1} → statement M
 examine-spec =
     tie.close
     (tie.spec
+    of-requires
     header-requires
     returns
     sub-check-front
@@ -235,13 +230,10 @@ examine-spec =
     returns-3
     build-requires
     same-length
-    same-length-2
     returns-4
     slice-aggregate-all-good
     all-good-requires
-    same-length-3
-    same-length-4
+    same-length-2
     returns-5
-    same-length-5
-    same-length-6
+    same-length-3
     returns-6)

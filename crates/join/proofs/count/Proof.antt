@@ -1,47 +1,33 @@
 -- `count` meets its contract: one law for each way out (Answers).
 use mathlib.Core.Path.{refl}
-use native.Mathlib.Omega.{arith}
-use lib.ListN.{length-replicate}
-use Prim.Native.Nat.{ℕ}
 use denote.Ref.{now}
 use Rattle.directory.proofs.ChainLaws.{zeros}
+use Rattle.plan.proofs.Stages.{plan-number, plan-total}
 use Rattle.join.proofs.Answers.{count-refused, count-done}
 use Rattle.join.proofs.count.Statement.{statement}
 use Rattle.join.proofs.count.Tie as tie
 
-slice-aggregate-make-plan : tie.Need-slice-aggregate-make-plan
-slice-aggregate-make-plan c = refl
+slice-aggregate-make : tie.Need-slice-aggregate-make
+slice-aggregate-make c = refl
 
-slice-aggregate-make-plan-2 : tie.Need-slice-aggregate-make-plan-2
-slice-aggregate-make-plan-2 c = refl
-
-slice-aggregate-make-plan-3 : tie.Need-slice-aggregate-make-plan-3
-slice-aggregate-make-plan-3 c = refl
-
-make-plan-requires : tie.Need-make-plan-requires
-make-plan-requires c κs = (zeros, omega (arith, length-replicate {A = ℕ} 65535 0))
+make-requires : tie.Need-make-requires
+make-requires c κs = zeros
 
 returns : tie.Need-returns
 returns c =
-    let m = c .before .before .before .before .before in
-    let a = m .before .before .before .before .before .before .before .args in
-    let p = m .make-plan in
-    count-refused (now (a .index)) (now (a .recipes)) (p .result .code) (p .ensures .number) (c .if1 .taken)
+    let a = c .before .before .before .before .before .before .before .before .args in
+    let p = c .before .before .before .make in
+    let number = plan-number (now (a .index)) (now (a .recipes)) (p .result) (p .ensures .0) in
+    count-refused (now (a .index)) (now (a .recipes)) (p .result .code) number (c .if1 .taken)
 
 returns-2 : tie.Need-returns-2
 returns-2 c =
-    let m = c .before .before .before .before .before in
-    let a = m .before .before .before .before .before .before .before .args in
-    let p = m .make-plan in
-    count-done (now (a .index)) (now (a .recipes)) (p .result .code) (p .ensures .number) (p .result .total) (c .if1 .left) (p .ensures .counted (c .if1 .left))
+    let a = c .before .before .before .before .before .before .before .before .args in
+    let p = c .before .before .before .make in
+    let index = now (a .index) in
+    let recipes = now (a .recipes) in
+    count-done index recipes (p .result .code) (plan-number index recipes (p .result) (p .ensures .0)) (p .result .total) (c .if1 .left)
+    (plan-total index recipes (p .result) (p .ensures .0) (c .if1 .left))
 
 pub count-spec : {M : Type 1} → statement M
-count-spec =
-    tie.close
-    (tie.spec
-    slice-aggregate-make-plan
-    slice-aggregate-make-plan-2
-    slice-aggregate-make-plan-3
-    make-plan-requires
-    returns
-    returns-2)
+count-spec = tie.close (tie.spec slice-aggregate-make make-requires returns returns-2)

@@ -1,97 +1,76 @@
 -- `join` meets its contract: one law for each way out (Answers).
-use mathlib.Core.Path.{refl, sym}
+use mathlib.Core.Path.{refl, sym, _∙_}
+use mathlib.Core.List.{List}
 use Prim.Native.Nat.{ℕ}
 use native.Mathlib.Omega.{arith}
-use lib.ListN.{length-replicate}
+use lib.ListN.{length-replicate, replicate}
 use denote.Ref.{now}
 use Rattle.directory.proofs.ChainLaws.{zeros}
-use Rattle.join.proofs.Stages.{all-pass}
+use Rattle.plan.proofs.Stages.{plan-number, plan-total, planned}
 use Rattle.join.proofs.Answers.{join-refused, join-long, join-room, join-done}
 use Rattle.join.proofs.join.Statement.{statement}
 use Rattle.join.proofs.join.Tie as tie
 
-slice-aggregate-make-plan : tie.Need-slice-aggregate-make-plan
-slice-aggregate-make-plan c = refl
+-- the tables before the plan
+abbrev no-tables : List (List (List ℕ))
+no-tables = replicate {A = List (List ℕ)} 16 (replicate {A = List ℕ} 32 (replicate {A = ℕ} 32 0))
 
-slice-aggregate-make-plan-2 : tie.Need-slice-aggregate-make-plan-2
-slice-aggregate-make-plan-2 c = refl
+slice-aggregate-make : tie.Need-slice-aggregate-make
+slice-aggregate-make c = refl
 
-slice-aggregate-make-plan-3 : tie.Need-slice-aggregate-make-plan-3
-slice-aggregate-make-plan-3 c = refl
-
-make-plan-requires : tie.Need-make-plan-requires
-make-plan-requires c κs = (zeros, omega (arith, length-replicate {A = ℕ} 65535 0))
+make-requires : tie.Need-make-requires
+make-requires c κs = zeros
 
 returns : tie.Need-returns
 returns c =
-    let m = c .before .before .before .before .before in
-    let a = m .before .before .before .before .before .before .before .before .args in
-    let p = m .make-plan in
-    join-refused (now (a .index)) (now (a .recipes)) (p .result .code) (p .ensures .number) (now (a .out)) (c .if1 .taken)
+    let a = c .before .before .before .before .before .before .before .before .before .args in
+    let p = c .before .before .before .make in
+    join-refused (now (a .index)) (now (a .recipes)) (p .result .code) (plan-number (now (a .index)) (now (a .recipes)) (p .result) (p .ensures .0))
+    (now (a .out)) (c .if1 .taken)
 
 returns-2 : tie.Need-returns-2
 returns-2 c =
-    let e = c .before .before in
-    let m = e .before .before .before .before .before in
-    let a = m .before .before .before .before .before .before .before .before .args in
-    let p = m .make-plan in
-    let z = e .if1 .left in
-    let r = p .result in
-    join-long (now (a .index)) (now (a .recipes)) (r .code) (p .ensures .number) (now (a .out)) (r .total) z (p .ensures .counted z) (c .if2 .taken)
+    let a = c .before .before .before .before .before .before .before .before .before .before .before .args in
+    let p = c .before .before .before .before .before .make in
+    let index = now (a .index) in
+    let recipes = now (a .recipes) in
+    let z = c .before .before .if1 .left in
+    join-long index recipes (p .result .code) (plan-number index recipes (p .result) (p .ensures .0)) (now (a .out)) (p .result .total) z
+    (plan-total index recipes (p .result) (p .ensures .0) z) (c .if2 .taken)
 
 slice-aggregate-list-files : tie.Need-slice-aggregate-list-files
-slice-aggregate-list-files c = sym (c .before .before .before .before .before .before .before .heads2 .given)
-
-slice-aggregate-list-files-2 : tie.Need-slice-aggregate-list-files-2
-slice-aggregate-list-files-2 c = sym (c .before .before .before .before .before .before .before .chain2 .given)
-
-slice-aggregate-list-files-3 : tie.Need-slice-aggregate-list-files-3
-slice-aggregate-list-files-3 c = sym (c .before .before .before .before .before .before .before .before .marks2 .given)
+slice-aggregate-list-files c = sym (c .before .before .before .before .before .before .make .kept .1 .1 .0 ∙ length-replicate {A = ℕ} 130536 0)
 
 list-files-requires : tie.Need-list-files-requires
 list-files-requires c κs =
-    let f = c .before .before .before .before .before in
-    let e = f .before .before in
-    let m = e .before .before .before .before .before in
-    let a = m .before .before .before .before .before .before .before .before .args in
-    let p = m .make-plan in
-    let r = p .result in
-    let z = e .if1 .left in
-    let pass = all-pass (now (a .index)) (now (a .recipes)) (p .last .1 .1 .0) (p .last .1 .1 .1 .0) (p .last .1 .1 .1 .1 .0) (p .last .1 .1 .1 .1 .1 .0)
-    (r .code) (r .total) (r .directory) (r .entries) (r .count) (p .ensures) z in
-    let room = join-room (now (a .index)) (now (a .recipes)) (r .code) (p .ensures .number) (now (a .out)) (r .total) (p .ensures .counted z) (f .if2 .left) in
-    (p .ensures .joinable z, ((pass, p .ensures .marked z), room))
+    let a = c .before .before .before .before .before .before .before .before .before .before .before .before .before .before .args in
+    let p = c .before .before .before .before .before .before .before .before .make in
+    let index = now (a .index) in
+    let recipes = now (a .recipes) in
+    let z = c .before .before .before .before .before .if1 .left in
+    let number = plan-number index recipes (p .result) (p .ensures .0) in
+    let total = plan-total index recipes (p .result) (p .ensures .0) z in (
+      planned index recipes (p .result) (p .ensures .0) (replicate 130536 0) (p .last .1 .1 .0) no-tables (p .last .1 .1 .1 .0) z zeros
+          (p .ensures .1) (p .ensures .2),
+      join-room index recipes (p .result .code) number (now (a .out)) (p .result .total) total (c .before .before .before .if2 .left),
+    )
 
 same-length : tie.Need-same-length
-same-length c = c .before .before .list-files .kept .1 .1 .1 .1 .1 .1 .1 .1 .1 .0
+same-length c = c .before .before .list-files .kept .1 .1 .1 .1 .1 .0
 
 returns-3 : tie.Need-returns-3
 returns-3 c =
-    let w = c .before .before in
-    let f = w .before .before .before .before .before .before in
-    let e = f .before .before in
-    let m = e .before .before .before .before .before in
-    let a = m .before .before .before .before .before .before .before .before .args in
-    let p = m .make-plan in
-    let z = e .if1 .left in
-    let r = p .result in
-    let l = w .list-files in
-    join-done (now (a .index)) (now (a .recipes)) (r .code) (p .ensures .number) (now (a .out)) (r .total)
-    (l .last .1 .1 .1 .1 .1 .1 .1 .1 .1 .0) z (p .ensures .counted z) (f .if2 .left) (l .ensures)
+    let a = c .before .before .before .before .before .before .before .before .before .before .before .before .before .before .before .before .before .args in
+    let p = c .before .before .before .before .before .before .before .before .before .before .before .make in
+    let index = now (a .index) in
+    let recipes = now (a .recipes) in
+    let z = c .before .before .before .before .before .before .before .before .if1 .left in
+    let l = c .before .before .list-files in
+    join-done index recipes (p .result .code) (plan-number index recipes (p .result) (p .ensures .0)) (now (a .out)) (p .result .total)
+    (l .last .1 .1 .1 .1 .1 .0) z (plan-total index recipes (p .result) (p .ensures .0) z)
+    (c .before .before .before .before .before .before .if2 .left) (l .ensures)
 
 pub join-spec : {M : Type 1} → statement M
 join-spec =
     tie.close
-    (tie.spec
-    slice-aggregate-make-plan
-    slice-aggregate-make-plan-2
-    slice-aggregate-make-plan-3
-    make-plan-requires
-    returns
-    returns-2
-    slice-aggregate-list-files
-    slice-aggregate-list-files-2
-    slice-aggregate-list-files-3
-    list-files-requires
-    same-length
-    returns-3)
+    (tie.spec slice-aggregate-make make-requires returns returns-2 slice-aggregate-list-files list-files-requires same-length returns-3)

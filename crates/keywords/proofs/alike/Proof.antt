@@ -7,7 +7,7 @@ use lib.ListN.{length}
 use denote.Ref.{now}
 use Rattle.spec.specs.Bytes.{same}
 use Rattle.spec.specs.Keywords.{folded}
-use Rattle.keywords.proofs.Comparing.{left, alike-lengths, alike-on, alike-not, alike-end}
+use Rattle.spec.proofs.Folding.{left, alike-lengths, alike-on, alike-not, alike-end}
 use Rattle.keywords.proofs.alike.Statement.{statement}
 use Rattle.keywords.proofs.alike.Tie as tie
 

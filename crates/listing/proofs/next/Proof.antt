@@ -1,10 +1,5 @@
 -- `listing::next` meets its contract.
-use mathlib.Core.Path.{ap, _∙_}
-use native.Mathlib.Omega.{arith}
-use lib.ListN.{set}
-use Rattle.listing.specs.Streams.{streamOf}
-use Rattle.listing.proofs.Pulling.{behind}
-use Rattle.listing.proofs.Stepping.{next-ended, next-found}
+use Rattle.listing.proofs.Stepping.{least-readable, next-taken}
 use borrow.Author.Needs.{needs}
 use Rattle.listing.proofs.next.Statement.{statement}
 use Rattle.listing.proofs.next.Tie as tie
@@ -22,34 +17,30 @@ mul-s c = search needs
 element-copy-out-s : tie.Need-element-copy-out-s
 element-copy-out-s c = search needs
 
-array-read-y : tie.Need-array-read-y
-array-read-y c = search needs
-
-returns : tie.Need-returns
-returns c = let s = c .before .before .before .before .before in
-    let a = s .args in
-    let f = c .before .before .least in
-    next-ended (a .index .now) (a .width) (a .size) (a .count) (a .streams .now) (s .pre .3) (f .result) (f .ensures) (omega arith)
-
 pull-requires : tie.Need-pull-requires
-pull-requires c κs = let s = c .before .before .before .before .before in
+pull-requires c κs =
+    let s = c .before .before .before .before in
     let a = s .args in
-    let f = c .before .before .least in
-    let held = s .pre .3 .each (f .result) (f .ensures .within) in
-    (s .pre .2, behind (a .index .now) (a .width) (a .size) (streamOf (a .streams .now) (f .result)) held (omega arith))
+    let f = c .before .least in
+    let readable = least-readable (a .index .now) (a .width) (a .size) (a .count) (a .streams .now) (s .pre .1 .0) (s .pre .1 .1) (f .result) (f .ensures) in
+    (s .pre .0 .2, readable)
 
-mul-t10 : tie.Need-mul-t10
-mul-t10 c = search needs
+mul-t9 : tie.Need-mul-t9
+mul-t9 c = search needs
 
 element-set-from-streams : tie.Need-element-set-from-streams
 element-set-from-streams c = search needs
 
-returns-2 : tie.Need-returns-2
-returns-2 c = let s = c .before .before .before .before .before .before in
+array-read-t9 : tie.Need-array-read-t9
+array-read-t9 c = search needs
+
+returns : tie.Need-returns
+returns c =
+    let s = c .before .before .before .before .before in
     let a = s .args in
-    let f = c .before .before .before .least in
-    let e = next-found (a .index .now) (a .width) (a .size) (a .count) (a .streams .now) (s .pre .3) (f .result) (f .ensures) (omega arith) in
-    (e .0, e .1, ap (set (a .streams .now) (f .result)) (c .pull .ensures) ∙ e .2)
+    let f = c .before .before .least in
+    next-taken (a .index .now) (a .width) (a .size) (a .count) (a .streams .now) (s .pre .1 .0) (s .pre .1 .1) (f .result) (f .ensures)
+    (c .pull .result) (c .pull .ensures)
 
 pub next-spec : {M : Type 1} → statement M
 next-spec =
@@ -58,9 +49,8 @@ next-spec =
     least-requires
     mul-s
     element-copy-out-s
-    array-read-y
-    returns
     pull-requires
-    mul-t10
+    mul-t9
     element-set-from-streams
-    returns-2)
+    array-read-t9
+    returns)

@@ -3,13 +3,13 @@ use Prim.Native.Nat.{_+_, _<_}
 use native.Mathlib.Omega.{arith}
 use lib.ListN.{getD}
 use lib.Count.{trailingZeros}
-use Rattle.listing.proofs.Pulling.{field-room, field-is, end-is, digit, start-in, start-is}
+use Rattle.listing.proofs.Pulling.{field-room, pull-field, pull-end, digit, start-in, pull-start}
 use borrow.Author.Needs.{needs}
 use Rattle.listing.proofs.pull.Statement.{statement}
 use Rattle.listing.proofs.pull.Tie as tie
 use Rattle.listing.proofs.pull.Reads as reads
 use Rattle.listing.proofs.pull.Lts as lts
-use Rattle.field.proofs.read.Reads as read-reads
+use Rattle.field.proofs.read_offset.Reads as read-offset-reads
 
 -- where the set is not empty
 low-digit : (c : tie.Else2) → trailingZeros 32 (getD (c .before .before .before .args .t4) 4 0) < 32
@@ -35,8 +35,8 @@ array-read-from c = search needs
 array-read-set : tie.Need-array-read-set
 array-read-set c = search needs
 
-read-requires : tie.Need-read-requires
-read-requires c κs =
+read-offset-requires : tie.Need-read-offset-requires
+read-offset-requires c κs =
     let s = c .before .before in
     (s .pre .0, field-room (s .args .index .now) (s .args .width) (s .args .size) (s .args .t4) (s .pre .1) (c .if1 .taken))
 
@@ -49,12 +49,13 @@ sub-t25 c = search needs
 returns : tie.Need-returns
 returns c =
     let s = c .before .before .before in
-    field-is (s .args .index .now) (s .args .width) (s .args .size) (s .args .t4) (s .pre .1) (c .before .if1 .taken) (c .read .result) (c .read .ensures)
+    pull-field (s .args .index .now) (s .args .width) (s .args .size) (s .args .t4) (s .pre .1) (c .before .if1 .taken)
+    (c .read-offset .result) (c .read-offset .ensures)
 
 returns-2 : tie.Need-returns-2
 returns-2 c =
     let s = c .before .before .before in
-    end-is (s .args .index .now) (s .args .width) (s .args .size) (s .args .t4) (s .pre .1) (omega arith) (c .if2 .taken)
+    pull-end (s .args .index .now) (s .args .width) (s .args .size) (s .args .t4) (s .pre .1) (omega arith) (c .if2 .taken)
 
 cast-z : tie.Need-cast-z
 cast-z c = search needs
@@ -77,7 +78,7 @@ shr-t28 c = omega (arith, low-digit c)
 returns-3 : tie.Need-returns-3
 returns-3 c =
     let s = c .before .before .before in
-    start-is (s .args .index .now) (s .args .width) (s .args .size) (s .args .t4) (s .pre .1) (omega arith) (omega arith)
+    pull-start (s .args .index .now) (s .args .width) (s .args .size) (s .args .t4) (s .pre .1) (omega arith) (omega arith)
 
 pub pull-spec : {M : Type 1} → statement M
 pull-spec =
@@ -87,7 +88,7 @@ pull-spec =
     array-read-left
     array-read-from
     array-read-set
-    read-requires
+    read-offset-requires
     add-t24
     sub-t25
     returns

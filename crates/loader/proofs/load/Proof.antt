@@ -7,17 +7,19 @@ use Rattle.loader.proofs.load.Statement.{statement}
 use Rattle.loader.proofs.load.Tie as tie
 
 abbrev Inv-loop : tie.InvT-loop
-Inv-loop index at len count rows₀ end place₀ k₀ rows place k = (k ≤ count) × Loading index at len count rows₀ rows place k
+Inv-loop index format at len count rows₀ width end place₀ k₀ rows place k = (k ≤ count) × Loading format index at len count rows₀ rows place k
 
 abbrev μ-loop : tie.MeasureT-loop
-μ-loop index at len count rows₀ end place₀ k₀ rows place k = count - k
+μ-loop index format at len count rows₀ width end place₀ k₀ rows place k = count - k
 
 -- the next place is in the index
-room : (c : tie.After-row-at Inv-loop μ-loop) → getD (c .row-at .result) 2 0 + 2 * getD (c .row-at .result) 3 0 ≤ length (c .before .before .before .before .args .index .now)
+room : (c : tie.After-row-at Inv-loop μ-loop)
+    → getD (c .row-at .result) 2 0 + c .before .before .before .before .args .format .width * getD (c .row-at .result) 3 0
+    ≤ length (c .before .before .before .before .args .index .now)
 room c =
     let p = c .before .before in
-    let a = p .before .before .args in
-    next-room (a .index .now) (a .at) (a .len) (a .count) (a .rows .now) (p .loop .rows) (p .loop .place) (p .loop .k) (p .loop .inv .1)
+    let a = c .before .before .before .before .args in
+    next-room (a .format) (a .index .now) (a .at) (a .len) (a .count) (a .rows .now) (p .loop .rows) (p .loop .place) (p .loop .k) (p .loop .inv .1)
     (c .before .loop-test .taken) (c .row-at .result) (c .row-at .ensures)
 
 add-end : tie.Need-add-end Inv-loop μ-loop
@@ -27,7 +29,7 @@ loop-holds : tie.Need-loop-holds Inv-loop μ-loop
 loop-holds c =
     let s = c .before in
     let a = s .args in
-    (omega arith, loading-start (a .index .now) (a .at) (a .len) (a .count) (a .rows .now) (s .pre))
+    (omega arith, loading-start (a .format) (a .index .now) (a .at) (a .len) (a .count) (a .rows .now) (s .pre))
 
 sub-row-at : tie.Need-sub-row-at Inv-loop μ-loop
 sub-row-at c = omega (arith, c .before .loop .inv .1 .within)
@@ -35,15 +37,16 @@ sub-row-at c = omega (arith, c .before .loop .inv .1 .within)
 row-at-requires : tie.Need-row-at-requires Inv-loop μ-loop
 row-at-requires c κs =
     let p = c .before in
-    let a = p .before .before .args in
+    let a = c .before .before .before .args in
     let w = p .loop .inv .1 .within in (
       omega (arith, p .loop .inv .1 .inside),
-      size-room (a .index .now) (a .at) (a .len) (a .count) (a .rows .now) (p .loop .rows) (p .loop .place) (p .loop .k) (p .loop .inv .1)
+      size-room (a .format) (a .index .now) (a .at) (a .len) (a .count) (a .rows .now) (p .loop .rows) (p .loop .place) (p .loop .k) (p .loop .inv .1)
           (c .loop-test .taken),
+      p .loop .inv .1 .wide,
     )
 
-mul-t12 : tie.Need-mul-t12 Inv-loop μ-loop
-mul-t12 c = omega arith
+mul-t14 : tie.Need-mul-t14 Inv-loop μ-loop
+mul-t14 c = omega arith
 
 element-set-from-rows : tie.Need-element-set-from-rows Inv-loop μ-loop
 element-set-from-rows c = omega arith
@@ -69,17 +72,18 @@ loop-less c = omega arith
 loop-again : tie.Need-loop-again Inv-loop μ-loop
 loop-again c =
     let p = c .before .before in
-    let a = p .before .before .args in (
+    let a = c .before .before .before .before .args in (
       omega arith,
-      loading-on (a .index .now) (a .at) (a .len) (a .count) (a .rows .now) (p .loop .rows) (p .loop .place) (p .loop .k) (p .loop .inv .1)
+      loading-on (a .format) (a .index .now) (a .at) (a .len) (a .count) (a .rows .now) (p .loop .rows) (p .loop .place) (p .loop .k) (p .loop .inv .1)
           (c .before .loop-test .taken) (c .row-at .result) (c .row-at .ensures),
     )
 
 returns : tie.Need-returns Inv-loop μ-loop
 returns c =
     let p = c .before in
-    let a = p .before .before .args in
-    loading-end (a .index .now) (a .at) (a .len) (a .count) (a .rows .now) (p .loop .rows) (p .loop .place) (p .loop .k) (p .loop .inv .1) (omega arith)
+    let a = c .before .before .before .args in
+    loading-end (a .format) (a .index .now) (a .at) (a .len) (a .count) (a .rows .now) (p .loop .rows) (p .loop .place) (p .loop .k)
+    (p .loop .inv .1) (omega arith)
 
 pub load-spec : {M : Type 1} → statement M
 load-spec =
@@ -91,7 +95,7 @@ load-spec =
     loop-holds
     sub-row-at
     row-at-requires
-    mul-t12
+    mul-t14
     element-set-from-rows
     array-read-place
     array-read-place-2

@@ -2,7 +2,7 @@
 use Prim.Native.Nat.{_+_, _≤_}
 use native.Mathlib.Omega.{arith}
 use lib.ListN.{length}
-use Rattle.spec.specs.Records.{form1}
+use Rattle.spec.specs.Form.{formIn}
 use Rattle.loader.proofs.Rows.{room-least, room-full, room-exact, row-is, row-tiny, row-none, row-one, row-two, row-three}
 use borrow.Author.Needs.{needs}
 use Rattle.loader.proofs.record_at.Statement.{statement}
@@ -10,12 +10,14 @@ use Rattle.loader.proofs.record_at.Tie as tie
 
 -- room for what every record has, and for a full record's head
 least : (s : tie.Start) → s .args .at + 3 ≤ length (s .args .index .now)
-least s = room-least form1 (s .args .index .now) (s .args .at) (s .args .len) (s .pre .0) (s .pre .1)
+least s = room-least (formIn (s .args .format)) (s .args .index .now) (s .args .at) (s .args .len) (s .pre .0) (s .pre .1)
 
-full : (c : tie.Else1) → c .before .before .before .before .args .at + 7 ≤ length (c .before .before .before .before .args .index .now)
+full : (c : tie.Else1)
+    → let a = c .before .before .before .before .args in
+    a .at + (5 + a .format .width) ≤ length (a .index .now)
 full c =
     let s = c .before .before .before .before in
-    room-full form1 (s .args .index .now) (s .args .at) (s .args .len) (s .pre .0) (s .pre .1) (c .if1 .left)
+    room-full (formIn (s .args .format)) (s .args .index .now) (s .args .at) (s .args .len) (s .pre .0) (s .pre .1) (c .if1 .left)
 
 add-kind : tie.Need-add-kind
 add-kind c = search needs
@@ -32,13 +34,13 @@ shared-slice-read-prefix c = let s = c .before .before .before in omega (arith, 
 cast-prefix : tie.Need-cast-prefix
 cast-prefix c = omega (arith, c .shared-slice-known3 .given (c .before .before .before .args .at + 2))
 
-add-t16 : tie.Need-add-t16
-add-t16 c = search needs
+add-t18 : tie.Need-add-t18
+add-t18 c = search needs
 
 returns : tie.Need-returns
 returns c =
     let s = c .before .before .before .before in
-    row-is (row-tiny form1 (s .args .index .now) (s .args .at) (s .args .len) (s .pre .0) (s .pre .1) (c .if1 .taken))
+    row-is (row-tiny (formIn (s .args .format)) (s .args .index .now) (s .args .at) (s .args .len) (s .pre .0) (s .pre .1) (c .if1 .taken))
 
 add-suffix : tie.Need-add-suffix
 add-suffix c = search needs
@@ -58,68 +60,73 @@ shared-slice-read-count c = omega (arith, full (c .before .before))
 cast-count : tie.Need-cast-count
 cast-count c = omega (arith, c .shared-slice-known5 .given (c .before .before .before .before .before .before .args .at + 4))
 
-add-t20 : tie.Need-add-t20
-add-t20 c = search needs
+add-t22 : tie.Need-add-t22
+add-t22 c = search needs
 
-add-t21 : tie.Need-add-t21
-add-t21 c = search needs
+add-t23 : tie.Need-add-t23
+add-t23 c = search needs
 
 returns-2 : tie.Need-returns-2
 returns-2 c =
     let s = c .before .before .before .before .before .before .before .before in
     row-is
-    (row-none form1 (s .args .index .now) (s .args .at) (s .args .len) (s .pre .0) (s .pre .1)
+    (row-none (formIn (s .args .format)) (s .args .index .now) (s .args .at) (s .args .len) (s .pre .0) (s .pre .1)
     (c .before .before .before .before .if1 .left) (c .before .if2 .taken) (c .if3 .taken))
 
-add-t22 : tie.Need-add-t22
-add-t22 c = search needs
+add-t24 : tie.Need-add-t24
+add-t24 c = search needs
 
 returns-3 : tie.Need-returns-3
 returns-3 c =
     let s = c .before .before .before .before .before .before .before .before in
     row-is
-    (row-one form1 (s .args .index .now) (s .args .at) (s .args .len) (s .pre .0) (s .pre .1)
+    (row-one (formIn (s .args .format)) (s .args .index .now) (s .args .at) (s .args .len) (s .pre .0) (s .pre .1)
     (c .before .before .before .before .if1 .left) (c .before .if2 .taken) (c .if3 .left))
 
-add-t23 : tie.Need-add-t23
-add-t23 c = search needs
+add-t25 : tie.Need-add-t25
+add-t25 c = search needs
 
-add-t24 : tie.Need-add-t24
-add-t24 c = search needs
+add-t26 : tie.Need-add-t26
+add-t26 c = search needs
 
 returns-4 : tie.Need-returns-4
 returns-4 c =
     let s = c .before .before .before .before .before .before .before .before in
     row-is
-    (row-two form1 (s .args .index .now) (s .args .at) (s .args .len) (s .pre .0) (s .pre .1)
+    (row-two (formIn (s .args .format)) (s .args .index .now) (s .args .at) (s .args .len) (s .pre .0) (s .pre .1)
     (c .before .before .before .before .if1 .left) (c .if4 .taken))
 
-add-read : tie.Need-add-read
-add-read c = search needs
+add-read-offset : tie.Need-add-read-offset
+add-read-offset c = search needs
 
-add-read-2 : tie.Need-add-read-2
-add-read-2 c = search needs
+add-read-offset-2 : tie.Need-add-read-offset-2
+add-read-offset-2 c = search needs
 
-read-requires : tie.Need-read-requires
-read-requires c κs =
+read-offset-requires : tie.Need-read-offset-requires
+read-offset-requires c κs =
     let s = c .before .before .before .before .before .before .before .before in
-    (omega arith, room-exact form1 (s .args .index .now) (s .args .at) (s .args .len) (s .pre .0) (s .pre .1) (c .before .before .before .before .if1 .left) (c .before .if2 .left) (c .if4 .left))
+    let a = s .args in (
+      omega arith,
+      room-exact (formIn (a .format)) (a .index .now) (a .at) (a .len) (s .pre .0) (s .pre .1)
+          (c .before .before .before .before .if1 .left) (c .before .if2 .left) (c .if4 .left),
+    )
 
-mul-t9 : tie.Need-mul-t9
-mul-t9 c = search needs
+mul-t11 : tie.Need-mul-t11
+mul-t11 c = search needs
 
-add-t26 : tie.Need-add-t26
-add-t26 c = search needs
+add-t28 : tie.Need-add-t28
+add-t28 c = search needs
 
-add-t27 : tie.Need-add-t27
-add-t27 c = search needs
+add-t29 : tie.Need-add-t29
+add-t29 c = search needs
 
 returns-5 : tie.Need-returns-5
 returns-5 c =
     let s = c .before .before .before .before .before .before .before .before .before in
     row-is
-    (row-three form1 (s .args .index .now) (s .args .at) (s .args .len) (s .pre .0) (s .pre .1)
-    (c .before .before .before .before .before .if1 .left) (c .before .before .if2 .left) (c .before .if4 .left) (c .read .result) (c .read .ensures))
+    (row-three (formIn (s .args .format)) (s .args .index .now) (s .args .at) (s .args .len) (s .pre .0) (s .pre .1)
+    (c .before .before .before .before .before .if1 .left) (c .before .before .if2 .left) (c .before .if4 .left)
+    (c .read-offset .result) (c .read-offset .ensures))
 
 pub record-at-spec : {M : Type 1} → statement M
 record-at-spec =
@@ -130,7 +137,7 @@ record-at-spec =
     add-prefix
     shared-slice-read-prefix
     cast-prefix
-    add-t16
+    add-t18
     returns
     add-suffix
     shared-slice-read-suffix
@@ -138,18 +145,18 @@ record-at-spec =
     add-count
     shared-slice-read-count
     cast-count
-    add-t20
-    add-t21
-    returns-2
     add-t22
-    returns-3
     add-t23
+    returns-2
     add-t24
-    returns-4
-    add-read
-    add-read-2
-    read-requires
-    mul-t9
+    returns-3
+    add-t25
     add-t26
-    add-t27
+    returns-4
+    add-read-offset
+    add-read-offset-2
+    read-offset-requires
+    mul-t11
+    add-t28
+    add-t29
     returns-5)

@@ -4,7 +4,8 @@ use Prim.Native.Nat.{_+_, _-_, _≤_, _<_}
 use native.Mathlib.Nat.{zero-add}
 use native.Mathlib.Omega.{arith}
 use lib.ListN.{length, getD, length-append}
-use Rattle.spec.specs.Records.{form1, recordOf, recordBytes}
+use Rattle.spec.specs.Form.{newest}
+use Rattle.spec.specs.Records.{recordOf, recordBytes}
 use Rattle.spec.specs.Keywords.{folded}
 use Rattle.spec.specs.Scan.{scanBody}
 use Rattle.matcher.proofs.Bodies.{bodyRest, rest-start, body-most, few, within, place, keyword, keyword-length, next-record, no-record}
@@ -13,7 +14,7 @@ use Rattle.matcher.proofs.body_size.Tie as tie
 use Rattle.matcher.proofs.body_size.Reads as reads
 
 abbrev Inv-loop : tie.InvT-loop
-Inv-loop list chunk start len count flag size₀ k₀ size k = (k ≤ count) × (size + length (bodyRest form1 list chunk k) ≡ length (scanBody form1 list chunk))
+Inv-loop list chunk start len count flag size₀ k₀ size k = (k ≤ count) × (size + length (bodyRest newest list chunk k) ≡ length (scanBody newest list chunk))
 
 abbrev μ-loop : tie.MeasureT-loop
 μ-loop list chunk start len count flag size₀ k₀ size k = count - k
@@ -35,7 +36,7 @@ below c =
 loop-holds : tie.Need-loop-holds Inv-loop μ-loop
 loop-holds c =
     let a = c .before .before .before .before .args in
-    (omega arith, zero-add _ ∙ ap length (rest-start form1 (a .list .now) (a .chunk .now)))
+    (omega arith, zero-add _ ∙ ap length (rest-start newest (a .list .now) (a .chunk .now)))
 
 mul-at : tie.Need-mul-at Inv-loop μ-loop
 mul-at c = omega (arith, below c)
@@ -73,8 +74,8 @@ record-size-requires c κs =
 -- the record measured is the first of what is left
 step : (c : tie.After-record-size Inv-loop μ-loop)
     → let p = c .before .before .before in let a = p .before .before .before .before .before .args in
-    length (bodyRest form1 (a .list .now) (a .chunk .now) (p .loop .k))
-    ≡ c .record-size .result + length (bodyRest form1 (a .list .now) (a .chunk .now) (p .loop .k + 1))
+    length (bodyRest newest (a .list .now) (a .chunk .now) (p .loop .k))
+    ≡ c .record-size .result + length (bodyRest newest (a .list .now) (a .chunk .now) (p .loop .k + 1))
 step c =
     let p = c .before .before .before in
     let s = p .before .before .before .before .before in
@@ -83,11 +84,11 @@ step c =
     let r = s .pre .reads in
     let t = c .before .before .loop-test .taken in
     let w = keyword (a .list .now) (a .words) r k t in
-    let v = recordBytes form1 (length w) k (recordOf (folded (a .words .flag) w) (folded (a .words .flag) (a .chunk .now))) in
+    let v = recordBytes newest (length w) k (recordOf (folded (a .words .flag) w) (folded (a .words .flag) (a .chunk .now))) in
     omega (
       arith,
-      ap length (next-record (a .list .now) (a .words) r k t form1 (a .chunk .now)),
-      length-append v (bodyRest form1 (a .list .now) (a .chunk .now) (k + 1)),
+      ap length (next-record (a .list .now) (a .words) r k t newest (a .chunk .now)),
+      length-append v (bodyRest newest (a .list .now) (a .chunk .now) (k + 1)),
       c .record-size .ensures k,
     )
 
@@ -111,7 +112,7 @@ returns c =
     let p = c .before in
     let s = p .before .before .before .before .before in
     let a = s .args in
-    let none = no-record (a .list .now) (a .words) (s .pre .reads) form1 (a .chunk .now) (p .loop .k) (c .loop-test .left) in
+    let none = no-record (a .list .now) (a .words) (s .pre .reads) newest (a .chunk .now) (p .loop .k) (c .loop-test .left) in
     omega (arith, p .loop .inv .1, ap length none)
 
 pub body-size-spec : {M : Type 1} → statement M

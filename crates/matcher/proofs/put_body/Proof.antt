@@ -8,7 +8,8 @@ use borrow.Author.Needs.{needs}
 use borrow.Rule.Slice.PartMut.{same-len-mid}
 use lib.ListN.{length, getD, length-append}
 use Rattle.spec.specs.Bytes.{splice, written}
-use Rattle.spec.specs.Records.{form1, recordOf, recordBytes}
+use Rattle.spec.specs.Form.{newest}
+use Rattle.spec.specs.Records.{recordOf, recordBytes}
 use Rattle.spec.specs.Keywords.{folded}
 use Rattle.spec.specs.Scan.{scanBody}
 use Rattle.spec.proofs.Splices.{splice-nil}
@@ -21,8 +22,8 @@ abbrev Inv-loop : tie.InvT-loop
 Inv-loop out₀ list chunk start len count flag size₀ k₀ out size k =
     (k ≤ count)
     × (length out ≡ length out₀)
-    × (size + length (bodyRest form1 list chunk k) ≡ length (scanBody form1 list chunk))
-    × (splice out size (bodyRest form1 list chunk k) ≡ written out₀ (scanBody form1 list chunk))
+    × (size + length (bodyRest newest list chunk k) ≡ length (scanBody newest list chunk))
+    × (splice out size (bodyRest newest list chunk k) ≡ written out₀ (scanBody newest list chunk))
 
 abbrev μ-loop : tie.MeasureT-loop
 μ-loop out₀ list chunk start len count flag size₀ k₀ out size k = count - k
@@ -53,22 +54,22 @@ here c =
     let s = p .before .before .before .before .before .before in
     let a = s .args in
     let w = keyword (a .list .now) (a .words) (s .pre .reads) (p .loop .k) (c .loop-test .taken) in
-    recordBytes form1 (length w) (p .loop .k) (recordOf (folded (a .words .flag) w) (folded (a .words .flag) (a .chunk .now)))
+    recordBytes newest (length w) (p .loop .k) (recordOf (folded (a .words .flag) w) (folded (a .words .flag) (a .chunk .now)))
 
 next : (c : tie.In-loop Inv-loop μ-loop) → let p = c .before in let a = p .before .before .before .before .before .before .args in
-    bodyRest form1 (a .list .now) (a .chunk .now) (p .loop .k) ≡ here c ++ bodyRest form1 (a .list .now) (a .chunk .now) (p .loop .k + 1)
+    bodyRest newest (a .list .now) (a .chunk .now) (p .loop .k) ≡ here c ++ bodyRest newest (a .list .now) (a .chunk .now) (p .loop .k + 1)
 next c =
     let p = c .before in
     let s = p .before .before .before .before .before .before in
-    next-record (s .args .list .now) (s .args .words) (s .pre .reads) (p .loop .k) (c .loop-test .taken) form1 (s .args .chunk .now)
+    next-record (s .args .list .now) (s .args .words) (s .pre .reads) (p .loop .k) (c .loop-test .taken) newest (s .args .chunk .now)
 
 next-length : (c : tie.In-loop Inv-loop μ-loop) → let p = c .before in let a = p .before .before .before .before .before .before .args in
-    length (bodyRest form1 (a .list .now) (a .chunk .now) (p .loop .k))
-    ≡ length (here c) + length (bodyRest form1 (a .list .now) (a .chunk .now) (p .loop .k + 1))
+    length (bodyRest newest (a .list .now) (a .chunk .now) (p .loop .k))
+    ≡ length (here c) + length (bodyRest newest (a .list .now) (a .chunk .now) (p .loop .k + 1))
 next-length c =
     let p = c .before in
     let a = p .before .before .before .before .before .before .args in
-    ap length (next c) ∙ length-append (here c) (bodyRest form1 (a .list .now) (a .chunk .now) (p .loop .k + 1))
+    ap length (next c) ∙ length-append (here c) (bodyRest newest (a .list .now) (a .chunk .now) (p .loop .k + 1))
 
 room : (c : tie.In-loop Inv-loop μ-loop) → c .before .loop .size + length (here c) ≤ length (c .before .loop .out)
 room c =
@@ -79,7 +80,7 @@ room c =
 loop-holds : tie.Need-loop-holds Inv-loop μ-loop
 loop-holds c =
     let a = c .before .before .before .before .before .args in
-    let e = rest-start form1 (a .list .now) (a .chunk .now) in
+    let e = rest-start newest (a .list .now) (a .chunk .now) in
     (omega arith, refl, zero-add _ ∙ ap length e, ap (splice (a .out .now) 0) e)
 
 mul-at : tie.Need-mul-at Inv-loop μ-loop
@@ -149,9 +150,9 @@ loop-again c =
     let p = i .before in
     let a = p .before .before .before .before .before .before .args in
     let k = p .loop .k in
-    let rest = bodyRest form1 (a .list .now) (a .chunk .now) k in
-    let behind = bodyRest form1 (a .list .now) (a .chunk .now) (k + 1) in
-    let whole = splice (a .out .now) 0 (scanBody form1 (a .list .now) (a .chunk .now)) in
+    let rest = bodyRest newest (a .list .now) (a .chunk .now) k in
+    let behind = bodyRest newest (a .list .now) (a .chunk .now) (k + 1) in
+    let whole = splice (a .out .now) 0 (scanBody newest (a .list .now) (a .chunk .now)) in
     let called = w .put-record in (
       omega (arith, i .loop-test .taken),
       same-len-mid (p .loop .size) (length (p .loop .out) - p .loop .size) (p .loop .out) (called .last .0) (called .kept .0) ∙ p .loop .inv .1,
@@ -168,9 +169,9 @@ returns c =
     let p = c .before in
     let s = p .before .before .before .before .before .before in
     let a = s .args in
-    let rest = bodyRest form1 (a .list .now) (a .chunk .now) (p .loop .k) in
-    done (a .out .now) (p .loop .out) (scanBody form1 (a .list .now) (a .chunk .now)) rest (p .loop .size)
-    (no-record (a .list .now) (a .words) (s .pre .reads) form1 (a .chunk .now) (p .loop .k) (c .loop-test .left)) (p .loop .inv .2) (p .loop .inv .3)
+    let rest = bodyRest newest (a .list .now) (a .chunk .now) (p .loop .k) in
+    done (a .out .now) (p .loop .out) (scanBody newest (a .list .now) (a .chunk .now)) rest (p .loop .size)
+    (no-record (a .list .now) (a .words) (s .pre .reads) newest (a .chunk .now) (p .loop .k) (c .loop-test .left)) (p .loop .inv .2) (p .loop .inv .3)
 
 pub put-body-spec : {M : Type 1} → statement M
 put-body-spec =

@@ -5,7 +5,8 @@ use Prim.Native.Nat.{ℕ, _+_, _≤_}
 use native.Mathlib.Omega.{arith}
 use lib.ListN.{length}
 use Rattle.spec.specs.Keywords.{folded}
-use Rattle.spec.specs.Records.{recordOf, form1, headBytes}
+use Rattle.spec.specs.Form.{newest}
+use Rattle.spec.specs.Records.{recordOf, headBytes}
 use Rattle.spec.proofs.Folding.{folded-length}
 use Rattle.matcher.specs.Summaries.{Wrote}
 use Rattle.matcher.proofs.Full.{room-head, room-two, room-three, put-one, put-two, put-three}
@@ -22,7 +23,7 @@ put-head-requires c κs =
 -- the head stands at the start
 head : (c : tie.After-slice-known2)
     → let h = c .before .before in let a = h .before .before .before .before .before .args in
-    Wrote (a .out .now) 0 (headBytes form1 (a .k) (recordOf (folded (a .flag) (a .keyword .now)) (folded (a .flag) (a .chunk .now))))
+    Wrote (a .out .now) 0 (headBytes newest (a .k) (recordOf (folded (a .flag) (a .keyword .now)) (folded (a .flag) (a .chunk .now))))
     (h .put-head .last .0) (h .put-head .result)
 head c =
     let h = c .before .before in

@@ -5,7 +5,8 @@ use Prim.Native.Nat.{ℕ}
 use native.Mathlib.Omega.{arith}
 use lib.ListN.{length}
 use Rattle.spec.specs.Keywords.{folded}
-use Rattle.spec.specs.Records.{MatchRecord, isEmpty, isTiny, recordOf, form1}
+use Rattle.spec.specs.Form.{newest}
+use Rattle.spec.specs.Records.{MatchRecord, isEmpty, isTiny, recordOf}
 use Rattle.spec.proofs.Folding.{folded-length}
 use Rattle.spec.proofs.RecordLaws.{written-tiny, written-full}
 use Rattle.matcher.proofs.Recorded.{prefix-byte, suffix-byte, tiny-prefix-most, tiny-suffix-most, put-nothing, put-as-tiny, put-as-full}
@@ -35,7 +36,7 @@ returns c =
 is-tiny-requires : tie.Need-is-tiny-requires
 is-tiny-requires c κs = search needs
 
-tiny : (c : tie.Then2) → isTiny form1 (size (c .before .before .before .before)) (here (c .before .before .before .before)) ≡ true
+tiny : (c : tie.Then2) → isTiny newest (size (c .before .before .before .before)) (here (c .before .before .before .before)) ≡ true
 tiny c =
     let s = c .before .before .before .before in
     sym (c .before .is-tiny .ensures (size s) (here s) (s .summary-of .ensures)) ∙ c .if2 .taken
@@ -46,7 +47,7 @@ put-tiny-requires c κs =
     let s = t .before .before .before .before in
     let a = s .before .before .before .before .args in
     let pre = s .before .before .before .before .pre in (
-      omega (arith, pre .room, ap length (written-tiny form1 (size s) (a .k) (here s) (tiny t))),
+      omega (arith, pre .room, ap length (written-tiny newest (size s) (a .k) (here s) (tiny t))),
       pre .number,
       tiny-prefix-most (a .flag) (a .keyword .now) (a .chunk .now) (s .summary-of .result) (s .summary-of .ensures) (tiny t),
       tiny-suffix-most (a .flag) (a .keyword .now) (a .chunk .now) (s .summary-of .result) (s .summary-of .ensures) (tiny t),
@@ -70,7 +71,7 @@ not-empty c =
     let s = c .before .before .before .before in
     sym (c .before .before .before .is-empty .ensures (here s) (s .summary-of .ensures)) ∙ c .before .before .if1 .left
 
-not-tiny : (c : tie.Else2) → isTiny form1 (size (c .before .before .before .before)) (here (c .before .before .before .before)) ≡ false
+not-tiny : (c : tie.Else2) → isTiny newest (size (c .before .before .before .before)) (here (c .before .before .before .before)) ≡ false
 not-tiny c =
     let s = c .before .before .before .before in
     sym (c .before .is-tiny .ensures (size s) (here s) (s .summary-of .ensures)) ∙ c .if2 .left
@@ -87,7 +88,7 @@ put-full-requires c κs =
       prefixed = prefix-byte (a .flag) (a .keyword .now) (a .chunk .now) (s .summary-of .result) (s .summary-of .ensures) (pre .short);
       suffixed = suffix-byte (a .flag) (a .keyword .now) (a .chunk .now) (s .summary-of .result) (s .summary-of .ensures) (pre .short);
       summed = s .summary-of .ensures;
-      room = omega (arith, pre .room, ap length (written-full form1 (size s) (a .k) (here s) (not-empty f) (not-tiny f)));
+      room = omega (arith, pre .room, ap length (written-full newest (size s) (a .k) (here s) (not-empty f) (not-tiny f)));
     }
 
 same-length-2 : tie.Need-same-length-2

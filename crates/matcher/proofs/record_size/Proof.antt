@@ -4,7 +4,8 @@ use Prim.Native.Nat.{ℕ}
 use native.Mathlib.Omega.{arith}
 use lib.ListN.{length}
 use Rattle.spec.specs.Keywords.{folded}
-use Rattle.spec.specs.Records.{MatchRecord, recordOf, form1}
+use Rattle.spec.specs.Form.{newest}
+use Rattle.spec.specs.Records.{MatchRecord, recordOf}
 use Rattle.spec.proofs.RecordLaws.{written-empty, written-tiny, written-full}
 use Rattle.matcher.proofs.Shapes.{at-count}
 use Rattle.matcher.proofs.Summing.{count-most}
@@ -28,7 +29,7 @@ here c = let a = c .before .before .before .args in recordOf (folded (a .flag) (
 returns : tie.Need-returns
 returns c = λ k.
     let s = c .before .before in
-    sym (ap length (written-empty form1 (keyword-length s) k (here s) (sym (c .before .is-empty .ensures (here s) (s .summary-of .ensures)) ∙ c .if1 .taken)))
+    sym (ap length (written-empty newest (keyword-length s) k (here s) (sym (c .before .is-empty .ensures (here s) (s .summary-of .ensures)) ∙ c .if1 .taken)))
 
 is-tiny-requires : tie.Need-is-tiny-requires
 is-tiny-requires c κs = search needs
@@ -37,7 +38,7 @@ returns-2 : tie.Need-returns-2
 returns-2 c = λ k.
     let s = c .before .before .before .before in
     let tiny = sym (c .before .is-tiny .ensures (keyword-length s) (here s) (s .summary-of .ensures)) ∙ c .if2 .taken in
-    sym (ap length (written-tiny form1 (keyword-length s) k (here s) tiny))
+    sym (ap length (written-tiny newest (keyword-length s) k (here s) tiny))
 
 full-size-requires : tie.Need-full-size-requires
 full-size-requires c κs =
@@ -50,7 +51,7 @@ returns-3 c = λ k.
     let s = c .before .before .before .before .before in
     let e = s .summary-of .ensures in
     c .full-size .ensures k (here s) (at-count (s .summary-of .result) (here s) e)
-    ∙ sym (ap length (written-full form1 (keyword-length s) k (here s)
+    ∙ sym (ap length (written-full newest (keyword-length s) k (here s)
     (sym (c .before .before .before .before .is-empty .ensures (here s) e) ∙ c .before .before .before .if1 .left)
     (sym (c .before .before .is-tiny .ensures (keyword-length s) (here s) e) ∙ c .before .if2 .left)))
 

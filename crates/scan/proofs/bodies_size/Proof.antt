@@ -7,7 +7,7 @@ use borrow.Author.Needs.{needs}
 use denote.Ref.{now}
 use lib.ListN.{length}
 use Rattle.spec.specs.Store.{chunkCount}
-use Rattle.spec.specs.Records.{form1}
+use Rattle.spec.specs.Form.{newest}
 use Rattle.spec.specs.Scan.{scanBody}
 use Rattle.spec.proofs.StoreLaws.{store-good}
 use Rattle.scan.specs.Layout.{bodiesFrom}
@@ -17,7 +17,7 @@ use Rattle.scan.proofs.bodies_size.Tie as tie
 use Rattle.scan.proofs.bodies_size.Reads as reads
 
 abbrev Inv-loop : tie.InvT-loop
-Inv-loop list words store count size₀ j₀ size j = (j ≤ count) × (size + length (bodiesFrom form1 list store j) ≡ length (bodiesFrom form1 list store 0))
+Inv-loop list words store count size₀ j₀ size j = (j ≤ count) × (size + length (bodiesFrom newest list store j) ≡ length (bodiesFrom newest list store 0))
 
 abbrev μ-loop : tie.MeasureT-loop
 μ-loop list words store count size₀ j₀ size j = count - j
@@ -43,13 +43,13 @@ body-size-requires c κs =
 -- the body measured is the first of those left
 step : (c : tie.After-body-size Inv-loop μ-loop)
     → let p = c .before .before .before in let a = p .before .before .before .args in
-    length (bodiesFrom form1 (a .list .now) (a .store .now) (p .loop .j))
-    ≡ c .body-size .result + length (bodiesFrom form1 (a .list .now) (a .store .now) (p .loop .j + 1))
+    length (bodiesFrom newest (a .list .now) (a .store .now) (p .loop .j))
+    ≡ c .body-size .result + length (bodiesFrom newest (a .list .now) (a .store .now) (p .loop .j + 1))
 step c =
     let p = c .before .before .before in
     let a = p .before .before .before .args in
-    let e = c .body-size .ensures ∙ ap (λ chunk. length (scanBody form1 (a .list .now) chunk)) (c .before .chunk-at .ensures .0) in
-    omega (arith, e, bodies-length form1 (a .list .now) (a .store .now) (p .loop .j) (within (c .before .before)))
+    let e = c .body-size .ensures ∙ ap (λ chunk. length (scanBody newest (a .list .now) chunk)) (c .before .chunk-at .ensures .0) in
+    omega (arith, e, bodies-length newest (a .list .now) (a .store .now) (p .loop .j) (within (c .before .before)))
 
 add-size : tie.Need-add-size Inv-loop μ-loop
 add-size c =
@@ -72,7 +72,7 @@ returns c =
     let p = c .before in
     let s = p .before .before .before in
     let a = s .args in
-    let none = bodies-end form1 (a .list .now) (a .store .now) (p .loop .j) (omega (arith, c .loop-test .left, s .pre .counted)) in
+    let none = bodies-end newest (a .list .now) (a .store .now) (p .loop .j) (omega (arith, c .loop-test .left, s .pre .counted)) in
     omega (arith, p .loop .inv .1, ap length none)
 
 pub bodies-size-spec : {M : Type 1} → statement M

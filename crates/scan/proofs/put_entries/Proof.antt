@@ -10,7 +10,7 @@ use denote.Ref.{now}
 use lib.ListN.{length}
 use Rattle.spec.specs.Bytes.{splice}
 use Rattle.spec.specs.Store.{chunkCount}
-use Rattle.spec.specs.Records.{form1}
+use Rattle.spec.specs.Form.{newest}
 use Rattle.spec.specs.Scan.{scanBody}
 use Rattle.spec.proofs.StoreLaws.{store-good, store-key-length}
 use Rattle.matcher.proofs.Bodies.{part-room}
@@ -27,13 +27,13 @@ Left out₀ list store count out at k =
     (k ≤ count)
     × (length out ≡ length out₀)
     × (8 + length list + 32 * count ≤ at)
-    × (at + length (bodiesFrom form1 list store k) ≡ 8 + length list + 32 * count + length (bodiesFrom form1 list store 0))
+    × (at + length (bodiesFrom newest list store k) ≡ 8 + length list + 32 * count + length (bodiesFrom newest list store 0))
 
 abbrev Inv-loop : tie.InvT-loop
 Inv-loop out₀ list words store count start at₀ k₀ out at k =
     Left out₀ list store count out at k
     × (splice (splice out (entryAt list store k) (directoryLeft list store at k)) at (bodiesLeft list store k)
-    ≡ splice out₀ (8 + length list) (tailBytes form1 list store))
+    ≡ splice out₀ (8 + length list) (tailBytes newest list store))
 
 abbrev μ-loop : tie.MeasureT-loop
 μ-loop out₀ list words store count start at₀ k₀ out at k = count - k
@@ -43,11 +43,11 @@ within : (c : tie.In-loop Inv-loop μ-loop) → c .before .loop .k < chunkCount 
 within c = omega (arith, c .loop-test .taken, c .before .before .before .before .before .pre .walks .counted)
 
 room : (c : tie.In-loop Inv-loop μ-loop) → let p = c .before in let a = p .before .before .before .before .args in
-    p .loop .at + length (body form1 (a .list .now) (a .store .now) (p .loop .k)) ≤ length (p .loop .out)
+    p .loop .at + length (body newest (a .list .now) (a .store .now) (p .loop .k)) ≤ length (p .loop .out)
 room c =
     let p = c .before in
     let s = p .before .before .before .before in
-    omega (arith, bodies-length form1 (s .args .list .now) (s .args .store .now) (p .loop .k) (within c), p .loop .inv .0 .1, p .loop .inv .0 .3, s .pre .room)
+    omega (arith, bodies-length newest (s .args .list .now) (s .args .store .now) (p .loop .k) (within c), p .loop .inv .0 .1, p .loop .inv .0 .3, s .pre .room)
 
 -- and the entry
 entry-room : (c : tie.In-loop Inv-loop μ-loop) → let p = c .before in let a = p .before .before .before .before .args in
@@ -89,7 +89,7 @@ put-body-requires c κs =
     let i = c .before .before in
     let p = i .before in
     let s = p .before .before .before .before in
-    let e = ap (λ chunk. length (scanBody form1 (s .args .list .now) chunk)) (c .before .chunk-at .ensures .0) in
+    let e = ap (λ chunk. length (scanBody newest (s .args .list .now) chunk)) (c .before .chunk-at .ensures .0) in
     record {
       reads = s .pre .walks .reads;
       room = part-room (p .loop .out) (p .loop .at) _ (omega (arith, e, room i));
@@ -126,10 +126,10 @@ put-entry-requires c κs =
 
 -- the body's length, by the list's definition
 measured : (c : tie.After-put-body Inv-loop μ-loop) → let p = c .before .before .before .before in let a = p .before .before .before .before .args in
-    c .put-body .result ≡ length (body form1 (a .list .now) (a .store .now) (p .loop .k))
+    c .put-body .result ≡ length (body newest (a .list .now) (a .store .now) (p .loop .k))
 measured c =
     let a = c .before .before .before .before .before .before .before .before .args in
-    let e = ap (λ chunk. length (scanBody form1 (a .list .now) chunk)) (c .before .before .chunk-at .ensures .0) in
+    let e = ap (λ chunk. length (scanBody newest (a .list .now) chunk)) (c .before .before .chunk-at .ensures .0) in
     omega (arith, c .put-body .ensures .1, e)
 
 add-at-2 : tie.Need-add-at-2 Inv-loop μ-loop
@@ -155,12 +155,12 @@ loop-again c =
     let l = within i in
     let key = w .before .before .key-at in
     let chunk = b .before .before .chunk-at in
-    let whole = splice (a .out .now) (8 + length (a .list .now)) (tailBytes form1 (a .list .now) (a .store .now)) in (
+    let whole = splice (a .out .now) (8 + length (a .list .now)) (tailBytes newest (a .list .now) (a .store .now)) in (
       (
         omega (arith, i .loop-test .taken),
         w .put-entry .kept .0 ∙ same b ∙ p .loop .inv .0 .1,
         omega (arith, p .loop .inv .0 .2),
-        omega (arith, measured b, bodies-length form1 (a .list .now) (a .store .now) k l, p .loop .inv .0 .3),
+        omega (arith, measured b, bodies-length newest (a .list .now) (a .store .now) k l, p .loop .inv .0 .3),
       ),
       regions-turn (a .list .now) (a .store .now) (s .pre .walks .checked) k (p .loop .at) l
           (now (key .result)) (now (chunk .result)) (b .put-body .result) (chunk .ensures .0) (key .ensures)
@@ -178,7 +178,7 @@ returns c =
     let s = p .before .before .before .before in
     let a = s .args in
     let g = s .pre .walks .checked in
-    let whole = splice (a .out .now) (8 + length (a .list .now)) (tailBytes form1 (a .list .now) (a .store .now)) in
+    let whole = splice (a .out .now) (8 + length (a .list .now)) (tailBytes newest (a .list .now) (a .store .now)) in
     regions-end (a .list .now) (a .store .now) g (p .loop .out) whole (p .loop .at) (p .loop .k)
     (omega (arith, c .loop-test .left, s .pre .walks .counted)) (p .loop .inv .1)
 

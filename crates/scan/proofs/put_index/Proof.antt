@@ -4,7 +4,7 @@ use native.Mathlib.Omega.{arith}
 use borrow.Author.Needs.{needs}
 use lib.ListN.{length}
 use Rattle.spec.specs.Store.{chunkCount}
-use Rattle.spec.specs.Records.{form1}
+use Rattle.spec.specs.Form.{newest}
 use Rattle.spec.proofs.KeywordLaws.{keyword-front}
 use Rattle.spec.proofs.StoreLaws.{store-good}
 use Rattle.scan.specs.Layout.{bodiesFrom}
@@ -19,7 +19,7 @@ checks : (c : tie.After-shared-slice-known2) → Passed (c .before .before .befo
 checks c = let s = c .before .before .before in passed-both (s .args .list .now) (s .args .store .now) (s .pre .passed)
 
 room : (c : tie.After-shared-slice-known2) → let a = c .before .before .before .args in
-    8 + length (a .list .now) + 32 * chunkCount (a .store .now) + length (bodiesFrom form1 (a .list .now) (a .store .now) 0) ≤ length (a .out .now)
+    8 + length (a .list .now) + 32 * chunkCount (a .store .now) + length (bodiesFrom newest (a .list .now) (a .store .now) 0) ≤ length (a .out .now)
 room c =
     let s = c .before .before .before in
     omega (arith, s .pre .room, index-length (s .args .list .now) (s .args .store .now) (checks c .checked))

@@ -8,30 +8,30 @@ use denote.Ref.{now}
 use Rattle.spec.specs.Bytes.{same}
 use Rattle.spec.specs.Store.{storeMark}
 use borrow.Author.Tests.{not-true, not-false}
-use Rattle.store.proofs.Answers.{refused-with, short, unmarked, many, cut, wrong, entered, duplicate-told, examined}
+use Rattle.store.proofs.Answers.{refused-early, short, unmarked, many, cut, wrong, duplicate-told, all-told}
 use borrow.Author.Needs.{needs}
 use Rattle.store.proofs.examine.Statement.{statement}
 use Rattle.store.proofs.examine.Tie as tie
 
 -- what the tests on the first 8 bytes say
 header : (c : tie.Else2)
-    → let store = now (c .before .before .before .before .before .before .args .store) in
+    → let store = now (c .before .before .before .before .before .args .store) in
     (8 ≤ length store) × (same (take 4 store) storeMark ≡ true)
 header c = (c .before .before .if1 .left, sym (c .before .marked .ensures) ∙ not-false (c .before .marked .result) (c .if2 .left))
 
 returns : tie.Need-returns
 returns c =
-    let store = now (c .before .before .before .before .args .store) in
-    refused-with store 5 (short store (c .if1 .taken)) (omega arith)
+    let a = c .before .before .before .args in
+    refused-early (now (a .store)) (now (a .chains)) 5 (short (now (a .store)) (c .if1 .taken)) (omega arith) (omega arith)
 
 marked-requires : tie.Need-marked-requires
 marked-requires c κs = search needs
 
 returns-2 : tie.Need-returns-2
 returns-2 c =
-    let store = now (c .before .before .before .before .before .before .args .store) in
+    let a = c .before .before .before .before .before .args in
     let none = sym (c .before .marked .ensures) ∙ not-true (c .before .marked .result) (c .if2 .taken) in
-    refused-with store 5 (unmarked store (c .before .before .if1 .left) none) (omega arith)
+    refused-early (now (a .store)) (now (a .chains)) 5 (unmarked (now (a .store)) (c .before .before .if1 .left) none) (omega arith) (omega arith)
 
 chunk-count-requires : tie.Need-chunk-count-requires
 chunk-count-requires c κs = search needs
@@ -39,9 +39,11 @@ chunk-count-requires c κs = search needs
 returns-3 : tie.Need-returns-3
 returns-3 c =
     let opened = c .before .before in
-    let store = now (opened .before .before .before .before .before .before .args .store) in
+    let a = opened .before .before .before .before .before .args in
     let h = header opened in
-    refused-with store 6 (many store (h .0) (h .1) (c .before .chunk-count .result) (c .before .chunk-count .ensures) (c .if3 .taken)) (omega arith)
+    let n = c .before .chunk-count in
+    refused-early (now (a .store)) (now (a .chains)) 6
+    (many (now (a .store)) (h .0) (h .1) (n .result) (n .ensures) (c .if3 .taken)) (omega arith) (omega arith)
 
 mul-if4 : tie.Need-mul-if4
 mul-if4 c = search needs
@@ -53,23 +55,26 @@ returns-4 : tie.Need-returns-4
 returns-4 c =
     let counted = c .before .before in
     let opened = counted .before in
-    let store = now (opened .before .before .before .before .before .before .args .store) in
+    let a = opened .before .before .before .before .before .args in
     let h = header opened in
-    refused-with store 6 (cut store (h .0) (h .1) (counted .chunk-count .result) (counted .chunk-count .ensures) (c .before .if3 .left) (c .if4 .taken)) (omega arith)
+    let n = counted .chunk-count in
+    refused-early (now (a .store)) (now (a .chains)) 6
+    (cut (now (a .store)) (h .0) (h .1) (n .result) (n .ensures) (c .before .if3 .left) (c .if4 .taken)) (omega arith) (omega arith)
 
 entries-requires : tie.Need-entries-requires
 entries-requires c κs = search needs
 
 returns-5 : tie.Need-returns-5
 returns-5 c =
-    let counted = c .before .before .before .before in
+    let sized = c .before .before in
+    let counted = sized .before .before in
     let opened = counted .before in
-    let store = now (opened .before .before .before .before .before .before .args .store) in
+    let a = opened .before .before .before .before .before .args in
     let h = header opened in
-    refused-with store (c .before .entries .result)
-    (wrong store (h .0) (h .1) (counted .chunk-count .result) (counted .chunk-count .ensures) (c .before .before .before .if3 .left) (c .before .before .if4 .left)
-    (c .before .entries .result) (c .before .entries .ensures) (c .if5 .taken))
-    (omega (arith, c .if5 .taken))
+    let n = counted .chunk-count in
+    let e = c .before .entries in
+    wrong (now (a .store)) (h .0) (h .1) (n .result) (n .ensures) (sized .before .if3 .left) (sized .if4 .left)
+    (now (a .chains)) (e .result) (e .ensures) (c .if5 .taken)
 
 build-requires : tie.Need-build-requires
 build-requires c κs = search needs
@@ -77,48 +82,38 @@ build-requires c κs = search needs
 same-length : tie.Need-same-length
 same-length c = search needs
 
+returns-6 : tie.Need-returns-6
+returns-6 c =
+    let built = c .before .before .before in
+    let good = built .before .before in
+    let sized = good .before .before in
+    let counted = sized .before .before in
+    let opened = counted .before in
+    let a = opened .before .before .before .before .before .args in
+    let h = header opened in
+    let n = counted .chunk-count in
+    let e = good .before .entries in
+    let b = built .build in
+    duplicate-told (now (a .store)) (h .0) (h .1) (n .result) (n .ensures) (sized .before .if3 .left) (sized .if4 .left)
+    (e .result) (e .ensures) (good .if5 .left) (now (a .chains)) (b .last .1 .1 .1 .1 .0) (b .result) (b .ensures) (c .if6 .taken)
+
 same-length-2 : tie.Need-same-length-2
 same-length-2 c = search needs
 
-returns-6 : tie.Need-returns-6
-returns-6 c =
-    let built = c .before .before .before .before .before in
-    let good = built .before .before .before in
-    let sized = good .before .before in
-    let counted = sized .before .before in
-    let opened = counted .before in
-    let store = now (opened .before .before .before .before .before .before .args .store) in
-    let h = header opened in
-    let n = counted .chunk-count in
-    let e = good .before .entries in
-    let z = entered store (h .0) (h .1) (n .result) (n .ensures) (e .result) (e .ensures) (good .if5 .left) in
-    let b = built .build in
-    refused-with store 8
-    (duplicate-told store (h .0) (h .1) (n .result) (n .ensures) (sized .before .if3 .left) (sized .if4 .left) z (b .result) (b .ensures .0) (c .if6 .taken))
-    (omega arith)
-
-same-length-3 : tie.Need-same-length-3
-same-length-3 c = search needs
-
-same-length-4 : tie.Need-same-length-4
-same-length-4 c = search needs
-
 returns-7 : tie.Need-returns-7
 returns-7 c =
-    let built = c .before .before .before .before .before in
-    let good = built .before .before .before in
+    let built = c .before .before .before in
+    let good = built .before .before in
     let sized = good .before .before in
     let counted = sized .before .before in
     let opened = counted .before in
-    let start = opened .before .before .before .before .before .before in
-    let store = now (start .args .store) in
+    let a = opened .before .before .before .before .before .args in
     let h = header opened in
     let n = counted .chunk-count in
     let e = good .before .entries in
-    let z = entered store (h .0) (h .1) (n .result) (n .ensures) (e .result) (e .ensures) (good .if5 .left) in
     let b = built .build in
-    examined store (h .0) (h .1) (n .result) (n .ensures) (sized .before .if3 .left) (sized .if4 .left) z
-    (now (start .args .chain)) (b .last .1 .1 .1 .1 .0) (b .last .1 .1 .1 .1 .1 .0) (b .result) (b .ensures) (start .pre .long) (c .if6 .left)
+    all-told (now (a .store)) (h .0) (h .1) (n .result) (n .ensures) (sized .before .if3 .left) (sized .if4 .left)
+    (e .result) (e .ensures) (good .if5 .left) (now (a .chains)) (b .last .1 .1 .1 .1 .0) (b .result) (b .ensures) (c .if6 .left)
 
 pub examine-spec : {M : Type 1} → statement M
 examine-spec =
@@ -136,8 +131,6 @@ examine-spec =
     returns-5
     build-requires
     same-length
-    same-length-2
     returns-6
-    same-length-3
-    same-length-4
+    same-length-2
     returns-7)

@@ -1,120 +1,216 @@
--- `walk::list_file` meets its contract. The invariant: what is written and what is still to come are the whole list.
+-- `walk::list_file` meets its contract. The invariant: what is written and what is still to come are the file's list.
+use mathlib.Core.Path.{refl}
+use mathlib.Core.List.{[]}
+use Prim.Native.Nat.{_+_, _-_, _/_, _≤_, _<_}
 use native.Mathlib.Omega.{arith}
 use lib.ListN.{length}
-use Rattle.spec.specs.Join.{Occurrence, listBytes}
-use Rattle.spec.proofs.Writing.{Going}
-use Rattle.walk.specs.Walking.{chunksIn, fileList, AtPlace, coming}
-use Rattle.walk.proofs.Counts.{walkable, first-place, first-going, one-less, list-room, list-on, list-bytes, list-ends}
+use Rattle.spec.specs.Keywords.{foldedKeywords}
+use Rattle.spec.specs.Index.{listIn}
+use Rattle.walk.specs.Walking.{chunksIn, Checked, LoadedAt}
+use Rattle.walk.proofs.Entries.{in-chunks, out-chunks, counts, few, nonempty, narrow, entry-most, place-loaded}
+use Rattle.walk.proofs.Places.{AllGood, crossable}
+use Rattle.walk.proofs.Counts.{all-good, ready, ListingFile, listing-none, listing-start, listing-fits, listing-room, listing-on, listing-end}
 use Rattle.walk.proofs.list_file.Statement.{statement}
 use Rattle.walk.proofs.list_file.Tie as tie
 use Rattle.walk.proofs.list_file.Reads as reads
 use Rattle.walk.proofs.list_file.Lts as lts
-use Rattle.listing.proofs.put.Reads as put-reads
+use Rattle.listing.proofs.list_place.Reads as list-place-reads
+use Rattle.walk.proofs.cross.Reads as cross-reads
+use Rattle.walk.proofs.entry_at.Reads as entry-at-reads
 use Rattle.walk.proofs.load.Reads as load-reads
-use Rattle.walk.proofs.next.Reads as next-reads
 
 abbrev Inv-loop : tie.InvT-loop
-Inv-loop index directory entries heads chain file slots count tables number out₀ place here₀ streams₀ rows₀ p₀ out here streams rows p =
-    AtPlace index count (chunksIn index file) here streams rows
-    × Going out₀ out place p (listBytes (fileList number index file)) (listBytes (coming number index count (chunksIn index file) here streams))
+Inv-loop index listing chains tables file out₀ opened width slots rows₀ streams₀ start size₀ base₀ p₀ n₀ out rows streams size base p n =
+    (n ≤ length file / 20) × (listing .opened .keywords ≤ length streams) × LoadedAt index (listing .opened) (chunksIn index file) n rows size
+    × ListingFile index (listing .number) (chunksIn index file) out₀ out (listing .place) p n base
 
 abbrev μ-loop : tie.MeasureT-loop
-μ-loop index directory entries heads chain file slots count tables number out₀ place here₀ streams₀ rows₀ p₀ out here streams rows p =
-    length (coming number index count (chunksIn index file) here streams)
+μ-loop index listing chains tables file out₀ opened width slots rows₀ streams₀ start size₀ base₀ p₀ n₀ out rows streams size base p n = length file / 20 - n
 
-load-requires : tie.Need-load-requires Inv-loop μ-loop
-load-requires c κs = let s = c .before .before .before .before .before .before .before in
-    (s .pre .0, (s .pre .1 .0, (s .pre .1 .1 .0 .counts, s .pre .1 .1 .0 .few, s .pre .1 .1 .0 .few)))
+abbrev start : tie.At-loop Inv-loop μ-loop → tie.Start Inv-loop μ-loop
+start c = c .before .before .before .before .before .before .before .before .before .before .before .before
 
-array-write-here : tie.Need-array-write-here Inv-loop μ-loop
-array-write-here c = omega arith
+-- place n is one of the file's
+inside : (c : tie.In-loop Inv-loop μ-loop) → let p = c .before in let a = start p .args in p .loop .n < length (chunksIn (a .index .now) (a .file .now))
+inside c =
+    let p = c .before in
+    let a = start p .args in
+    in-chunks (a .index .now) (a .file .now) (p .loop .n) (c .loop-test .taken)
 
-loop-holds : tie.Need-loop-holds Inv-loop μ-loop
-loop-holds c = let s = c .before .before .before .before .before .before .before .before in
+-- the file's chunks are in range
+ranges : (s : tie.Start Inv-loop μ-loop) → let a = s .args in AllGood (foldedKeywords (listIn (a .index .now))) (chunksIn (a .index .now) (a .file .now))
+ranges s = let a = s .args in all-good (a .index .now) (s .pre .1 .0 .checked .good) (a .file .now) [] (s .pre .1 .1 .1 .0)
+
+known : (s : tie.Start Inv-loop μ-loop) → let a = s .args in Checked (a .index .now) (a .listing .opened)
+known s = s .pre .1 .0 .checked
+
+-- the next place is loaded
+ahead : (c : tie.After-load2 Inv-loop μ-loop) → let p = c .before .before .before .before .before in
+    let a = start p .args in
+    LoadedAt (a .index .now) (a .listing .opened) (chunksIn (a .index .now) (a .file .now)) (p .loop .n + 1) (c .load2 .last .1 .1 .1 .0) (c .load2 .result)
+ahead c =
+    let s = start (c .before .before .before .before .before) in
     let a = s .args in
-    let rows = c .load .last .1 .1 .1 .1 .1 .1 .1 .1 .1 .0 in (
-      first-place (a .index .now) (a .file .now) (a .count) rows (c .load .result) (a .slots .now) (s .pre .1 .1 .0 .few) (s .pre .1 .0) (c .load .ensures),
-      first-going (a .index .now) (a .file .now) (a .count) rows (c .load .result) (a .out .now) (a .place) (a .number),
-    )
+    let e = c .before .before .entry-at2 in
+    place-loaded (a .index .now) (a .file .now) [] (s .pre .1 .1 .1 .0) (c .before .before .before .before .before .loop .n + 1) (e .result) (e .ensures)
+    (a .listing .opened) (c .load2 .last .1 .1 .1 .0) (c .load2 .result) (c .load2 .ensures)
 
-next-requires : tie.Need-next-requires Inv-loop μ-loop
-next-requires c κs = let p = c .before .before .before in
-    let s = p .before .before .before .before .before .before .before .before .before in
+-- the place ends in the file
+fits : (c : tie.After-cross Inv-loop μ-loop) → let p = c .before .before .before .before .before .before .before .before .before in
+    p .loop .base + p .loop .size < 4294967296
+fits c =
+    let p = c .before .before .before .before .before .before .before .before .before in
+    let s = start p in
     let a = s .args in
-    let w = walkable (a .index .now) (a .directory) (a .entries) (a .heads .now) (a .chain .now) (a .tables .now) (a .file .now) (a .slots .now) (a .count)
-    (s .pre .0) (s .pre .1 .0) (s .pre .1 .1 .0) in
-    (w, p .loop .inv .0)
-
-same-length : tie.Need-same-length Inv-loop μ-loop
-same-length c = c .before .before .before .before .before .before .loop .inv .1 .same
+    let t = c .before .before .before .before in
+    let x = c .cross in
+    listing-fits (a .index .now) (a .listing .opened) (a .tables .now) (chunksIn (a .index .now) (a .file .now)) (known s) (s .pre .1 .1 .0) (ranges s)
+    (p .loop .n) (p .loop .rows) (t .load2 .last .1 .1 .1 .0) (p .loop .size) (t .load2 .result)
+    (inside (c .before .before .before .before .before .before .before .before)) (p .loop .inv .2) (ahead t)
+    (x .last .1 .1 .1 .1 .1 .0) (x .ensures .crossed)
+    (a .listing .number) (a .out .now) (p .loop .out) (a .listing .place) (p .loop .p) (p .loop .base) (p .loop .inv .3)
 
 returns : tie.Need-returns Inv-loop μ-loop
-returns c = let p = c .before .before .before .before .before .before in
-    let s = p .before .before .before .before .before .before .before .before .before in
+returns c =
+    let s = c .before .before .before .before .before .before in
     let a = s .args in
-    let whole = fileList (a .number) (a .index .now) (a .file .now) in
-    let chunks = chunksIn (a .index .now) (a .file .now) in
-    let n = c .before .before .next in
-    let e = n .ensures .ended (c .if1 .taken) (a .number) in
-    let still = coming (a .number) (a .index .now) (a .count) chunks (p .loop .here) (p .loop .streams) in (
-      list-ends (a .out .now) (p .loop .out) (a .place) (p .loop .p) whole still (p .loop .inv .1) e,
-      list-bytes (a .out .now) (p .loop .out) (a .place) (p .loop .p) whole still (p .loop .inv .1) e,
+    listing-none (a .index .now) (a .file .now) (a .listing .number) (a .out .now) (a .listing .place) (s .pre .0 (c .if1 .taken))
+
+slice-aggregate-entry-at : tie.Need-slice-aggregate-entry-at Inv-loop μ-loop
+slice-aggregate-entry-at c = refl
+
+entry-at-requires : tie.Need-entry-at-requires Inv-loop μ-loop
+entry-at-requires c κs = let s = c .before .before .before .before .before .before .before .before in (s .pre .1 .0, s .pre .1 .1 .1 .0)
+
+load-requires : tie.Need-load-requires Inv-loop μ-loop
+load-requires c κs =
+    let s = c .before .before .before .before .before .before .before .before .before .before in
+    let a = s .args in
+    let e = c .before .entry-at in (
+      known s,
+      omega (
+        arith,
+        counts (a .index .now) (a .listing .opened) (known s),
+        entry-most (a .index .now) (a .file .now) [] (s .pre .1 .1 .1 .0) 0 (e .result) (e .ensures),
+      ),
+      few (a .index .now) (a .listing .opened) (known s),
     )
 
-put-requires : tie.Need-put-requires Inv-loop μ-loop
-put-requires c κs = let p = c .before .before .before .before .before .before .before in
-    let s = p .before .before .before .before .before .before .before .before .before in
+loop-holds : tie.Need-loop-holds Inv-loop μ-loop
+loop-holds c =
+    let s = c .before .before .before .before .before .before .before .before .before .before .before in
     let a = s .args in
-    let whole = fileList (a .number) (a .index .now) (a .file .now) in
-    let chunks = chunksIn (a .index .now) (a .file .now) in
-    let n = c .before .before .before .next in
-    let still = coming (a .number) (a .index .now) (a .count) chunks (p .loop .here) (p .loop .streams) in
-    let rest = coming (a .number) (a .index .now) (a .count) chunks (n .last .1 .1 .1 .1 .1 .1 .1 .1 .1 .0) (n .last .1 .1 .1 .1 .1 .1 .1 .1 .1 .1 .0) in
-    let taken : Occurrence = record { file = a .number; offset = n .result .offset; keyword = n .result .keyword } in
-    let e = n .ensures .found (c .before .if1 .left) (a .number) in
-    let room = list-room (a .out .now) (p .loop .out) (a .place) (p .loop .p) whole still (p .loop .inv .1) taken rest (s .pre .1 .1 .1) e in
-    (room, omega (arith, s .pre .1 .1 .0 .few, c .before .if1 .left))
+    let e = c .before .before .entry-at in (
+      omega arith,
+      few (a .index .now) (a .listing .opened) (known s),
+      place-loaded (a .index .now) (a .file .now) [] (s .pre .1 .1 .1 .0) 0 (e .result) (e .ensures)
+          (a .listing .opened) (c .load .last .1 .1 .1 .0) (c .load .result) (c .load .ensures),
+      listing-start (a .index .now) (a .file .now) (a .listing .number) (a .out .now) (a .listing .place) [] (s .pre .1 .1 .1 .0),
+    )
 
-add-p : tie.Need-add-p Inv-loop μ-loop
-add-p c = let p = c .before .before .before .before .before .before .before .before .before .before in
-    let s = p .before .before .before .before .before .before .before .before .before in
+slice-aggregate-entry-at-2 : tie.Need-slice-aggregate-entry-at-2 Inv-loop μ-loop
+slice-aggregate-entry-at-2 c = refl
+
+add-entry-at : tie.Need-add-entry-at Inv-loop μ-loop
+add-entry-at c = omega (arith, c .before .loop-test .taken, start (c .before .before))
+
+entry-at-requires-2 : tie.Need-entry-at-requires-2 Inv-loop μ-loop
+entry-at-requires-2 c κs = let s = start (c .before .before) in (s .pre .1 .0, s .pre .1 .1 .1 .0)
+
+load-requires-2 : tie.Need-load-requires-2 Inv-loop μ-loop
+load-requires-2 c κs =
+    let p = c .before .before .before .before in
+    let s = start p in
     let a = s .args in
-    let whole = fileList (a .number) (a .index .now) (a .file .now) in
+    let e = c .before .entry-at2 in (
+      known s,
+      omega (
+        arith,
+        counts (a .index .now) (a .listing .opened) (known s),
+        entry-most (a .index .now) (a .file .now) [] (s .pre .1 .1 .1 .0) (p .loop .n + 1) (e .result) (e .ensures),
+      ),
+      p .loop .inv .2 .long,
+    )
+
+cross-requires : tie.Need-cross-requires Inv-loop μ-loop
+cross-requires c κs =
+    let p = c .before .before .before .before .before .before .before .before in
+    let s = start p in
+    let a = s .args in
+    let t = c .before .before .before in (
+      few (a .index .now) (a .listing .opened) (known s),
+      p .loop .inv .1,
+      crossable (a .index .now) (a .listing .opened) (a .tables .now) (chunksIn (a .index .now) (a .file .now)) (known s) (s .pre .1 .1 .0) (ranges s)
+          (p .loop .n) (p .loop .rows) (t .load2 .last .1 .1 .1 .0) (p .loop .size) (t .load2 .result)
+          (inside (c .before .before .before .before .before .before .before)) (p .loop .inv .2) (ahead t),
+    )
+
+list-place-requires : tie.Need-list-place-requires Inv-loop μ-loop
+list-place-requires c κs =
+    let f = c .before .before in
+    let p = c .before .before .before .before .before .before .before .before .before .before .before in
+    let s = start p in
+    let a = s .args in
+    let t = c .before .before .before .before .before .before in
+    let x = f .cross in
+    let index = a .index .now in
+    let opened = a .listing .opened in
     let chunks = chunksIn (a .index .now) (a .file .now) in
-    let n = c .before .before .before .before .before .before .next in
-    let still = coming (a .number) (a .index .now) (a .count) chunks (p .loop .here) (p .loop .streams) in
-    let rest = coming (a .number) (a .index .now) (a .count) chunks (n .last .1 .1 .1 .1 .1 .1 .1 .1 .1 .0) (n .last .1 .1 .1 .1 .1 .1 .1 .1 .1 .1 .0) in
-    let taken : Occurrence = record { file = a .number; offset = n .result .offset; keyword = n .result .keyword } in
-    let e = n .ensures .found (c .before .before .before .before .if1 .left) (a .number) in
-    let room = list-room (a .out .now) (p .loop .out) (a .place) (p .loop .p) whole still (p .loop .inv .1) taken rest (s .pre .1 .1 .1) e in
-    omega (arith, room, p .loop .inv .1 .same, s)
+    let more = inside (c .before .before .before .before .before .before .before .before .before .before) in (
+      (nonempty index opened (known s), few index opened (known s), omega (arith, narrow index opened (known s)), omega (arith, fits f)),
+      (
+        (
+          ready index opened (a .tables .now) chunks (known s) (s .pre .1 .1 .0) (ranges s)
+              (p .loop .n) (p .loop .rows) (t .load2 .last .1 .1 .1 .0) (p .loop .size) (t .load2 .result) more (p .loop .inv .2) (ahead t)
+              (x .last .1 .1 .1 .1 .1 .0) (x .ensures .crossed),
+          x .ensures .all,
+        ),
+        listing-room index opened (a .tables .now) chunks (known s) (s .pre .1 .1 .0) (ranges s)
+            (p .loop .n) (p .loop .rows) (t .load2 .last .1 .1 .1 .0) (p .loop .size) (t .load2 .result) more (p .loop .inv .2) (ahead t)
+            (x .last .1 .1 .1 .1 .1 .0) (x .ensures .crossed)
+            (a .listing .number) (a .out .now) (p .loop .out) (a .listing .place) (p .loop .p) (p .loop .base) (p .loop .inv .3) (s .pre .1 .1 .1 .1),
+      ),
+    )
+
+add-base : tie.Need-add-base Inv-loop μ-loop
+add-base c = omega (arith, fits (c .before .before .before .before .before))
+
+add-n : tie.Need-add-n Inv-loop μ-loop
+add-n c =
+    let i = c .before .before .before .before .before .before .before .before .before .before .before .before .before in
+    omega (arith, i .loop-test .taken, start (i .before))
 
 loop-less : tie.Need-loop-less Inv-loop μ-loop
-loop-less c = let p = c .before .before .before .before .before .before .before .before .before .before in
-    let s = p .before .before .before .before .before .before .before .before .before in
-    let a = s .args in
-    let chunks = chunksIn (a .index .now) (a .file .now) in
-    let n = c .before .before .before .before .before .before .next in
-    let still = coming (a .number) (a .index .now) (a .count) chunks (p .loop .here) (p .loop .streams) in
-    let rest = coming (a .number) (a .index .now) (a .count) chunks (n .last .1 .1 .1 .1 .1 .1 .1 .1 .1 .0) (n .last .1 .1 .1 .1 .1 .1 .1 .1 .1 .1 .0) in
-    let taken : Occurrence = record { file = a .number; offset = n .result .offset; keyword = n .result .keyword } in
-    one-less taken still rest (n .ensures .found (c .before .before .before .before .if1 .left) (a .number))
+loop-less c = omega (arith, c .before .before .before .before .before .before .before .before .before .before .before .before .before .loop-test .taken)
 
 loop-again : tie.Need-loop-again Inv-loop μ-loop
-loop-again c = let p = c .before .before .before .before .before .before .before .before .before .before in
-    let s = p .before .before .before .before .before .before .before .before .before in
+loop-again c =
+    let p = c .before .before .before .before .before .before .before .before .before .before .before .before .before .before in
+    let s = start p in
     let a = s .args in
-    let whole = fileList (a .number) (a .index .now) (a .file .now) in
-    let chunks = chunksIn (a .index .now) (a .file .now) in
-    let n = c .before .before .before .before .before .before .next in
-    let still = coming (a .number) (a .index .now) (a .count) chunks (p .loop .here) (p .loop .streams) in
-    let rest = coming (a .number) (a .index .now) (a .count) chunks (n .last .1 .1 .1 .1 .1 .1 .1 .1 .1 .0) (n .last .1 .1 .1 .1 .1 .1 .1 .1 .1 .1 .0) in
-    let taken : Occurrence = record { file = a .number; offset = n .result .offset; keyword = n .result .keyword } in
-    let e = n .ensures .found (c .before .before .before .before .if1 .left) (a .number) in
-    let w = c .before .before .put in (
-      n .ensures .at,
-      list-on (a .out .now) (p .loop .out) (a .place) (p .loop .p) whole still (p .loop .inv .1) (w .last .0) taken rest (s .pre .1 .1 .1) e (w .ensures),
+    let t = c .before .before .before .before .before .before .before .before .before in
+    let x = c .before .before .before .before .before .cross in
+    let w = c .before .before .list-place in (
+      omega (arith, c .before .before .before .before .before .before .before .before .before .before .before .before .before .loop-test .taken),
+      x .ensures .crossed .long,
+      ahead t,
+      listing-on (a .index .now) (a .listing .opened) (a .tables .now) (chunksIn (a .index .now) (a .file .now)) (known s) (s .pre .1 .1 .0) (ranges s)
+          (p .loop .n) (p .loop .rows) (t .load2 .last .1 .1 .1 .0) (p .loop .size) (t .load2 .result)
+          (inside (c .before .before .before .before .before .before .before .before .before .before .before .before .before)) (p .loop .inv .2) (ahead t)
+          (x .last .1 .1 .1 .1 .1 .0) (x .ensures .crossed)
+          (a .listing .number) (a .out .now) (p .loop .out) (a .listing .place) (p .loop .p) (p .loop .base) (p .loop .inv .3) (s .pre .1 .1 .1 .1)
+          (w .last .1 .1 .1 .0) (w .result) (w .ensures .0) (w .ensures .1),
     )
+
+same-length : tie.Need-same-length Inv-loop μ-loop
+same-length c = c .before .loop .inv .3 .going .same
+
+returns-2 : tie.Need-returns-2 Inv-loop μ-loop
+returns-2 c =
+    let p = c .before in
+    let a = start p .args in
+    listing-end (a .index .now) (a .file .now) (a .listing .number) (a .out .now) (a .listing .place) (p .loop .out) (p .loop .p) (p .loop .n) (p .loop .base)
+    (out-chunks (a .index .now) (a .file .now) (p .loop .n) (c .loop-test .left)) (p .loop .inv .3)
 
 pub list-file-spec : {M : Type 1} → statement M
 list-file-spec =
@@ -122,13 +218,20 @@ list-file-spec =
     (tie.spec
     Inv-loop
     μ-loop
-    load-requires
-    array-write-here
-    loop-holds
-    next-requires
-    same-length
     returns
-    put-requires
-    add-p
+    slice-aggregate-entry-at
+    entry-at-requires
+    load-requires
+    loop-holds
+    slice-aggregate-entry-at-2
+    add-entry-at
+    entry-at-requires-2
+    load-requires-2
+    cross-requires
+    list-place-requires
+    add-base
+    add-n
     loop-less
-    loop-again)
+    loop-again
+    same-length
+    returns-2)

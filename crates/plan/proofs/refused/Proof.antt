@@ -1,0 +1,12 @@
+-- `refused` meets its contract.
+use mathlib.Core.Path.{refl}
+use Rattle.plan.specs.Plans.{refusedPlan}
+use Rattle.plan.proofs.refused.Statement.{statement}
+use Rattle.plan.proofs.refused.Tie as tie
+
+returns : tie.Need-returns
+unfolding refusedPlan
+returns c = refl
+
+pub refused-spec : {M : Type 1} → statement M
+refused-spec = tie.close (tie.spec returns)
