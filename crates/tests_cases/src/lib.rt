@@ -1,6 +1,7 @@
-// The cases of vaults, run and counted: generated, torn, damaged, at the longest length.
+// The cases of vaults, run and counted: generated, torn, damaged, at the longest length, with stores in another order.
 // Test support: proved safe and ending.
 mod cases;
 mod damaged;
 pub mod limits;
+pub mod orders;
 pub mod vaults;

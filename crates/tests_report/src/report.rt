@@ -128,6 +128,18 @@ pub fn torn(counts: &[u64]) {
     lines(&TORN_NAMES, counts, tally::TORN, 5);
 }
 
+const ORDER_NAMES: [u8; 240] = *b"\
+    - with another order of the index       \
+    - that list occurrences                 \
+    - that list none                        \
+    - that the scan refuses                 \
+    - that the join refuses                 \
+    answers of two orders compared          ";
+
+pub fn orders(counts: &[u64]) {
+    lines(&ORDER_NAMES, counts, tally::ORDERS, 6);
+}
+
 const OUTPUT_NAMES: [u8; 160] = *b"\
     - that list occurrences                 \
     - that list none                        \

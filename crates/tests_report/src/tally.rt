@@ -27,6 +27,10 @@ pub const OUTPUTS: usize = 80;
 
 pub const OUTPUT_BUFFERS: usize = 84;
 
+// Stores in another order: those with another index, that list occurrences, list none, are refused by the scan, by the join; then the
+// answers that were compared.
+pub const ORDERS: usize = 88;
+
 // Room for the counters.
 pub const ALL: usize = 96;
 

@@ -30,7 +30,7 @@ pub fn code_of(o: Outcome) -> u8 {
     }
 }
 
-fn value_of(o: Outcome) -> usize {
+pub(crate) fn value_of(o: Outcome) -> usize {
     match o {
         Outcome::Done(n) => n,
         Outcome::Refused(_) => 0,
@@ -88,7 +88,7 @@ fn join_into(counts: &mut [u64], f: &[u8], buffer: &mut [u8]) {
 
 // ---- the search whole
 
-fn searched_code(s: Searched) -> u8 {
+pub(crate) fn searched_code(s: Searched) -> u8 {
     match s {
         Searched::ScanRefused(code) => code,
         Searched::JoinRefused(_, code) => code,
@@ -96,7 +96,7 @@ fn searched_code(s: Searched) -> u8 {
     }
 }
 
-fn searched_index(s: Searched) -> usize {
+pub(crate) fn searched_index(s: Searched) -> usize {
     match s {
         Searched::ScanRefused(_) => 0,
         Searched::JoinRefused(n, _) => n,
@@ -104,7 +104,7 @@ fn searched_index(s: Searched) -> usize {
     }
 }
 
-fn searched_count(s: Searched) -> usize {
+pub(crate) fn searched_count(s: Searched) -> usize {
     match s {
         Searched::ScanRefused(_) => 0,
         Searched::JoinRefused(_, _) => 0,

@@ -1,15 +1,17 @@
--- Request #101: two accepted stores with the same chunks, in any two orders, answer the same. No fingerprint is twice, so each stands for the same
--- bytes in both, and lookups, bodies, tests 15 to 17 and the direct search go by fingerprint; lengths are sums (AnyOrder). Assumes nothing.
+-- Request #101: two accepted stores with the same chunks, in any two orders, answer the same, and so do two scans and two joins. No fingerprint is twice,
+-- so each stands for the same bytes in both; lookups, bodies, tests 15 to 17 and the direct search go by fingerprint; lengths are sums (AnyOrder).
+-- Assumes nothing.
 use mathlib.Core.Path.{_≡_, refl, sym, ap, ap₂, _∙_}
-use mathlib.Core.Logic.{⊎-elim}
-use mathlib.Core.Bool.{Bool, true, false, cond, _&&_, false≢true}
+use mathlib.Core.Logic.{_≢_, ⊎-elim}
+use mathlib.Core.Bool.{Bool, true, false, cond, false≢true}
 use mathlib.Core.List.{List, [], _∷_, map}
 use Prim.Native.Nat.{ℕ, zero, suc, _+_, _*_, _<_}
 use native.Mathlib.Nat.{zero-add}
 use native.Mathlib.Omega.{arith}
 use borrow.Author.Tests.{lt-ltb, ne-eqb}
 use lib.Dec.{eqb, ltb}
-use lib.ListN.{length, getD, length-append}
+use lib.ListN.{length, take, getD, length-append}
+use Rattle.spec.specs.declared.Outcome.{Outcome}
 use Rattle.spec.specs.declared.Searched.the-variants.{ScanRefused, JoinRefused, Found}
 use Rattle.spec.specs.Bytes.{written, part, same, contains, positionOf, every, sum, joined}
 use Rattle.spec.specs.Outcome.{firstOf, firstCode, whole, codeOf, valueOf, answer, unlessRefused}
@@ -19,12 +21,12 @@ use Rattle.spec.specs.Store.{Chunk, storeLayout, chunkCount, storeKeys, chunkAt
 use Rattle.spec.specs.Form.{Form, newest, formOf}
 use Rattle.spec.specs.Index.{Entry, indexBytes, indexLayout, indexKeys, bodyAt, indexCode}
 use Rattle.spec.specs.Recipes.{sizesIn, fileCode, filesCode, filesOf, recipesCode}
-use Rattle.spec.specs.Join.{Occurrence, listBytes, innerLeast, joinOutcome, joinBuffer, readList}
+use Rattle.spec.specs.Join.{Occurrence, joinList, listBytes, innerLeast, joinCode, joinOutcome, joinBuffer, readList}
 use Rattle.spec.specs.Lookup.{lookupCode, lookupStart, lookupLength, findChunk, chunkStart, chunkLength, chunkOf, findBody, bodyStart, bodyLength, bodyOf}
 use Rattle.spec.specs.Scan.{scanBody, scanEntry, scanIndex, scannableCode, scanCode, scanOutcome}
-use Rattle.spec.specs.Search.{chunkNamed, restored, directSearch, occurrencesInAll, searchJoinCode, searchCode, searchOutcome, searchBuffer}
+use Rattle.spec.specs.Search.{chunkNamed, restored, directSearch, occurrencesInAll, searchJoinCode, searchCode, searchOutcome, searchBuffer, searchedCount}
 use Rattle.spec.proofs.Tests.{bool-cases, and-left, and-right}
-use Rattle.spec.proofs.Codes.{passed-whole}
+use Rattle.spec.proofs.Codes.{passed-whole, buffer-done, buffer-refused}
 use Rattle.spec.proofs.Same.{same-eq}
 use Rattle.spec.proofs.Fields.{length-leBytes}
 use Rattle.spec.proofs.EntryLaws.{contains-position, position-of, contains-at, position-at}
@@ -34,14 +36,14 @@ use Rattle.spec.proofs.StoreLaws.{StoreGood, store-good, length-storeKeys, stor
 use Rattle.spec.proofs.WrittenEntries.{bodiesOf, Fits, noEntry, Every, length-directory}
 use Rattle.spec.proofs.ScanLaws.{ScanReads, newest-scans, scan-done-reads}
 use Rattle.spec.proofs.Tabulated.{tabulated, length-tabulated, tabulated-at, tabulated-getD, tabulated-same, map-tabulated}
-use Rattle.theory.specs.Cases.{store as vault, fingerprint, oneChunk}
 use Rattle.theory.specs.Demand3.{scanned}
-use Rattle.theory.specs.SameChunks.{among, heldBy, sameChunks, smallReordered, AnswerAlike, SameChunks}
+use Rattle.theory.specs.Demands.{Calls}
+use Rattle.theory.specs.SameChunks.{sameChunk, among, heldBy, sameChunks, Reordered, AnswerAlike, SameChunks, SameCalls, SmallReordered}
 use Rattle.theory.specs.WrittenInputs.{storedChunk, storedChunks}
 use Rattle.theory.proofs.AnyOrder.{weigh, weigh-le, weigh-same, weigh-one}
 use Rattle.theory.proofs.ScanThenJoin.{position-in, answer-same, buffer-same}
 use Rattle.theory.proofs.Cases.{definitions}
-use Rattle.theory.proofs.Demand3.{code-of-answer, join-outcome, join-buffer, scanned-is, scanned-form, join-of-scan}
+use Rattle.theory.proofs.Demand3.{code-of-answer, value-of-answer, join-outcome, join-buffer, scanned-is, scanned-form, join-of-scan}
 
 -- ---- a fingerprint stands for the same bytes in both stores
 
@@ -68,7 +70,7 @@ among-at P c f at (suc n) e h =
     ⊎-elim
     (λ t. h at (omega arith) (same-eq (c .key) (f at .key) (and-left _ _ t)) (same-eq (c .bytes) (f at .bytes) (and-right (same (c .key) (f at .key)) _ t)))
     (λ t. among-at P c f (suc at) n (rw t at e) (λ k l p q. h k (omega arith) p q))
-    (bool-cases (same (c .key) (f at .key) && same (c .bytes) (f at .bytes)))
+    (bool-cases (sameChunk c (f at)))
 
 module _ (store : List ℕ) (good : StoreGood store) where
   -- a chunk that the store holds is the one that its fingerprint names
@@ -110,18 +112,18 @@ held-named : (store other : List ℕ) → StoreGood store → StoreGood other �
     → (knows other key ≡ true) × (chunkNamed other key ≡ chunkNamed store key)
 held-named store other a b e key c = named-by other b (under store a key) (every-named store a (λ d. among d (storedChunks other)) e key c)
 
-pub stores-alike : (store other : List ℕ) → storeCode store ≡ 0 → storeCode other ≡ 0 → sameChunks store other ≡ true → Alike store other
+pub stores-alike : (store other : List ℕ) → Reordered store other → Alike store other
 unfolding sameChunks
-stores-alike store other p q e =
-    let a = store-good store p in
-    let b = store-good other q in
-    let there = held-named store other a b (and-left (heldBy store other) (heldBy other store) e) in
-    let back = held-named other store b a (and-right (heldBy store other) (heldBy other store) e) in
+stores-alike store other r =
+    let a = store-good store (r .accepted) in
+    let b = store-good other (r .acceptedThere) in
+    let there = held-named store other a b (and-left (heldBy store other) (heldBy other store) (r .chunks)) in
+    let back = held-named other store b a (and-right (heldBy store other) (heldBy other store) (r .chunks)) in
     record {
       stored = a;
       storedOther = b;
-      code = p;
-      codeOther = q;
+      code = r .accepted;
+      codeOther = r .acceptedThere;
       known = λ key. bool-same (knows store key) (knows other key) (λ c. there key c .0) (λ c. back key c .0);
       named = λ key c. sym (there key c .1);
     }
@@ -204,6 +206,27 @@ searched : (c j n v w : ℕ) → (j ≡ 0 → v ≡ w)
     ≡ cond (eqb c 0) (cond (eqb j 0) (Found n w) (JoinRefused n j)) (ScanRefused c)
 searched c zero n v w h = rw (h refl)
 searched c (suc j) n v w h = rw (ne-eqb (suc j) 0 (λ z. let y : ⊥ = omega arith in absurd y))
+
+-- where a search does its work, the list read from its buffer is the direct search's
+search-listed : (list store recipes : List ℕ) (indexRoom : ℕ) (out : List ℕ) → searchCode newest list store recipes indexRoom (length out) ≡ 0
+    → readList (searchedCount (searchOutcome newest list store recipes indexRoom (length out))) (searchBuffer newest list store recipes indexRoom out)
+    ≡ directSearch list store recipes
+unfolding searchCode searchOutcome searchBuffer
+search-listed list store recipes indexRoom out e =
+    let found = directSearch list store recipes in
+    let p = passed-whole (scanCode newest list store indexRoom) _ e in
+    let a : scanCode newest list store indexRoom ≡ 0 = p .0 in
+    let b : searchJoinCode newest list store recipes (length out) ≡ 0 = passed-whole (searchJoinCode newest list store recipes (length out)) _ (p .1) .0 in
+    let j = join-of-scan list store indexRoom a recipes (scanIndex newest list store) out refl in
+    let v = ap valueOf (j .outcome) ∙ value-of-answer (searchJoinCode newest list store recipes (length out)) (length found) b in
+    let c = ap codeOf (j .outcome) ∙ code-of-answer (searchJoinCode newest list store recipes (length out)) (length found) ∙ b in
+    let w = j .bytes ∙ sym (buffer-done (searchJoinCode newest list store recipes (length out)) (written out (listBytes found)) out b) in
+    let u = sym (buffer-done (searchCode newest list store recipes indexRoom (length out)) (written out (listBytes found)) out e) in
+    ap₂ readList (found-count a b ∙ sym v) (u ∙ sym w) ∙ j .listed c
+  where
+    found-count : scanCode newest list store indexRoom ≡ 0 → searchJoinCode newest list store recipes (length out) ≡ 0
+        → searchedCount (searchOutcome newest list store recipes indexRoom (length out)) ≡ length (directSearch list store recipes)
+    found-count a b = rw (a, b)
 
 module _ (store other : List ℕ) (a : Alike store other) where
   -- ---- lookups
@@ -410,6 +433,7 @@ module _ (store other : List ℕ) (a : Alike store other) where
     pub answer-alike : AnswerAlike index otherIndex
     answer-alike =
         record {
+          size = rw (scanned-is list store buffer e, scanned-is list other buffer₂ e₂) (same-index-length newest list);
           find = λ key. rw (form, other-form) (same-find-body newest list index otherIndex reads other-reads key);
           body = λ key. rw (form, other-form) (same-body newest list index otherIndex reads other-reads key);
           outcome = same-chunks-join;
@@ -424,15 +448,17 @@ unfolding scanOutcome
 scan-number list store room = code-of-answer (scanCode newest list store room) (length (scanIndex newest list store))
 
 -- Request #101: two accepted stores that hold the same fingerprints with the same bytes, in any two orders.
-pub same-chunks : (list store other : List ℕ) → storeCode store ≡ 0 → storeCode other ≡ 0 → sameChunks store other ≡ true → SameChunks list store other
+pub same-chunks : (list store other : List ℕ) → Reordered store other → SameChunks list store other
 unfolding scanOutcome
-same-chunks list store other p q s =
-    let a = stores-alike store other p q s in
+same-chunks list store other r =
+    let a = stores-alike store other r in
     record {
       find = same-find store other a;
       chunk = same-chunk store other a;
       count = same-count store other a;
       scan = λ room. ap₂ answer (same-scan-code store other a newest list room) (same-index-length store other a newest list);
+      written = λ room room₂ e e₂.
+          ap₂ answer (sym (scan-number list store room) ∙ e ∙ sym e₂ ∙ scan-number list other room₂) (same-index-length store other a newest list);
       indexes = λ buffer buffer₂ e e₂.
           answer-alike store other a list buffer buffer₂
           (sym (scan-number list store (length buffer)) ∙ e)
@@ -443,13 +469,96 @@ same-chunks list store other p q s =
           record {
             outcome = λ recipes room. same-chunks-search store other a newest list recipes room indexRoom indexRoom₂ c;
             bytes = λ recipes out. same-chunks-search-buffer store other a newest list recipes out indexRoom indexRoom₂ c;
-            listed = λ recipes room. same-chunks-direct store other a newest list recipes room indexRoom indexRoom₂ c;
+            listed = λ recipes out out₂ l z.
+                let z₂ : searchCode newest list other recipes indexRoom₂ (length out₂) ≡ 0 =
+                ap (searchCode newest list other recipes indexRoom₂) (sym l)
+                ∙ sym (same-search-code store other a newest list recipes (length out) indexRoom indexRoom₂ c) ∙ z in
+                search-listed list store recipes indexRoom out z
+                ∙ same-chunks-direct store other a newest list recipes (length out) indexRoom indexRoom₂ c z
+                ∙ sym (search-listed list other recipes indexRoom₂ out₂ z₂);
           };
     }
 
--- The small vault in another order is accepted and has the same chunks, elsewhere; another byte, or a chunk less, and it has not.
-pub small-reordered : (storeCode smallReordered ≡ 0) × (sameChunks vault smallReordered ≡ true)
-    × (chunkStart vault (fingerprint 3) ≡ 99) × (chunkStart smallReordered (fingerprint 3) ≡ 92)
-    × (sameChunks (oneChunk (0x41 ∷ [])) (oneChunk (0x42 ∷ [])) ≡ false) × (sameChunks (oneChunk (0x58 ∷ 0x41 ∷ 0x42 ∷ [])) vault ≡ false)
+-- ---- the claim of calls
+
+join-kept : (index recipes out : List ℕ) → codeOf (joinOutcome (formOf index) index recipes (length out)) ≢ 0
+    → joinBuffer (formOf index) index recipes out ≡ out
+unfolding joinOutcome joinBuffer
+join-kept index recipes out d =
+    let code : ℕ = joinCode (formOf index) index recipes (length out) in
+    let found = joinList (formOf index) index recipes in
+    sym (buffer-refused code (written out (listBytes found)) out (λ z. d (code-of-answer code (length found) ∙ z)))
+
+-- of what the contracts say the calls do; it goes by the fields of `SameChunks` alone
+calls-alike : (list store other : List ℕ) → SameChunks list store other → (recipes buffer buffer₂ out out₂ : List ℕ)
+    → SameCalls buffer buffer₂ out out₂
+    (scanOutcome newest list store (length buffer)) (scanOutcome newest list other (length buffer₂))
+    (joinOutcome (formOf (scanned list store buffer)) (scanned list store buffer) recipes (length out))
+    (joinOutcome (formOf (scanned list other buffer₂)) (scanned list other buffer₂) recipes (length out₂))
+    (scanned list store buffer) (scanned list other buffer₂)
+    (joinBuffer (formOf (scanned list store buffer)) (scanned list store buffer) recipes out)
+    (joinBuffer (formOf (scanned list other buffer₂)) (scanned list other buffer₂) recipes out₂)
+calls-alike list store other s recipes buffer buffer₂ out out₂ =
+    let index = scanned list store buffer in
+    let index₂ = scanned list other buffer₂ in
+    record {
+      scans = λ l. ap (scanOutcome newest list store) l ∙ s .scan (length buffer₂);
+      lengths = λ e. s .written (length buffer) (length buffer₂) (e .0) (e .1);
+      indexes = λ e. s .indexes buffer buffer₂ (e .0) (e .1);
+      joins = λ e l.
+          let a = s .indexes buffer buffer₂ (e .0) (e .1) in
+          let o : joinOutcome (formOf index) index recipes (length out) ≡ joinOutcome (formOf index₂) index₂ recipes (length out₂) =
+          a .outcome recipes (length out) ∙ ap (joinOutcome (formOf index₂) index₂ recipes) l in
+          record {
+            answers = o;
+            listed = a .listed recipes out out₂ l;
+            kept = λ d. (join-kept index recipes out d, join-kept index₂ recipes out₂ (λ z. d (ap codeOf o ∙ z)));
+            bytes = λ p. a .bytes recipes out ∙ ap (joinBuffer (formOf index₂) index₂ recipes) p;
+          };
+    }
+
+-- the index that a join is handed, its answer and its buffer, of the scan alone
+module _ (list store recipes buffer out : List ℕ) (scan join : Outcome) (buffer′ index out′ : List ℕ)
+    (c : Calls list store recipes buffer out scan join buffer′ index out′) where
+  index-is : index ≡ scanned list store buffer
+  index-is = c .handed ∙ ap₂ (λ (a : Outcome) (b : List ℕ). take (valueOf a) b) (c .scanned) (c .wrote)
+
+  join-is : join ≡ joinOutcome (formOf (scanned list store buffer)) (scanned list store buffer) recipes (length out)
+  join-is = c .joined ∙ ap (λ (x : List ℕ). joinOutcome (formOf x) x recipes (length out)) index-is
+
+  buffer-is : out′ ≡ joinBuffer (formOf (scanned list store buffer)) (scanned list store buffer) recipes out
+  buffer-is = c .listed ∙ ap (λ (x : List ℕ). joinBuffer (formOf x) x recipes out) index-is
+
+-- Request #101 of four calls: a scan and a join on each of the two stores, with the same keyword list and recipes.
+pub same-chunks-of-calls : (list store other recipes : List ℕ) → Reordered store other
+    → (buffer out : List ℕ) (scan join : Outcome) (buffer′ index out′ : List ℕ) → Calls list store recipes buffer out scan join buffer′ index out′
+    → (buffer₂ out₂ : List ℕ) (scan₂ join₂ : Outcome) (buffer₂′ index₂ out₂′ : List ℕ)
+    → Calls list other recipes buffer₂ out₂ scan₂ join₂ buffer₂′ index₂ out₂′
+    → SameCalls buffer buffer₂ out out₂ scan scan₂ join join₂ index index₂ out′ out₂′
+same-chunks-of-calls list store other recipes r buffer out scan join buffer′ index out′ c buffer₂ out₂ scan₂ join₂ buffer₂′ index₂ out₂′ d =
+    rw (
+      c .scanned,
+      d .scanned,
+      index-is list store recipes buffer out scan join buffer′ index out′ c,
+      index-is list other recipes buffer₂ out₂ scan₂ join₂ buffer₂′ index₂ out₂′ d,
+      join-is list store recipes buffer out scan join buffer′ index out′ c,
+      join-is list other recipes buffer₂ out₂ scan₂ join₂ buffer₂′ index₂ out₂′ d,
+      buffer-is list store recipes buffer out scan join buffer′ index out′ c,
+      buffer-is list other recipes buffer₂ out₂ scan₂ join₂ buffer₂′ index₂ out₂′ d,
+    )
+    (calls-alike list store other (same-chunks list store other r) recipes buffer buffer₂ out out₂)
+
+-- ---- the small vault in another order
+
+pub small-reordered : SmallReordered
 unfolding definitions storedChunks sameChunks chunkStart
-small-reordered = (refl, refl, refl, refl, refl, refl)
+small-reordered =
+    record {
+      same = record { accepted = refl; acceptedThere = refl; chunks = refl };
+      elsewhere = (refl, refl);
+      entries = refl;
+      list = (refl, refl);
+      otherByte = refl;
+      fewer = refl;
+      more = refl;
+    }

@@ -3,7 +3,7 @@ pub mod SearchList
 pub mod PlaceText
 pub mod Demand3
 pub mod WrittenInputs
-pub mod SameChunks
 pub mod Published
 pub mod RecordSets
 pub mod Demands
+pub mod SameChunks

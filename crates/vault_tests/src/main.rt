@@ -1,7 +1,8 @@
-// Generated vaults and damaged inputs, run through the library and compared with plain computations. What it prints says how many cases
-// of each kind it ran, how many calls of each operation it compared, which numbers they answered, and how often something was not as
-// expected: never.
+// Generated vaults and damaged inputs, run through the library and compared with plain computations; stores in another order, compared with
+// the first order. What it prints says how many cases of each kind it ran, how many calls of each operation it compared, which numbers they
+// answered, and how often something was not as expected: never.
 use tests_cases::limits;
+use tests_cases::orders;
 use tests_cases::vaults;
 use tests_outputs::printed;
 use tests_report::report;
@@ -10,6 +11,7 @@ use tests_report::tally;
 fn main() {
     let mut counts = [0u64; tally::ALL];
     vaults::all_vaults(&mut counts);
+    orders::all_orders(&mut counts);
     limits::longest(&mut counts);
     printed::all_outputs(&mut counts);
     report::totals(&counts);

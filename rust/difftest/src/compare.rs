@@ -18,6 +18,8 @@ pub struct Tally {
     pub direct: u64,
     /// Bytes of buffers compared.
     pub bytes: u64,
+    /// Answers on a store compared with those on another order of its chunks.
+    pub orders: u64,
 }
 
 /// How a case is run.
@@ -66,6 +68,72 @@ impl Comparison<'_> {
             return Err("an input was changed".into());
         }
         Ok(())
+    }
+
+    /// The library on the case's store and on another one, which has the same chunks in another order: the same refusals, lists, chunks
+    /// and bodies, with buffers of equal length. Indexes differ in their order only, so of these the lengths are compared.
+    pub fn orders(&mut self, case: &Case, other: &[u8]) -> Verdict {
+        let stores = [other, &case.store[..]];
+        let (list, recipes, pattern_number, salt) = (&case.list[..], &case.recipes[..], self.rng.next(), self.rng.byte());
+        let number = |call: &dyn Fn(&mut u64) -> u8| {
+            let mut number = pattern_number;
+            (call(&mut number), number)
+        };
+        let buffer = |length: usize, call: &dyn Fn(&mut [u8], &mut u64) -> u8| {
+            let (mut number, mut out) = (pattern_number, pattern(salt, length));
+            (call(&mut out, &mut number), number, out)
+        };
+        self.alike("check_store", stores.map(raw::check_store), true)?;
+        let [a, b] = stores.map(|store| number(&|n| raw::scan_size(list, store, n)));
+        self.alike("scan_size", [a.0, b.0], a == b)?;
+        let length = if a.0 == 0 { a.1 as usize } else { 100 };
+        let scan = |length: usize| stores.map(|store| buffer(length, &|out, n| raw::scan(list, store, out, n)));
+        let [a, b] = scan(length - 1);
+        self.alike("scan", [a.0, b.0], a == b)?;
+        let scans = scan(length);
+        let [a, b] = &scans;
+        self.alike("scan", [a.0, b.0], a.1 == b.1 && (a.0 == 0 || a.2 == b.2))?;
+        let mut room = 50;
+        if a.0 == 0 {
+            let [a, b] = scans.each_ref().map(|(_, _, index)| number(&|n| raw::count(index, recipes, n)));
+            self.alike("count", [a.0, b.0], a == b)?;
+            room = if a.0 == 0 { 9 * a.1.min(self.limits.buffer / 9) as usize } else { room };
+            for room in [room, room.saturating_sub(1)] {
+                let [a, b] = scans.each_ref().map(|(_, _, index)| buffer(room, &|out, n| raw::join(index, recipes, out, n)));
+                self.alike("join", [a.0, b.0], a == b)?;
+            }
+        }
+        for (length, room) in [(length, room), (length, room.saturating_sub(1)), (length - 1, room)] {
+            let [a, b] = stores.map(|store| {
+                let (mut index, mut out) = (pattern(salt, length), pattern(salt, room));
+                let (mut scanned, mut count) = (pattern_number, pattern_number);
+                let code = raw::search(list, store, recipes, (&mut index, &mut out), (&mut scanned, &mut count));
+                (code, scanned, count, out)
+            });
+            self.alike("search", [a.0, b.0], a == b)?;
+        }
+        self.orders_of_lookups(&case.keys, stores, [&scans[0].2, &scans[1].2])
+    }
+
+    /// Chunks and bodies by fingerprint, in two stores and in what the scans of them wrote.
+    fn orders_of_lookups(&mut self, keys: &[Vec<u8>], stores: [&[u8]; 2], indexes: [&[u8]; 2]) -> Verdict {
+        let part = |bytes: &[u8], (code, start, n): (u8, u64, u64)| (code, bytes[start as usize..(start + n) as usize].to_vec());
+        for key in keys {
+            let [a, b] = stores.map(|store| part(store, raw::chunk(store, key)));
+            self.alike("find_chunk", [a.0, b.0], a == b)?;
+            let [a, b] = indexes.map(|index| part(index, raw::body(index, key)));
+            self.alike("find_body", [a.0, b.0], a == b)?;
+        }
+        Ok(())
+    }
+
+    fn alike(&mut self, call: &'static str, codes: [u8; 2], rest: bool) -> Verdict {
+        self.tally.orders += 1;
+        match codes {
+            [a, b] if a != b => Err(format!("{call}: code {a}, and {b} with the store's chunks in another order")),
+            [a, _] if !rest => Err(format!("{call}: code {a}, but another answer with the store's chunks in another order")),
+            _ => Ok(()),
+        }
     }
 
     fn code(&mut self, call: &'static str, got: u8, want: u8) -> Verdict {

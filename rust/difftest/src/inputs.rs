@@ -17,6 +17,32 @@ pub struct Case {
     pub keys: Vec<Vec<u8>>,
 }
 
+/// The case with its store's chunks in another order: reversed, rotated, or any. Only where the join reads what the scan writes, and
+/// where the store is accepted, has two chunks or more, and isn't large.
+pub fn shuffled(rng: &mut Rng, case: &Case) -> Option<Case> {
+    if case.index.is_some() || case.store.len() > 1 << 22 {
+        return None;
+    }
+    let chunks = store::read(&case.store).ok().filter(|chunks| chunks.len() > 1)?;
+    let mut moved: Vec<(Fingerprint, &[u8])> = chunks.iter().map(|c| (c.key, &case.store[c.place.clone()])).collect();
+    match rng.below(4) {
+        0 => moved.reverse(),
+        1 => {
+            let by = rng.range(1, moved.len() - 1);
+            moved.rotate_left(by);
+        }
+        _ => {
+            for k in (1..moved.len()).rev() {
+                let to = rng.below(k + 1);
+                moved.swap(k, to);
+            }
+        }
+    }
+    let mut keys = case.keys.clone();
+    keys.extend(chunks.iter().take(24).map(|c| c.key.to_vec()));
+    Some(Case { kind: "stores in another order", store: store::encode(&moved), keys, ..case.clone() })
+}
+
 /// Keywords, and the letters that keywords and chunks are made of.
 pub struct Words {
     pub letters: Vec<u8>,

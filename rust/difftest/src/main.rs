@@ -172,15 +172,25 @@ struct Run<'a> {
 }
 
 impl Run<'_> {
-    /// Runs a case; a difference is told and its inputs are kept.
+    /// Runs a case, and the same vault with its store's chunks in another order.
     fn one(&mut self, number: &str, case: &Case, rng: &mut Rng) -> bool {
-        let verdict = Comparison { tally: &mut self.tally, rng, limits: self.limits }.run(case);
+        if !self.alone(number, case, None, rng) {
+            return false;
+        }
+        let moved = inputs::shuffled(rng, case);
+        moved.is_none_or(|moved| self.alone(number, &moved, Some(&case.store), rng))
+    }
+
+    /// Runs a case, first against another order of its store; a difference is told and its inputs are kept.
+    fn alone(&mut self, number: &str, case: &Case, other: Option<&[u8]>, rng: &mut Rng) -> bool {
+        let mut comparison = Comparison { tally: &mut self.tally, rng, limits: self.limits };
+        let verdict = other.map_or(Ok(()), |other| comparison.orders(case, other)).and_then(|()| comparison.run(case));
         let Err(why) = verdict else { return true };
         println!("\nDIFFERENCE in case {number} of seed {}, kind \"{}\"", self.seed, case.kind);
         println!("  {why}");
         println!("  again: difftest 0 {} --case {number}", self.seed);
         let folder = format!("difftest-{}-{number}", self.seed);
-        match keep(&folder, case) {
+        match keep(&folder, case, other) {
             Ok(()) => println!("  its inputs are in {folder}/"),
             Err(error) => println!("  its inputs could not be written to {folder}/: {error}"),
         }
@@ -188,13 +198,14 @@ impl Run<'_> {
     }
 }
 
-fn keep(folder: &str, case: &Case) -> std::io::Result<()> {
+fn keep(folder: &str, case: &Case, other: Option<&[u8]>) -> std::io::Result<()> {
     std::fs::create_dir_all(folder)?;
     let write = |name: &str, bytes: &[u8]| std::fs::write(format!("{folder}/{name}"), bytes);
     write("words.bin", &case.list)?;
     write("store.bin", &case.store)?;
     write("recipes.bin", &case.recipes)?;
     case.index.as_ref().map_or(Ok(()), |index| write("index.bin", index))?;
+    other.map_or(Ok(()), |other| write("other-store.bin", other))?;
     case.keys.iter().enumerate().try_for_each(|(k, key)| write(&format!("key{k}.bin"), key))
 }
 
@@ -307,6 +318,7 @@ fn report(tally: &Tally, time: Duration) {
         tally.bytes,
         tally.occurrences
     );
-    println!("{} lists the same as the direct search of the restored files, {:.1} s", tally.direct, time.as_secs_f64());
+    println!("{} lists the same as the direct search of the restored files,", tally.direct);
+    println!("{} answers the same on two orders of a store's chunks, {:.1} s", tally.orders, time.as_secs_f64());
     println!("no difference");
 }
