@@ -202,14 +202,22 @@ fn kind_of(count: usize) -> u8
     3
 }
 
-// The count byte: the smaller of the count and FF.
+// The smaller of two numbers, worked out from their comparison taken as 0 or 1: nothing branches.
+fn smaller(a: usize, b: usize) -> usize
+    ensures { λ r. ⌜ r ≡ min a b ⌝ }
+{
+    let above = (b < a) as usize;
+    a * (1 - above) + b * above
+}
+
+// The largest count byte.
+const COUNT_MOST: usize = 255;
+
+// The count byte (request #102): the smaller of the count and FF.
 fn count_byte(count: usize) -> u8
     ensures { λ r. ⌜ r ≡ min count 255 ⌝ }
 {
-    if count < 255 {
-        return count as u8;
-    }
-    255
+    smaller(count, COUNT_MOST) as u8
 }
 
 // Bytes of an offset and of the exact count; of a full record's head: number, kind, prefix, suffix, count byte, first offset.

@@ -1,12 +1,13 @@
 -- Theorem 6: the cases that document 01 marks with *. Each holds by computation. Assumes nothing.
-use mathlib.Core.Path.{refl}
-use Prim.Native.Nat.{ℕ}
+use mathlib.Core.Path.{_≡_, refl}
+use Prim.Native.Nat.{ℕ, min}
+use lib.ListN.{length, getD}
 use Rattle.spec.specs.Bytes.{leValue, leBytes, fieldsOf, fieldsBytes, splice}
 use Rattle.spec.specs.Outcome.{answer, unlessRefused}
 use Rattle.spec.specs.Keywords.{isUpper, foldByte, folded, keywordListBytes, keywordsOf, listSize, foldedKeywords, keywordCode, keywordFrontCode}
-use Rattle.spec.specs.Form.{formOf}
+use Rattle.spec.specs.Form.{Form, formOf}
 use Rattle.spec.specs.Store.{storeDirectoryBytes, storeBytes, storeKeys, chunkAt, storeCode}
-use Rattle.spec.specs.Records.{reach, prefixOf, suffixOf, offsetsOf, recordOf, recordsOf, inRange, offsetsBytes, fullBytes, headBytes, recordBytes}
+use Rattle.spec.specs.Records.{MatchRecord, reach, prefixOf, suffixOf, offsetsOf, recordOf, recordsOf, inRange, offsetsBytes, fullBytes, headBytes, recordBytes}
 use Rattle.spec.specs.Records.{bodyFrom, readOffsets, readRecord, recordSize, readFrom, allInRange, goodBody}
 use Rattle.spec.specs.Index.{directoryBytes, entryBytes, indexBytes, indexLayout, indexKeys, bodyAt, lengthsIn, indexRecords, allGood, headerCode}
 use Rattle.spec.specs.Index.{directoryCode, laidCode, indexCode}
@@ -55,6 +56,11 @@ unfoldable pub definitions : ℕ
 unfolding byteDefinitions keywordDefinitions storeDefinitions recordDefinitions bodyDefinitions indexDefinitions joinDefinitions scanDefinitions
 definitions = 0
 
+-- REQUEST #102: in every full record, of any form, the count byte is the smaller of the count and FF
+pub count-byte : (f : Form) (k : ℕ) (r : MatchRecord) → getD (fullBytes f k r) 4 0 ≡ min (length (r .offsets)) 255
+unfolding fullBytes headBytes
+count-byte f k r = refl
+
 pub cases : Cases
 unfolding definitions
 cases =
@@ -72,6 +78,7 @@ cases =
       innerShort = (refl, refl);
       as254 = refl;
       as255 = refl;
+      as256 = refl;
       bMatchesB = (refl, refl);
       braceAndBracket = refl;
       alike = (refl, refl);

@@ -130,6 +130,8 @@ pub record Cases : Type 0 where
   pub as254 : bodyFor (0x41 ∷ []) (replicate 254 0x41) ≡ 0x00 ∷ 0x02 ∷ 0x00 ∷ 0x00 ∷ 0xFE ∷ 0x00 ∷ 0x00 ∷ fieldsBytes 2 (each (λ k. k ∷ []) 0 254)
   -- * 255: kind 3, count FF, 0, the exact count, then 0 to 254
   pub as255 : bodyFor (0x41 ∷ []) (replicate 255 0x41) ≡ 0x00 ∷ 0x03 ∷ 0x00 ∷ 0x00 ∷ 0xFF ∷ 0x00 ∷ 0x00 ∷ 0xFF ∷ 0x00 ∷ fieldsBytes 2 (each (λ k. k ∷ []) 0 255)
+  -- request #102: 256 As: kind 3, count FF, 0, the exact count, then 0 to 255; so the count bytes of 254, 255 and 256 are FE, FF and FF
+  pub as256 : bodyFor (0x41 ∷ []) (replicate 256 0x41) ≡ 0x00 ∷ 0x03 ∷ 0x00 ∷ 0x00 ∷ 0xFF ∷ 0x00 ∷ 0x00 ∷ 0x00 ∷ 0x01 ∷ fieldsBytes 2 (each (λ k. k ∷ []) 0 256)
   -- * flag 1: b matches B (with flag 0 it does not), { does not match [
   pub bMatchesB : (countFor 1 (0x62 ∷ []) (0x42 ∷ []) ≡ Done 1) × (countFor 0 (0x62 ∷ []) (0x42 ∷ []) ≡ Done 0)
   pub braceAndBracket : countFor 1 (0x7B ∷ []) (0x5B ∷ []) ≡ Done 0
