@@ -2,11 +2,15 @@
  *
  * Build the library by `make lib` (it is proved first): target/staticlib/libvault_c.a, for x86-64 Linux.
  * Every function takes every input, ends, and answers 0 or the number of the refusal; README.md has the table of numbers. A refusal
- * changes no byte of a buffer and no number behind a pointer: these are told the length or the count where the work is done, and stay as they
- * were on a refusal. vault_search is two operations: where its join refuses, the index that its scan wrote stays in the index buffer, and its
- * length is told. A buffer or number must not overlap another argument. A null pointer may stand only where the length beside it is 0.
+ * changes no byte of a buffer and no number behind a pointer: these are told the length, the moves or the count where the work is done, and
+ * stay as they were on a refusal. vault_search is two operations: where its join refuses, the index that its scan wrote stays in the index
+ * buffer, and its length is told. A buffer or number must not overlap another argument. A null pointer may stand only where the length beside it is 0.
  * A call keeps nothing behind and touches only what it is lent, so calls may run at once from several threads, each with buffers of its own.
- * A check of a store or an index, a scan and a lookup need about 600 KB of stack, a count, a join and a search about 1.1 MB.
+ * Stack that a call needs, about:
+ *   600 KB   a check of a store or an index, a lookup
+ *   1.2 MB   a count, a join
+ *   1.3 MB   a scan, a scan's size
+ *            a search: the larger of a scan's and a join's
  */
 #ifndef KEHORAIMO_VAULT_H
 #define KEHORAIMO_VAULT_H
@@ -34,9 +38,21 @@ uint8_t vault_check_index(const uint8_t *index, size_t index_length);
 /* The length of the index that a scan would write: 0 with the length, or 1 to 8. */
 uint8_t vault_scan_size(const uint8_t *list, size_t list_length, const uint8_t *store, size_t store_length, uint64_t *length);
 
-/* Writes the index to the start of the buffer: 0 with its length, or 1 to 9. Bytes behind the index are unchanged. */
+/* Writes the index to the start of the buffer: 0 with its length and the moves, or 1 to 9, and both numbers stay. Bytes behind the index are
+ * unchanged.
+ *
+ * The moves are those in the trie of all keywords: its nodes are all beginnings of the keywords, compared under the fold flag, with the empty
+ * one as root; a node's failure link leads to its longest proper ending that is a node. For each byte of a chunk: while the node isn't the root
+ * and has no child by that byte, the link is followed, one move each; then the step to the child, or the stay at the root, is one move. Each
+ * chunk starts at the root, and the moves are summed over all chunks: at most twice the bytes of the chunks. Not counted are the short
+ * backward look for suffixes and a walk made only to measure.
+ *
+ * Where the buffer is at least as long as a bound that the call works out by itself from the lengths alone, each chunk is walked once; else
+ * once to measure and, where a keyword occurs in it, once more to write. For c chunks the bound is
+ *   8 + list_length + 32 c + keywords x (9 c + 2 x store_length),
+ * where that is at most 4,294,967,295. Answer, index and moves are the same either way. */
 uint8_t vault_scan(const uint8_t *list, size_t list_length, const uint8_t *store, size_t store_length,
-                   uint8_t *out, size_t out_length, uint64_t *length);
+                   uint8_t *out, size_t out_length, uint64_t *length, uint64_t *moves);
 
 /* ---- join: the occurrences in the files of the recipes, from an index alone */
 
@@ -61,7 +77,7 @@ uint8_t vault_find_body(const uint8_t *index, size_t index_length, const uint8_t
 uint64_t vault_body_start(const uint8_t *index, size_t index_length, const uint8_t *key, size_t key_length);
 uint64_t vault_body_length(const uint8_t *index, size_t index_length, const uint8_t *key, size_t key_length);
 
-/* ---- the search whole: a scan into the index buffer, then a join of that index into the list buffer */
+/* ---- the search whole: a scan into the index buffer, whose moves are not told, then a join of that index into the list buffer */
 
 /* 0 with the index's length and the count; or the scan's number, and both stay; or the join's number with the index's length, and the count
  * stays. */

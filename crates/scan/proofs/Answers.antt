@@ -1,25 +1,29 @@
 -- The scan's answers, one for each way out, and the index from its four writes. Assumes nothing.
-use mathlib.Core.Path.{_≡_, refl, sym, ap, _∙_}
+use mathlib.Core.Path.{_≡_, refl, sym, ap, ap₂, _∙_}
 use mathlib.Core.Logic.{_≢_}
-use mathlib.Core.Bool.{true, false, _||_, or-true}
+use mathlib.Core.Bool.{Bool, true, false, cond, _||_, or-true}
 use mathlib.Core.List.{List, _++_}
 use Prim.Native.Nat.{ℕ, _+_, _≤_, _<_}
 use native.Mathlib.Omega.{arith}
 use lib.ListN.{length, length-append}
-use lib.Dec.{ltb}
+use lib.Dec.{eqb, ltb}
 use borrow.Author.Tests.{lt-ltb, le-ltb}
 use Rattle.spec.specs.declared.Outcome.{Outcome}
 use Rattle.spec.specs.declared.Outcome.the-variants.{Done, Refused}
+use Rattle.spec.specs.declared.Scanned.{Scanned}
+use Rattle.spec.specs.declared.Scanned.the-variants as scanned
 use Rattle.spec.specs.Bytes.{leBytes, splice}
 use Rattle.spec.specs.Outcome.{answer}
 use Rattle.spec.specs.Store.{chunkCount}
 use Rattle.spec.specs.Form.{newest}
 use Rattle.spec.specs.Recipes.{largest32}
-use Rattle.spec.specs.Scan.{scanIndex, scannableCode, scanCode, scanOutcome, scanBuffer, sizeOutcome}
+use Rattle.spec.specs.Scan.{scanIndex, scannableCode, scanCode, scanOutcome, withMoves, scanAnswer, scanBuffer, sizeOutcome}
 use Rattle.spec.proofs.Codes.{refused-whole, next-whole, refused, next-test, answer-done, answer-refused, buffer-done, buffer-refused}
 use Rattle.spec.proofs.Fields.{length-leBytes}
 use Rattle.spec.proofs.Splices.{splice-then}
-use Rattle.scan.specs.Layout.{tailBytes}
+use Rattle.spec.proofs.Tests.{eqb-ne}
+use Rattle.spec.specs.Trie.{scanMoves}
+use Rattle.scan.specs.Layout.{tailBytes, Scans}
 use Rattle.scan.proofs.Parts.{index-parts}
 
 module _ (list store : List ℕ) where
@@ -37,10 +41,6 @@ module _ (list store : List ℕ) where
     size-done len z n = ap Done n ∙ answer-done (scannableCode list store) long (sym e ∙ z)
 
     module _ (before : List ℕ) where
-      -- what a scan promises: its answer, and every byte of its buffer
-      abbrev Scans : List ℕ → Outcome → Type 0
-      Scans after r = (r ≡ scanOutcome newest list store (length before)) × (after ≡ scanBuffer newest list store before)
-
       -- the whole refusal, by the way taken
       code-first : code ≢ 0 → code ≡ scanCode newest list store (length before)
       unfolding scanCode
@@ -54,33 +54,36 @@ module _ (list store : List ℕ) where
       unfolding scanCode
       code-none z t = next-whole (scannableCode list store) _ (sym e ∙ z) ∙ next-test _ 9 0 t
 
-      refusal : (n : ℕ) → n ≡ scanCode newest list store (length before) → n ≢ 0 → Scans before (Refused n)
-      unfolding scanOutcome scanBuffer
-      refusal n p h = (
-        ap Refused p ∙ answer-refused (scanCode newest list store (length before)) long (λ z. h (p ∙ z)),
-        buffer-refused (scanCode newest list store (length before)) (splice before 0 (scanIndex newest list store)) before (λ z. h (p ∙ z)),
-      )
+      refusal : (n : ℕ) → n ≡ scanCode newest list store (length before) → n ≢ 0 → Scans list store before before (scanned.Refused n)
+      unfolding scanAnswer scanOutcome scanBuffer
+      refusal n p h = record {
+        answered = ap scanned.Refused p
+            ∙ ap (λ (o : Outcome). withMoves o (scanMoves list store)) (answer-refused (scanCode newest list store (length before)) long (λ z. h (p ∙ z)));
+        bytes = buffer-refused (scanCode newest list store (length before)) (splice before 0 (scanIndex newest list store)) before (λ z. h (p ∙ z));
+      }
 
-      pub scan-refused : code ≢ 0 → Scans before (Refused code)
+      pub scan-refused : code ≢ 0 → Scans list store before before (scanned.Refused code)
       scan-refused h = refusal code (code-first h) h
 
-      pub scan-short : (len : ℕ) → code ≡ 0 → len ≡ long → length before < len → Scans before (Refused 9)
+      pub scan-short : (len : ℕ) → code ≡ 0 → len ≡ long → length before < len → Scans list store before before (scanned.Refused 9)
       scan-short len z n h = refusal 9 (code-nine z (rw (lt-ltb (length before) long (omega arith)))) (omega arith)
 
-      pub scan-large : (len : ℕ) → code ≡ 0 → len ≡ long → 4294967295 < len → Scans before (Refused 9)
+      pub scan-large : (len : ℕ) → code ≡ 0 → len ≡ long → 4294967295 < len → Scans list store before before (scanned.Refused 9)
       scan-large len z n h = refusal 9 (code-nine z (rw (lt-ltb largest32 long (omega arith), or-true))) (omega arith)
 
-      pub scan-done : (len : ℕ) (after : List ℕ) → code ≡ 0 → len ≡ long → len ≤ length before → len ≤ 4294967295
+      pub scan-done : (len moves : ℕ) (after : List ℕ) → code ≡ 0 → len ≡ long → moves ≡ scanMoves list store → len ≤ length before → len ≤ 4294967295
           → after ≡ splice before 0 (scanIndex newest list store)
-          → Scans after (Done len)
-      unfolding scanOutcome scanBuffer
-      scan-done len after z n h l w =
+          → Scans list store before after (scanned.Done len moves)
+      unfolding scanAnswer scanOutcome scanBuffer
+      scan-done len moves after z n m h l w =
           let room = le-ltb (length before) long (omega arith) in
           let small = le-ltb largest32 long (omega arith) in
-          let c : scanCode newest list store (length before) ≡ 0 = code-none z (rw (room, small)) in (
-            ap Done n ∙ answer-done (scanCode newest list store (length before)) long c,
-            w ∙ buffer-done (scanCode newest list store (length before)) (splice before 0 (scanIndex newest list store)) before c,
-          )
+          let c : scanCode newest list store (length before) ≡ 0 = code-none z (rw (room, small)) in
+          record {
+            answered = ap₂ {C = Scanned} (λ x y. scanned.Done x y) n m
+                ∙ ap (λ (o : Outcome). withMoves o (scanMoves list store)) (answer-done (scanCode newest list store (length before)) long c);
+            bytes = w ∙ buffer-done (scanCode newest list store (length before)) (splice before 0 (scanIndex newest list store)) before c;
+          }
 
   -- mark, chunk count, keyword list, and the rest, each where the one before ends
   pub index-put : (l l₁ l₂ l₃ l₄ : List ℕ) (count : ℕ) → count ≡ chunkCount store

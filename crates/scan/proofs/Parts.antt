@@ -1,16 +1,16 @@
 -- The index that a scan writes, in parts: its entries from a chunk on, their directory and their bodies, and their lengths. Assumes nothing.
-use mathlib.Core.Path.{_≡_, sym, ap, _∙_}
+use mathlib.Core.Path.{_≡_, sym, ap, ap₂, _∙_}
 use mathlib.Core.List.{List, [], _∷_, _++_, map, append-assoc}
 use Prim.Native.Nat.{ℕ, zero, suc, _+_, _*_, _-_, _≤_, _<_}
-use native.Mathlib.Nat.{sub-zero}
+use native.Mathlib.Nat.{sub-zero, mul-add, mul-le-mul-left}
 use native.Mathlib.Numerals.{add-one}
 use native.Mathlib.Omega.{arith}
 use lib.ListN.{length, getD, length-append}
 use Rattle.spec.specs.Bytes.{leBytes, joined}
-use Rattle.spec.specs.Directory.{sizeAt}
+use Rattle.spec.specs.Directory.{directoryEnd, sizeAt, offsetAt}
 use Rattle.spec.specs.Store.{storeLayout, storeKeys, chunkCount, chunkAt, storeCode}
-use Rattle.spec.specs.Outcome.{firstOf, whole}
-use Rattle.spec.specs.Keywords.{keywordCode, keywordFrontCode}
+use Rattle.spec.specs.Outcome.{firstOf, firstCode, whole}
+use Rattle.spec.specs.Keywords.{countOf, keywordCode, keywordFrontCode}
 use Rattle.spec.specs.Form.{Form, newest}
 use Rattle.spec.specs.Index.{Entry, directoryBytes, indexBytes, entryBytes}
 use Rattle.spec.specs.Scan.{scanBody, scanEntry, scanIndex, scannableCode}
@@ -20,8 +20,10 @@ use Rattle.spec.proofs.Fields.{length-leBytes}
 use Rattle.spec.proofs.Tabulated.{length-tabulated, tabulated-at}
 use Rattle.spec.proofs.WrittenEntries.{Fits, Every, noEntry, length-directory}
 use Rattle.spec.proofs.StoreLaws.{store-good, store-key-length, store-size-most, chunk-length}
-use Rattle.matcher.proofs.Bodies.{body-most}
-use Rattle.scan.specs.Layout.{entriesFrom, bodiesFrom, tailBytes}
+use Rattle.records.proofs.BodyLaws.{body-few, body-most}
+use Rattle.keywords.specs.declared.Keywords.{Keywords}
+use Rattle.keywords.specs.Parsed.{Reads}
+use Rattle.scan.specs.Layout.{entriesFrom, bodiesFrom, tailBytes, mostBytes}
 
 module _ (f : Form) (list store : List ℕ) where
   abbrev pub body : ℕ → List ℕ
@@ -106,21 +108,61 @@ module _ (list store : List ℕ) (good : storeCode store ≡ 0) where
     bodies-short : (n k : ℕ) → n + k ≡ chunkCount store → length (bodiesFrom newest list store k) ≤ 2097264 * n
     bodies-short zero k e = omega (arith, ap length (bodies-end newest list store k (omega arith)))
     bodies-short (suc n) k e =
-        let one = body-most list (chunkAt store k) accept (body-short k (omega arith)) in
+        let one = body-few list (chunkAt store k) accept (body-short k (omega arith)) in
         omega (arith, bodies-length newest list store k (omega arith), one, bodies-short n (k + 1) (omega arith))
 
     pub bodies-most : length (bodiesFrom newest list store 0) ≤ 2097264 * chunkCount store
     bodies-most = bodies-short (chunkCount store) 0 (omega arith)
 
+  -- and all of them are not longer than the bound: the chunks lie one after the other in the store, so their lengths together are at most its own
+  module _ (words : Keywords) (reads : Reads list words) where
+    -- what n chunks from place `at` on can take of it, for one keyword
+    abbrev share : ℕ → ℕ → ℕ
+    share n at = 9 * n + 2 * (length store - at)
+
+    bodies-share : (n k at : ℕ) → n + k ≡ chunkCount store → (0 < n → offsetAt storeLayout store k ≡ at)
+        → length (bodiesFrom newest list store k) ≤ words .count * share n at
+    bodies-share zero k at e o = omega (arith, ap length (bodies-end newest list store k (omega arith)))
+    bodies-share (suc n) k at e o =
+        let g = store-good store good in
+        let l : k < chunkCount store = omega arith in
+        let size = sizeAt storeLayout store k in
+        let next : 0 < n → offsetAt storeLayout store (k + 1) ≡ at + size =
+        λ h. rw add-one (g .entries .next k (omega arith) (omega arith)) ∙ ap (λ (x : ℕ). x + size) (o (omega arith)) in
+        let one = body-most list words reads (chunkAt store k) in
+        let long = chunk-length store g k l in
+        let inside = g .entries .within k (omega arith) (omega arith) .1 in
+        let split : share (suc n) at ≡ (9 + 2 * length (chunkAt store k)) + share n (at + size) = omega (arith, long, inside, o (omega arith)) in
+        omega (
+          arith,
+          bodies-length newest list store k l,
+          one,
+          bodies-share n (k + 1) (at + size) (omega arith) next,
+          ap (λ (x : ℕ). words .count * x) split,
+          mul-add (words .count) (9 + 2 * length (chunkAt store k)) (share n (at + size)),
+        )
+
+    pub index-most : words .count ≡ countOf list → length (scanIndex newest list store) ≤ mostBytes list store
+    unfolding mostBytes
+    index-most c =
+        let first = directoryEnd storeLayout (chunkCount store) in
+        let b = bodies-share (chunkCount store) 0 first (omega arith) (store-good store good .entries .first) in
+        let more : words .count * share (chunkCount store) first ≤ words .count * (9 * chunkCount store + 2 * length store) =
+        mul-le-mul-left (words .count) (omega arith) in
+        omega (arith, index-length, b, more, ap (λ (x : ℕ). x * (9 * chunkCount store + 2 * length store)) c)
+
 -- ---- the refusals before 9
 
-pub refused-list : (list store : List ℕ) (code : ℕ) → code ≡ keywordCode list → (code ≡ 0 → ⊥) → code ≡ scannableCode list store
-unfolding scannableCode
-refused-list list store code e h = e ∙ refused-whole (keywordCode list) _ (λ z. h (e ∙ z))
+pub first-refused : (first second : ℕ) → (first ≡ 0 → ⊥) → first ≡ firstCode (first ∷ second ∷ [])
+first-refused first second h = refused-whole first _ h
 
-pub refused-store : (list store : List ℕ) (code : ℕ) → keywordCode list ≡ 0 → code ≡ storeCode store → code ≡ scannableCode list store
+pub second-asked : (first second : ℕ) → first ≡ 0 → second ≡ firstCode (first ∷ second ∷ [])
+second-asked first second z = sym (next-whole first _ z ∙ last-whole second)
+
+pub both-asked : (list store : List ℕ) (listed stored code : ℕ) → listed ≡ keywordCode list → stored ≡ storeCode store
+    → code ≡ firstCode (listed ∷ stored ∷ []) → code ≡ scannableCode list store
 unfolding scannableCode
-refused-store list store code z e = e ∙ sym (next-whole (keywordCode list) _ z ∙ last-whole (storeCode store))
+both-asked list store listed stored code e f c = c ∙ ap₂ {C = ℕ} (λ x y. firstCode (x ∷ y ∷ [])) e f
 
 pub record Passed (list store : List ℕ) : Type 0 where
   pub accepted : keywordCode list ≡ 0

@@ -7,11 +7,12 @@ use native.Mathlib.Omega.{arith}
 use lib.ListN.{length, take, length-take}
 use Rattle.spec.specs.declared.Outcome.{Outcome}
 use Rattle.spec.specs.declared.Outcome.the-variants.{Done, Refused}
+use Rattle.spec.specs.declared.Scanned.the-variants as Scanned
 use Rattle.spec.specs.declared.Searched.{Searched}
 use Rattle.spec.specs.declared.Searched.the-variants.{ScanRefused}
 use Rattle.spec.specs.Form.{newest, formOf}
 use Rattle.spec.specs.Join.{joinOutcome, joinBuffer}
-use Rattle.spec.specs.Scan.{scanOutcome, scanBuffer}
+use Rattle.spec.specs.Scan.{scanAnswer, scanBuffer}
 use Rattle.spec.specs.Search.{searchOutcome, searchBuffer}
 use Rattle.theory.proofs.SearchLaws.{scan-length, scanned-front, search-scan-refused, search-join-refused, search-found, search-list}
 use Rattle.search.specs.Searching.{afterJoin, Joins}
@@ -30,17 +31,18 @@ module _ (list store recipes buffer out : List ℕ) where
       × (out′ ≡ searchBuffer newest list store recipes (length buffer) out)
 
   -- the scan refused
-  pub not-scanned : (index′ : List ℕ) (c : ℕ) → index′ ≡ scanBuffer newest list store buffer → scanOutcome newest list store (length buffer) ≡ Refused c
+  pub not-scanned : (index′ : List ℕ) (c : ℕ) → index′ ≡ scanBuffer newest list store buffer → scanAnswer newest list store (length buffer) ≡ Scanned.Refused c
       → Searches index′ out (ScanRefused c)
   not-scanned index′ c q e =
       let r = search-scan-refused list store recipes buffer out c e in
       (r .0, q, r .1)
 
   -- the scan wrote n bytes
-  module _ (n : ℕ) (e : scanOutcome newest list store (length buffer) ≡ Done n) (index′ : List ℕ) (q : index′ ≡ scanBuffer newest list store buffer) where
+  module _ (n moves : ℕ) (e : scanAnswer newest list store (length buffer) ≡ Scanned.Done n moves)
+      (index′ : List ℕ) (q : index′ ≡ scanBuffer newest list store buffer) where
     pub front-length : n ≡ length (take n index′)
     front-length =
-        rw q (sym (scan-length list store recipes buffer out n e) ∙ sym (ap length (scanned-front list store recipes buffer out n e)))
+        rw q (sym (scan-length list store recipes buffer out n moves e) ∙ sym (ap length (scanned-front list store recipes buffer out n moves e)))
 
     pub front-room : n ≤ length index′
     front-room = let h : n ≡ length (take n index′) = front-length in omega (arith, length-take n index′)
@@ -51,8 +53,8 @@ module _ (list store recipes buffer out : List ℕ) where
 
     answer-is : (o : Outcome) → joinOf (take n (scanBuffer newest list store buffer)) ≡ o
         → afterJoin n o ≡ searchOutcome newest list store recipes (length buffer) (length out)
-    answer-is (Done m) f = search-found list store recipes buffer out n e m f
-    answer-is (Refused c) f = search-join-refused list store recipes buffer out n e c f
+    answer-is (Done m) f = search-found list store recipes buffer out n moves e m f
+    answer-is (Refused c) f = search-join-refused list store recipes buffer out n moves e c f
 
     answered-is : afterJoin (length (take n index′)) (joinOf (take n index′)) ≡ searchOutcome newest list store recipes (length buffer) (length out)
     answered-is =
@@ -63,4 +65,4 @@ module _ (list store recipes buffer out : List ℕ) where
     -- and its join answered
     pub scanned-joined : (out′ : List ℕ) (r : Searched) → Joins (take n index′) recipes out out′ r → Searches index′ out′ r
     scanned-joined out′ r j =
-        (j .answered ∙ answered-is, q, j .listed ∙ rw q (search-list list store recipes buffer out n e))
+        (j .answered ∙ answered-is, q, j .listed ∙ rw q (search-list list store recipes buffer out n moves e))

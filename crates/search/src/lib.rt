@@ -7,6 +7,7 @@ ghost use Rattle.spec.specs.Scan.{scanBuffer};
 ghost use Rattle.spec.specs.Search.{searchOutcome, searchBuffer};
 ghost use Rattle.search.specs.Searching.{Joins};
 use spec::Outcome;
+use spec::Scanned;
 use spec::Searched;
 
 // A join, with its answer as a search's.
@@ -34,7 +35,7 @@ pub fn search(
         × (now (out .exit) ≡ searchBuffer newest (now (list .entry)) (now (store .entry)) (now (recipes .entry)) (length (now (index .entry))) (now (out .entry))) ⌝ }
 {
     match scan::scan(list, store, index) {
-        Outcome::Refused(code) => Searched::ScanRefused(code),
-        Outcome::Done(n) => joined(&index[..n], recipes, out),
+        Scanned::Refused(code) => Searched::ScanRefused(code),
+        Scanned::Done(n, _) => joined(&index[..n], recipes, out),
     }
 }

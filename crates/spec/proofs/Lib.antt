@@ -33,3 +33,4 @@ pub mod Borders
 pub mod Writing
 pub mod FileLaws
 pub mod LookupLaws
+pub mod MoveExamples

@@ -5,6 +5,9 @@ use Prim.Native.Nat.{ℕ, _+_}
 use lib.ListN.{length, getD}
 use lib.Dec.{ltb}
 use Rattle.spec.specs.declared.Outcome.{Outcome}
+use Rattle.spec.specs.declared.Outcome.the-variants as outcome
+use Rattle.spec.specs.declared.Scanned.{Scanned}
+use Rattle.spec.specs.declared.Scanned.the-variants.{Done, Refused}
 use Rattle.spec.specs.Bytes.{written, each}
 use Rattle.spec.specs.Outcome.{firstOf, whole, answer, unlessRefused, indexTooLong}
 use Rattle.spec.specs.Keywords.{flagOf, folded, foldedKeywords, keywordCode}
@@ -14,6 +17,7 @@ use Rattle.spec.specs.Form.{Form}
 use Rattle.spec.specs.Records.{recordsOf, ChunkRecords, bodyBytes}
 use Rattle.spec.specs.Index.{Entry, indexBytes}
 use Rattle.spec.specs.Recipes.{largest32}
+use Rattle.spec.specs.Trie.{scanMoves}
 
 -- The records of a chunk, as keywords and chunk compare.
 unfoldable pub scanRecords : List ℕ → List ℕ → ChunkRecords
@@ -43,9 +47,18 @@ scanCode f list store room =
     ∷ (ltb room (length (scanIndex f list store)) || ltb largest32 (length (scanIndex f list store)), indexTooLong)
     ∷ [])
 
--- The scan's answer and its buffer.
+-- Done with the index's length, or refused.
 unfoldable pub scanOutcome : Form → List ℕ → List ℕ → ℕ → Outcome
 scanOutcome f list store room = answer (scanCode f list store room) (length (scanIndex f list store))
+
+-- An answer with its moves: a refusal reports its number alone (request #103).
+abbrev pub withMoves : Outcome → ℕ → Scanned
+withMoves (outcome.Done size) moves = Done size moves
+withMoves (outcome.Refused code) moves = Refused code
+
+-- The scan's answer and its buffer.
+unfoldable pub scanAnswer : Form → List ℕ → List ℕ → ℕ → Scanned
+scanAnswer f list store room = withMoves (scanOutcome f list store room) (scanMoves list store)
 
 unfoldable pub scanBuffer : Form → List ℕ → List ℕ → List ℕ → List ℕ
 scanBuffer f list store out = unlessRefused (scanCode f list store (length out)) (written out (scanIndex f list store)) out
@@ -53,3 +66,23 @@ scanBuffer f list store out = unlessRefused (scanCode f list store (length out))
 -- The length that a scan would write, whatever the buffer.
 unfoldable pub sizeOutcome : Form → List ℕ → List ℕ → Outcome
 sizeOutcome f list store = answer (scannableCode list store) (length (scanIndex f list store))
+
+-- ---- reading the answer
+
+-- The number of an answer: 0 for work done. The index's length; a refusal has none.
+abbrev pub scannedCode : Scanned → ℕ
+scannedCode (Done size moves) = 0
+scannedCode (Refused code) = code
+
+abbrev pub scannedLength : Scanned → ℕ
+scannedLength (Done size moves) = size
+scannedLength (Refused code) = 0
+
+-- Numbers that are lent to be told the length and the moves: as they were on a refusal.
+abbrev pub toldLength : Scanned → ℕ → ℕ
+toldLength (Done size moves) before = size
+toldLength (Refused code) before = before
+
+abbrev pub toldMoves : Scanned → ℕ → ℕ
+toldMoves (Done size moves) before = moves
+toldMoves (Refused code) before = before

@@ -7,6 +7,14 @@ pub enum Outcome {
     Refused(u8),
 }
 
+// The answer of a scan. specs/Scan.antt says what its cases mean.
+pub enum Scanned {
+    // The index's length, and the moves of the walk over the trie, summed over all chunks (request #103).
+    Done(usize, u64),
+    // Document 01's number, alone.
+    Refused(u8),
+}
+
 // The answer of a search, which is a scan and then a join of the index that it wrote. specs/Search.antt says what its cases mean.
 pub enum Searched {
     // The scan is refused, with document 01's number.

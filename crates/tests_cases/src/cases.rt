@@ -4,8 +4,11 @@ use tests_plain::case;
 use tests_plain::case::check_code;
 use tests_plain::records::note_all;
 use tests_report::kinds::see;
+use tests_report::kinds::see_lanes;
+use tests_report::moves::put_moves;
 use tests_report::tally;
 use tests_report::tally::bump;
+use tests_report::tally::expect;
 use tests_report::tally::torn_place;
 use tests_runs::lookups::lookups;
 use tests_runs::runs::checks;
@@ -16,7 +19,10 @@ use tests_vaults::encode::encode;
 use tests_vaults::fill::put_invented;
 use tests_vaults::fill::put_scanned;
 use tests_vaults::fill::put_torn;
+use tests_vaults::lanes::make_long;
 use tests_vaults::make::make;
+use tests_vaults::small::told;
+use tests_vaults::small::told_moves;
 
 // Every operation on a case.
 fn run_all(counts: &mut [u64], f: &[u8], n: usize, buffer: &mut [u8]) {
@@ -28,6 +34,14 @@ fn run_all(counts: &mut [u64], f: &[u8], n: usize, buffer: &mut [u8]) {
 }
 
 // The vault in the model, searched, as case number n.
+fn run_model(counts: &mut [u64], n: usize, m: &mut [u8], f: &mut [u8], buffer: &mut [u8]) {
+    put_scanned(f, m, buffer);
+    put_moves(f, m);
+    run_all(counts, f, n, buffer);
+    bump(counts, tally::CASES);
+}
+
+// The same, with its kinds.
 pub(crate) fn run_scanned(
     counts: &mut [u64],
     n: usize,
@@ -35,10 +49,24 @@ pub(crate) fn run_scanned(
     f: &mut [u8],
     buffer: &mut [u8],
 ) {
-    put_scanned(f, m, buffer);
-    run_all(counts, f, n, buffer);
+    run_model(counts, n, m, f, buffer);
     see(counts, m, f);
-    bump(counts, tally::CASES);
+}
+
+// Vault number n with long chunks, searched.
+pub(crate) fn long(counts: &mut [u64], n: usize, f: &mut [u8], buffer: &mut [u8]) {
+    let mut m = case::room();
+    make_long(&mut m, n);
+    run_model(counts, n, &mut m, f, buffer);
+    see_lanes(counts, &m, f);
+}
+
+// Vault number n of those whose moves are told.
+pub(crate) fn with_told(counts: &mut [u64], n: usize, f: &mut [u8], buffer: &mut [u8]) {
+    let mut m = case::room();
+    told(&mut m, n);
+    run_model(counts, n, &mut m, f, buffer);
+    expect(counts, case::moves(f) == told_moves(n));
 }
 
 // Vault number n, searched.

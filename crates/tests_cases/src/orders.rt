@@ -10,6 +10,7 @@ use tests_plain::bytes::plus;
 use tests_plain::bytes::put;
 use tests_plain::bytes::put_4;
 use tests_plain::case;
+use tests_report::moves::put_moves;
 use tests_report::report;
 use tests_report::report::report_cases;
 use tests_runs::pairs::checks_both;
@@ -130,6 +131,7 @@ fn run_vault(counts: &mut [u64], i: usize, f: &mut [u8], g: &mut [u8], a: &mut [
     let mut m = case::room();
     make(&mut m, i);
     put_scanned(f, &mut m, a);
+    put_moves(f, &m);
     run_orders(counts, i, f, g, a, b);
 }
 

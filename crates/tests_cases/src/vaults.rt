@@ -5,6 +5,8 @@ use tests_plain::case;
 use tests_report::report;
 use tests_report::report::report_cases;
 use tests_report::report::report_kinds;
+use tests_report::tally::expect;
+use tests_vaults::lanes;
 use tests_vaults::small;
 
 const SCANNED: usize = 2400;
@@ -45,6 +47,22 @@ fn run_faults(counts: &mut [u64], m: &[u8], f: &mut [u8], buffer: &mut [u8]) {
     }
 }
 
+// Vaults with long chunks.
+fn run_long(counts: &mut [u64], f: &mut [u8], buffer: &mut [u8]) {
+    let n = lanes::ALL;
+    for i in 0..n {
+        cases::long(counts, i, f, buffer);
+    }
+}
+
+// Vaults whose moves are told.
+fn run_told(counts: &mut [u64], f: &mut [u8], buffer: &mut [u8]) {
+    let n = small::TOLD;
+    for i in 0..n {
+        cases::with_told(counts, i, f, buffer);
+    }
+}
+
 fn generated(counts: &mut [u64], f: &mut [u8], buffer: &mut [u8]) {
     run_scanned(counts, f, buffer);
     report_cases(b"vaults scanned, joined and searched", counts);
@@ -52,6 +70,14 @@ fn generated(counts: &mut [u64], f: &mut [u8], buffer: &mut [u8]) {
     run_invented(counts, f, buffer);
     report_cases(b"indexes of made-up records joined", counts);
     report_kinds(counts);
+}
+
+fn walked(counts: &mut [u64], f: &mut [u8], buffer: &mut [u8]) {
+    run_long(counts, f, buffer);
+    report_cases(b"vaults of long chunks", counts);
+    report::lanes(counts);
+    run_told(counts, f, buffer);
+    report_cases(b"vaults whose moves are told", counts);
 }
 
 fn torn(counts: &mut [u64], f: &mut [u8], buffer: &mut [u8]) {
@@ -64,6 +90,7 @@ fn torn(counts: &mut [u64], f: &mut [u8], buffer: &mut [u8]) {
 fn small(counts: &mut [u64], m: &mut [u8], f: &mut [u8], buffer: &mut [u8]) {
     small::small(m);
     cases::run_scanned(counts, 0, m, f, buffer);
+    expect(counts, case::moves(f) == 10);
     report_cases(b"the small vault", counts);
 }
 
@@ -76,6 +103,7 @@ fn faulty(counts: &mut [u64], f: &mut [u8], buffer: &mut [u8]) {
 
 fn all(counts: &mut [u64], f: &mut [u8], buffer: &mut [u8]) {
     generated(counts, f, buffer);
+    walked(counts, f, buffer);
     torn(counts, f, buffer);
     faulty(counts, f, buffer);
 }

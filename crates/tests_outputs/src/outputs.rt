@@ -1,12 +1,12 @@
 // The search program's output, compared with the text plainly computed: of the small vault, of generated vaults, of files absent, full and too
 // long, of full lists and indexes. Each into a longer buffer, an exact one, and one a byte short.
+use crate::border;
 use output::LONGEST;
 use tests_plain::bytes::fill;
 use tests_plain::bytes::less;
 use tests_plain::case;
 use tests_plain::printout;
 use tests_report::due;
-use tests_vaults::border;
 use tests_vaults::fill::put_scanned;
 use tests_vaults::make::make;
 use tests_vaults::small::small;

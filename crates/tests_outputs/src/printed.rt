@@ -1,11 +1,11 @@
 // The cases of the search program's output, all of them.
+use crate::border;
 use crate::outputs;
 use tests_plain::case;
 use tests_plain::printout;
 use tests_plain::text;
 use tests_report::report;
 use tests_report::report::report_cases;
-use tests_vaults::border;
 
 const VAULTS: usize = 800;
 

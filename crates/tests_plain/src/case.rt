@@ -1,4 +1,4 @@
-// A case, in one array: the four inputs in document 01's formats, what each must be answered, and the list that is due.
+// A case, in one array: the four inputs in document 01's formats, what each must be answered, the moves and the list that are due.
 ghost use mathlib.Core.Path.{_≡_};
 ghost use lib.ListN.{length};
 use crate::bytes::get;
@@ -9,20 +9,22 @@ use crate::bytes::plus;
 use crate::bytes::put_4;
 
 // The inputs' places. Before them stand, for keyword list, store, index, recipes: the number that the input gives by itself, a byte each;
-// its length, 4 bytes each; then the row count of the list, 4 bytes; then 1 where only refusals are to be run.
+// its length, 4 bytes each; then the row count of the list, 4 bytes; then 1 where only refusals are to be run; then the scan's moves, 4 bytes.
 pub const LIST: usize = 32;
 
-pub const STORE: usize = 600;
+pub const RECIPES: usize = 600;
 
-pub const RECIPES: usize = 1600;
+pub const STORE: usize = 1700;
 
-pub const INDEX: usize = 2700;
+pub const INDEX: usize = 7700;
 
-const ROWS: usize = 8700;
+const ROWS: usize = 37700;
 
 pub const COUNT_AT: usize = 20;
 
 pub const ONLY_REFUSALS: usize = 24;
+
+const MOVES_AT: usize = 28;
 
 // Room for a case, for a model, or for a list.
 pub fn room() -> [u8; 148700]
@@ -85,6 +87,15 @@ pub fn store_entry(c: usize) -> usize {
 
 pub fn count(f: &[u8]) -> usize {
     get_4(f, COUNT_AT)
+}
+
+// The moves that an accepted scan must report.
+pub fn moves(f: &[u8]) -> usize {
+    get_4(f, MOVES_AT)
+}
+
+pub fn put_moves(f: &mut [u8], n: usize) {
+    put_4(f, MOVES_AT, n);
 }
 
 // The list that a join must write.

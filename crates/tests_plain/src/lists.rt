@@ -16,9 +16,9 @@ use crate::model::flag;
 use crate::model::keyword_at;
 use crate::model::keyword_size;
 use crate::model::keywords;
-use crate::model::mark_at;
 use crate::model::partial_at;
 use crate::records::folded;
+use crate::records::is_marked;
 use crate::records::stands;
 
 // ---- lists
@@ -124,7 +124,7 @@ fn in_cell(m: &[u8], k: usize, i: usize, j: usize, start: usize) -> bool {
 
 // Keyword k is listed at an offset of chunk c, which chunk `after` follows (12 where none does).
 fn listed(m: &[u8], k: usize, c: usize, after: usize, at: usize) -> bool {
-    if get(m, mark_at(c, k, at)) == 1 {
+    if is_marked(m, c, k, at) {
         return true;
     }
     if 12 <= after {

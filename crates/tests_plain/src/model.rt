@@ -1,15 +1,7 @@
-// A vault, apart from the formats, in one array of 66,600 bytes: counts, keywords, chunks, match records and files at fixed places.
+// A vault, apart from the formats, in one array of 120,700 bytes: counts, keywords, match records, files and chunks at fixed places.
 use crate::bytes::get_2;
 use crate::bytes::num;
 use crate::bytes::plus;
-
-pub fn count_of(m: &[u8], c: usize, k: usize, size: usize) -> usize {
-    let mut n: usize = 0;
-    for p in 0..size {
-        n = plus(n, num(m, mark_at(c, k, p)));
-    }
-    n
-}
 
 // Keyword count, fold flag, chunk count, file count: a byte each.
 pub fn keywords(m: &[u8]) -> usize {
@@ -37,7 +29,7 @@ pub fn keyword_size(m: &[u8], k: usize) -> usize {
     num(m, keyword_at(k))
 }
 
-// Chunk c: its length, 2 bytes; its bytes apart.
+// Chunk c: its length, 2 bytes; its bytes apart, at most 4,224.
 pub fn size_at(c: usize) -> usize {
     540 + 2 * (c % 12)
 }
@@ -47,12 +39,18 @@ pub fn chunk_size(m: &[u8], c: usize) -> usize {
 }
 
 pub fn chunk_at(c: usize) -> usize {
-    600 + 320 * (c % 12)
+    70000 + 4224 * (c % 12)
 }
 
-// The record of chunk c and keyword k: prefix and suffix, a byte each; apart from that a byte for each offset p, 1 where it is recorded.
+// The record of chunk c and keyword k: prefix and suffix, a byte each; apart from that a byte for each offset p, 1 where it is recorded, in
+// chunks that are not long.
 pub fn partial_at(c: usize, k: usize) -> usize {
     4440 + 2 * (16 * (c % 12) + k % 16)
+}
+
+// There are marks for 320 offsets.
+pub fn is_long(m: &[u8], c: usize) -> bool {
+    320 < chunk_size(m, c)
 }
 
 pub fn mark_at(c: usize, k: usize, p: usize) -> usize {

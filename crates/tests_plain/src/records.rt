@@ -8,6 +8,7 @@ use crate::model::chunk_at;
 use crate::model::chunk_size;
 use crate::model::chunks;
 use crate::model::flag;
+use crate::model::is_long;
 use crate::model::keyword_at;
 use crate::model::keyword_size;
 use crate::model::keywords;
@@ -120,11 +121,29 @@ fn suffix(m: &[u8], c: usize, k: usize) -> usize {
     best
 }
 
+// The marks of a chunk of `size` bytes. Those of a long one are not read.
 fn mark(m: &mut [u8], c: usize, k: usize, size: usize) {
     for p in 0..size {
         let b = stands(m, k, m, chunk_at(c), size, p) as u8;
         put(m, mark_at(c, k, p), b);
     }
+}
+
+// An offset is recorded for chunk c and keyword k: by its mark, and in a long chunk where the keyword stands.
+pub fn is_marked(m: &[u8], c: usize, k: usize, p: usize) -> bool {
+    if is_long(m, c) {
+        return stands(m, k, m, chunk_at(c), chunk_size(m, c), p);
+    }
+    get(m, mark_at(c, k, p)) == 1
+}
+
+// How many of the first `size` offsets are recorded.
+pub fn count_of(m: &[u8], c: usize, k: usize, size: usize) -> usize {
+    let mut n: usize = 0;
+    for p in 0..size {
+        n = plus(n, is_marked(m, c, k, p) as usize);
+    }
+    n
 }
 
 // The record of chunk c and keyword k.
@@ -133,7 +152,7 @@ fn note(m: &mut [u8], c: usize, k: usize) {
     let j = suffix(m, c, k);
     put(m, partial_at(c, k), (i % 256) as u8);
     put(m, plus(partial_at(c, k), 1), (j % 256) as u8);
-    mark(m, c, k, chunk_size(m, c));
+    mark(m, c, k, least(chunk_size(m, c), 320));
 }
 
 fn note_chunk(m: &mut [u8], c: usize, n: usize) {

@@ -1,10 +1,12 @@
 // What is due: the numbers, values and bytes that an operation must answer on a case, and the comparison with what it answered.
+use crate::lanes::is_linked;
 use crate::tally;
 use crate::tally::bump;
 use crate::tally::saw;
 use tests_plain::bytes::all;
 use tests_plain::bytes::fill;
 use tests_plain::bytes::get_4;
+use tests_plain::bytes::num;
 use tests_plain::bytes::part;
 use tests_plain::bytes::plus;
 use tests_plain::bytes::same;
@@ -71,6 +73,76 @@ pub fn late(code: u8, n: usize, room: usize, late: u8) -> u8 {
         return code;
     }
     if room < n { late } else { 0 }
+}
+
+// ---- moves
+
+// The moves of an answer are the ones due; a refusal has none.
+pub fn moves_as_due(moves: u64, code: u8, due: usize) -> bool {
+    if code != 0 {
+        return moves == 0;
+    }
+    moves == due as u64
+}
+
+// The product, by sums.
+pub(crate) fn times(a: usize, b: usize) -> usize {
+    let mut n: usize = 0;
+    for i in 0..a {
+        n = plus(n, b);
+    }
+    n
+}
+
+fn chunk_count(f: &[u8]) -> usize {
+    get_4(case::store(f), 4)
+}
+
+// The bound: a scan into a buffer of this length, or a longer one, measures nothing before it writes.
+pub fn bound(f: &[u8]) -> usize {
+    let c = chunk_count(f) % 16;
+    let records = times(
+        num(case::list(f), 0),
+        9 * c + 2 * (case::length_of(f, 1) % 65536),
+    );
+    plus(8 + case::length_of(f, 0) % 65536 + 32 * c, records)
+}
+
+fn bound_kind(room: usize, bound: usize) -> usize {
+    if room == bound {
+        return 1;
+    }
+    if bound < room {
+        return 2;
+    }
+    if plus(room, 1) == bound { 3 } else { 4 }
+}
+
+// A chunk of 256 bytes or more is among the first n.
+fn has_long(f: &[u8], n: usize) -> bool {
+    for c in 0..n {
+        if 256 <= get_4(f, plus(case::store_entry(c), 24)) {
+            return true;
+        }
+    }
+    false
+}
+
+fn store_kind(f: &[u8]) -> usize {
+    if chunk_count(f) == 0 {
+        return 5;
+    }
+    if has_long(f, chunk_count(f)) { 7 } else { 6 }
+}
+
+// A scan that was accepted, into a buffer of `room` bytes.
+pub fn saw_moves(counts: &mut [u64], f: &[u8], code: u8, room: usize) {
+    if code == 0 {
+        bump(counts, tally::MOVES);
+        bump(counts, tally::MOVES + bound_kind(room, bound(f)) % 10);
+        bump(counts, tally::MOVES + store_kind(f) % 10);
+        saw(counts, tally::MOVES + 8, is_linked(f));
+    }
 }
 
 // ---- runs into a buffer

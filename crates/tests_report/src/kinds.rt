@@ -1,4 +1,5 @@
 // The kinds of a case, by what is found in its model and its list, whatever it was made for.
+use crate::lanes;
 use crate::tally::KINDS;
 use crate::tally::saw;
 use tests_plain::bytes::get;
@@ -13,7 +14,6 @@ use tests_plain::model::chunk_at;
 use tests_plain::model::chunk_of;
 use tests_plain::model::chunk_size;
 use tests_plain::model::chunks;
-use tests_plain::model::count_of;
 use tests_plain::model::file_size;
 use tests_plain::model::files;
 use tests_plain::model::flag;
@@ -21,9 +21,15 @@ use tests_plain::model::keyword_at;
 use tests_plain::model::keyword_size;
 use tests_plain::model::keywords;
 use tests_plain::records::alike;
+use tests_plain::records::count_of;
 use tests_plain::records::stands;
 
 pub(crate) const ALL: usize = 24;
+
+// Those of cases with long chunks have numbers from here on.
+pub(crate) const LANES: usize = 64;
+
+pub(crate) const ALL_LANES: usize = 17;
 
 // For each kind, how many witnesses there are to try, in units of 64.
 const WITNESSES: [u8; 24] = [
@@ -52,6 +58,8 @@ const WITNESSES: [u8; 24] = [
     112,
     112,
 ];
+
+const LANE_WITNESSES: [u8; 17] = [1, 1, 1, 1, 1, 1, 1, 64, 2, 2, 8, 4, 4, 1, 1, 1, 1];
 
 // ---- files and chunks
 
@@ -84,7 +92,7 @@ fn is_repeated(m: &[u8], a: usize, b: usize) -> bool {
     named(m, b / 10, b % 10) == c
 }
 
-fn is_chunk_of(m: &[u8], c: usize, size: usize) -> bool {
+pub(crate) fn is_chunk_of(m: &[u8], c: usize, size: usize) -> bool {
     if c < chunks(m) {
         return chunk_size(m, c) == size;
     }
@@ -314,11 +322,17 @@ fn shows(m: &[u8], f: &[u8], kind: usize, t: usize) -> bool {
     if kind < 21 {
         return of_chunks(m, kind, t);
     }
-    of_rows(m, f, kind, t)
+    if kind < LANES {
+        return of_rows(m, f, kind, t);
+    }
+    lanes::shows(m, f, less(kind, LANES), t)
 }
 
 fn witnesses(kind: usize) -> usize {
-    64 * (num(&WITNESSES, kind) % 256)
+    if kind < LANES {
+        return 64 * (num(&WITNESSES, kind) % 256);
+    }
+    64 * (num(&LANE_WITNESSES, less(kind, LANES)) % 256)
 }
 
 fn is_of(m: &[u8], f: &[u8], kind: usize) -> bool {
@@ -331,10 +345,20 @@ fn is_of(m: &[u8], f: &[u8], kind: usize) -> bool {
     false
 }
 
-// Counts the kinds of a case.
-pub fn see(counts: &mut [u64], m: &[u8], f: &[u8]) {
-    let n = ALL;
-    for kind in 0..n {
+// Counts n kinds of a case.
+fn see_from(counts: &mut [u64], m: &[u8], f: &[u8], first: usize, n: usize) {
+    for i in 0..n {
+        let kind = plus(first, i);
         saw(counts, plus(KINDS, kind), is_of(m, f, kind));
     }
+}
+
+// Counts the kinds of a case.
+pub fn see(counts: &mut [u64], m: &[u8], f: &[u8]) {
+    see_from(counts, m, f, 0, ALL);
+}
+
+// Counts the kinds of a case with long chunks.
+pub fn see_lanes(counts: &mut [u64], m: &[u8], f: &[u8]) {
+    see_from(counts, m, f, LANES, ALL_LANES);
 }

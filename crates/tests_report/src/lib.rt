@@ -2,5 +2,7 @@
 // Test support: proved safe and ending.
 pub mod due;
 pub mod kinds;
+mod lanes;
+pub mod moves;
 pub mod report;
 pub mod tally;

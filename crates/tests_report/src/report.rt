@@ -128,6 +128,47 @@ pub fn torn(counts: &[u64]) {
     lines(&TORN_NAMES, counts, tally::TORN, 5);
 }
 
+const LANE_NAMES: [u8; 680] = *b"\
+    - with a chunk of 255 bytes             \
+    - with a chunk of 256 bytes             \
+    - with a chunk of 4,099 bytes           \
+    - with quarters and no byte behind      \
+    - with quarters and 1 byte behind       \
+    - with quarters and 2 bytes behind      \
+    - with quarters and 3 bytes behind      \
+    - with a keyword across quarters        \
+    - with one at a quarter's start         \
+    - with one at a quarter's end           \
+    - with one cut by the next chunk        \
+    - with a keyword that ends another      \
+    - with a keyword that begins another    \
+    - with 513 nodes                        \
+    - with links followed                   \
+    - with fold flag 0                      \
+    - with fold flag 1                      ";
+
+// The kinds of the cases with long chunks.
+pub fn lanes(counts: &[u64]) {
+    lines(
+        &LANE_NAMES,
+        counts,
+        plus(tally::KINDS, kinds::LANES),
+        kinds::ALL_LANES,
+    );
+}
+
+const MOVE_NAMES: [u8; 400] = *b"\
+    scans whose moves were compared         \
+    - into a buffer of the bound            \
+    - into a longer one                     \
+    - into one a byte shorter               \
+    - into a shorter one                    \
+    - of a store without chunks             \
+    - of chunks below 256 bytes             \
+    - of a chunk of 256 bytes or more       \
+    - with links followed                   \
+    - of two orders                         ";
+
 const ORDER_NAMES: [u8; 240] = *b"\
     - with another order of the index       \
     - that list occurrences                 \
@@ -162,6 +203,7 @@ pub fn output_buffers(counts: &[u64]) {
 }
 
 pub fn totals(counts: &[u64]) {
+    lines(&MOVE_NAMES, counts, tally::MOVES, 10);
     lines(&BUFFER_NAMES, counts, tally::BUFFERS, 8);
     lines(&OPERATION_NAMES, counts, tally::OPERATIONS, 10);
     lines(&NUMBER_NAMES, counts, 0, 20);

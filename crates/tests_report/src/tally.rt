@@ -7,7 +7,8 @@ pub fn torn_place(code: u8) -> usize {
     plus(TORN, less(code as usize, 4))
 }
 
-// Places of the counters: numbers 0 to 19, operations, differences, cases since the last line, kinds of cases, kinds of buffers.
+// Places of the counters: numbers 0 to 19, operations, differences, cases since the last line, kinds of cases (those of long chunks from 96
+// on), kinds of buffers.
 pub(crate) const OPERATIONS: usize = 20;
 
 pub(crate) const DIFFERENCES: usize = 30;
@@ -31,8 +32,12 @@ pub const OUTPUT_BUFFERS: usize = 84;
 // answers that were compared.
 pub const ORDERS: usize = 88;
 
+// Scans whose moves were compared: all; into a buffer of the bound at which a scan measures nothing, a longer one, one a byte shorter, a
+// shorter one; of stores without chunks, with chunks below 256 bytes alone, with longer ones; with links followed; of two orders.
+pub const MOVES: usize = 116;
+
 // Room for the counters.
-pub const ALL: usize = 96;
+pub const ALL: usize = 128;
 
 // The operations.
 pub const KEYWORD_CHECK: usize = 0;
@@ -83,6 +88,11 @@ fn answer(got: u8, expected: u8, rest: bool) -> usize {
 pub fn compared(counts: &mut [u64], operation: usize, got: u8, expected: u8, rest: bool) {
     bump(counts, OPERATIONS + operation % 10);
     bump(counts, answer(got, expected, rest));
+}
+
+// Something else that was to be so, and counts where it was not.
+pub fn expect(counts: &mut [u64], so: bool) {
+    saw(counts, DIFFERENCES, !so);
 }
 
 // Sets n counters to 0.

@@ -1,11 +1,15 @@
 // Runs of the library on two cases whose stores hold the same chunks in two orders (f and g): what it answers on g is compared with what it
 // answers on f, number, values and bytes. Buffers are filled with a pattern first, and those of a pair of runs have one length.
 use crate::runs::code_of;
+use crate::runs::scanned_code;
+use crate::runs::scanned_length;
+use crate::runs::scanned_moves;
 use crate::runs::searched_code;
 use crate::runs::searched_count;
 use crate::runs::searched_index;
 use crate::runs::value_of;
 use spec::Outcome;
+use spec::Scanned;
 use tests_plain::bytes::copy;
 use tests_plain::bytes::fill;
 use tests_plain::bytes::less;
@@ -13,6 +17,7 @@ use tests_plain::bytes::plus;
 use tests_plain::bytes::same;
 use tests_plain::case;
 use tests_report::due::PATTERN;
+use tests_report::due::bound;
 use tests_report::tally;
 use tests_report::tally::bump;
 use tests_report::tally::compared;
@@ -20,14 +25,23 @@ use tests_report::tally::saw;
 use tests_vaults::encode::put_key;
 
 // Runs: scan into an exact buffer and a byte short; join likewise; search into exact buffers, with a list a byte short, with an index a
-// byte short.
+// byte short; scan into a buffer of the bound, so that nothing is measured.
 const SCANS: usize = 2;
 
 const JOINS: usize = 4;
 
 const SHORT_INDEX: usize = 6;
 
-const RUNS: usize = 7;
+const BOUND: usize = 7;
+
+const RUNS: usize = 8;
+
+fn is_scan(way: usize) -> bool {
+    if way < SCANS {
+        return true;
+    }
+    way == BOUND
+}
 
 // The number answered and the two values told with it, as one number.
 fn answer(code: u8, n: usize, count: usize) -> usize {
@@ -36,6 +50,14 @@ fn answer(code: u8, n: usize, count: usize) -> usize {
 
 fn answered(o: Outcome) -> usize {
     answer(code_of(o), value_of(o), 0)
+}
+
+fn scanned(s: Scanned) -> usize {
+    answer(
+        scanned_code(s),
+        scanned_length(s),
+        (scanned_moves(s) % 1000000) as usize,
+    )
 }
 
 // No run: its buffer would be too long.
@@ -70,7 +92,7 @@ fn same_bytes(a: &[u8], b: &[u8]) -> bool {
 // ---- a run of one case
 
 fn scan_one(f: &[u8], buffer: &mut [u8]) -> usize {
-    answered(scan::scan(case::list(f), case::store(f), buffer))
+    scanned(scan::scan(case::list(f), case::store(f), buffer))
 }
 
 fn join_one(f: &[u8], buffer: &mut [u8]) -> usize {
@@ -104,7 +126,7 @@ fn search_room(f: &[u8], n: usize, buffer: &mut [u8]) -> usize {
 // Run number `way`; the index of a search has n bytes.
 fn run_one(way: usize, f: &[u8], n: usize, buffer: &mut [u8]) -> usize {
     fill(buffer, PATTERN);
-    if way < SCANS {
+    if is_scan(way) {
         return scan_one(f, buffer);
     }
     if way < JOINS {
@@ -123,8 +145,11 @@ fn run_front(way: usize, f: &[u8], n: usize, buffer: &mut [u8], room: usize) -> 
 
 // ---- the runs of both
 
-// The length of the buffer that is tried: of the index that is due for a scan, else of the list.
+// The length of the buffer that is tried: of the index that is due for a scan, the bound, else of the list.
 fn room_of(f: &[u8], way: usize) -> usize {
+    if way == BOUND {
+        return bound(f);
+    }
     if way < SCANS {
         return less(case::length_of(f, 2), way % 2);
     }
@@ -132,19 +157,19 @@ fn room_of(f: &[u8], way: usize) -> usize {
 }
 
 fn index_room(f: &[u8], way: usize) -> usize {
-    less(case::length_of(f, 2), way / SHORT_INDEX)
+    less(case::length_of(f, 2), (way == SHORT_INDEX) as usize)
 }
 
 // From where on the buffers must be the same: from the start, but behind an index that was written, since indexes differ in their order.
 fn from_where(way: usize, answer: usize) -> usize {
-    if way < SCANS {
+    if is_scan(way) {
         return answer / 1000 % 1000000;
     }
     0
 }
 
 fn operation_of(way: usize) -> usize {
-    if way < SCANS {
+    if is_scan(way) {
         return tally::SCAN;
     }
     if way < JOINS {
@@ -152,6 +177,14 @@ fn operation_of(way: usize) -> usize {
     } else {
         tally::SEARCH
     }
+}
+
+// An accepted scan.
+fn is_moved(way: usize, answer: usize) -> bool {
+    if is_scan(way) {
+        return answer % 1000 == 0;
+    }
+    false
 }
 
 fn run_both(counts: &mut [u64], way: usize, f: &[u8], g: &[u8], a: &mut [u8], b: &mut [u8]) {
@@ -162,6 +195,7 @@ fn run_both(counts: &mut [u64], way: usize, f: &[u8], g: &[u8], a: &mut [u8], b:
     let from = from_where(way, expected);
     let ok = same(a, from, b, from, less(room, from));
     paired(counts, operation_of(way), got, expected, ok);
+    saw(counts, tally::MOVES + 9, is_moved(way, expected));
 }
 
 pub fn runs_both(counts: &mut [u64], f: &[u8], g: &[u8], a: &mut [u8], b: &mut [u8]) {
@@ -252,8 +286,8 @@ fn put_index(g: &mut [u8], code: u8, n: usize, index: &[u8]) {
 
 // What the scan of a case's store writes becomes the case's index.
 pub fn scan_index(g: &mut [u8], buffer: &mut [u8]) {
-    let o = scan::scan(case::list(g), case::store(g), buffer);
-    put_index(g, code_of(o), value_of(o), buffer);
+    let s = scan::scan(case::list(g), case::store(g), buffer);
+    put_index(g, scanned_code(s), scanned_length(s), buffer);
 }
 
 fn kind_of(f: &[u8]) -> usize {

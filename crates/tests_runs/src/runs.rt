@@ -1,6 +1,7 @@
 // Runs of the library's operations on a case, each compared with what the plain computations expect: the number, the value, every byte of
 // the buffer. Buffers are filled with a pattern first; long ones, exact ones and ones a byte short are tried.
 use spec::Outcome;
+use spec::Scanned;
 use spec::Searched;
 use tests_plain::bytes::fill;
 use tests_plain::bytes::less;
@@ -11,11 +12,14 @@ use tests_plain::case::is_run;
 use tests_report::due::PATTERN;
 use tests_report::due::SEARCH_INDEX;
 use tests_report::due::as_due;
+use tests_report::due::bound;
 use tests_report::due::due_length;
 use tests_report::due::early_code;
 use tests_report::due::fill_both;
 use tests_report::due::late;
+use tests_report::due::moves_as_due;
 use tests_report::due::saw_buffer;
+use tests_report::due::saw_moves;
 use tests_report::due::saw_search;
 use tests_report::due::scan_late;
 use tests_report::due::search_late;
@@ -34,6 +38,27 @@ pub(crate) fn value_of(o: Outcome) -> usize {
     match o {
         Outcome::Done(n) => n,
         Outcome::Refused(_) => 0,
+    }
+}
+
+pub(crate) fn scanned_code(s: Scanned) -> u8 {
+    match s {
+        Scanned::Done(_, _) => 0,
+        Scanned::Refused(code) => code,
+    }
+}
+
+pub(crate) fn scanned_length(s: Scanned) -> usize {
+    match s {
+        Scanned::Done(n, _) => n,
+        Scanned::Refused(_) => 0,
+    }
+}
+
+pub(crate) fn scanned_moves(s: Scanned) -> u64 {
+    match s {
+        Scanned::Done(_, moves) => moves,
+        Scanned::Refused(_) => 0,
     }
 }
 
@@ -66,14 +91,23 @@ fn count_run(counts: &mut [u64], f: &[u8]) {
     }
 }
 
-fn scan_into(counts: &mut [u64], f: &[u8], buffer: &mut [u8]) {
+// A scan's length, moves and index, where it must answer `code`.
+fn scan_as_due(s: Scanned, code: u8, f: &[u8], buffer: &[u8]) -> bool {
     let due = case::index(f);
+    if moves_as_due(scanned_moves(s), code, case::moves(f)) {
+        return as_due(scanned_length(s), code, due.len(), buffer, due);
+    }
+    false
+}
+
+fn scan_into(counts: &mut [u64], f: &[u8], buffer: &mut [u8]) {
     fill(buffer, PATTERN);
     let c = scan_late(f, buffer.len());
-    let o = scan::scan(case::list(f), case::store(f), buffer);
-    let ok = as_due(value_of(o), c, due.len(), buffer, due);
-    compared(counts, tally::SCAN, code_of(o), c, ok);
-    saw_buffer(counts, 0, c, due.len(), buffer.len());
+    let s = scan::scan(case::list(f), case::store(f), buffer);
+    let ok = scan_as_due(s, c, f, buffer);
+    compared(counts, tally::SCAN, scanned_code(s), c, ok);
+    saw_buffer(counts, 0, c, case::length_of(f, 2), buffer.len());
+    saw_moves(counts, f, c, buffer.len());
 }
 
 fn join_into(counts: &mut [u64], f: &[u8], buffer: &mut [u8]) {
@@ -206,10 +240,22 @@ pub fn join_runs(counts: &mut [u64], f: &[u8], buffer: &mut [u8]) {
     run(counts, tally::JOIN, f, buffer);
 }
 
+// A scan that is accepted, into a buffer of the bound and one a byte shorter.
+fn bound_runs(counts: &mut [u64], f: &[u8], buffer: &mut [u8]) {
+    if case::scan_code(f) != 0 {
+        return;
+    }
+    if is_run(f, 0) {
+        run_front(counts, tally::SCAN, f, buffer, bound(f));
+        run_front(counts, tally::SCAN, f, buffer, less(bound(f), 1));
+    }
+}
+
 // The scan of a case, and its size.
 pub fn scan_runs(counts: &mut [u64], f: &[u8], buffer: &mut [u8]) {
     size_run(counts, f);
     run(counts, tally::SCAN, f, buffer);
+    bound_runs(counts, f, buffer);
 }
 
 pub fn search_runs(counts: &mut [u64], f: &[u8], buffer: &mut [u8]) {

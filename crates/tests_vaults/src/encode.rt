@@ -1,6 +1,5 @@
 // The model written as a case: the inputs in document 01's formats. Functions that write one thing after the other return the place behind.
 use tests_plain::bytes::copy;
-use tests_plain::bytes::get;
 use tests_plain::bytes::less;
 use tests_plain::bytes::num;
 use tests_plain::bytes::plus;
@@ -19,15 +18,15 @@ use tests_plain::model::chunk_at;
 use tests_plain::model::chunk_of;
 use tests_plain::model::chunk_size;
 use tests_plain::model::chunks;
-use tests_plain::model::count_of;
 use tests_plain::model::file_size;
 use tests_plain::model::files;
 use tests_plain::model::flag;
 use tests_plain::model::keyword_at;
 use tests_plain::model::keyword_size;
 use tests_plain::model::keywords;
-use tests_plain::model::mark_at;
 use tests_plain::model::partial_at;
+use tests_plain::records::count_of;
+use tests_plain::records::is_marked;
 
 // The keyword list, from `at` on; the place behind it.
 fn put_list_at(out: &mut [u8], at: usize, m: &[u8]) -> usize {
@@ -59,7 +58,7 @@ pub fn put_key(out: &mut [u8], at: usize, c: usize) {
 }
 
 // The 8 bytes that a store (0x56) and an index (0x4D) start with.
-pub(crate) fn put_mark(out: &mut [u8], at: usize, a: u8, n: usize) {
+pub fn put_mark(out: &mut [u8], at: usize, a: u8, n: usize) {
     copy(out, at, b"D.1\n", 0, 4);
     put(out, plus(at, 1), a);
     put_4(out, plus(at, 4), n);
@@ -91,8 +90,8 @@ fn put_chunk(out: &mut [u8], at: usize, m: &[u8], c: usize, size: usize) -> usiz
 
 // ---- records
 
-fn put_offset(out: &mut [u8], at: usize, p: usize, marked: u8) -> usize {
-    if marked != 1 {
+fn put_offset(out: &mut [u8], at: usize, p: usize, marked: bool) -> usize {
+    if !marked {
         return at;
     }
     put_2(out, at, p);
@@ -102,14 +101,14 @@ fn put_offset(out: &mut [u8], at: usize, p: usize, marked: u8) -> usize {
 fn put_offsets(out: &mut [u8], at: usize, m: &[u8], c: usize, k: usize, size: usize) -> usize {
     let mut a = at;
     for p in 0..size {
-        a = put_offset(out, a, p, get(m, mark_at(c, k, p)));
+        a = put_offset(out, a, p, is_marked(m, c, k, p));
     }
     a
 }
 
 fn first_of(m: &[u8], c: usize, k: usize, size: usize) -> usize {
     for p in 0..size {
-        if get(m, mark_at(c, k, p)) == 1 {
+        if is_marked(m, c, k, p) {
             return p;
         }
     }

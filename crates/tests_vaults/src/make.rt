@@ -36,7 +36,7 @@ fn letter(alphabet: usize, n: usize) -> u8 {
 }
 
 // Fills n bytes with letters.
-fn spell(m: &mut [u8], at: usize, n: usize, alphabet: usize, seed: u64) -> u64 {
+pub(crate) fn spell(m: &mut [u8], at: usize, n: usize, alphabet: usize, seed: u64) -> u64 {
     let mut s = seed;
     for i in 0..n {
         s = next(s);
@@ -62,7 +62,13 @@ fn keyword_length(kind: usize, k: usize, seed: u64) -> usize {
     plus(pick(seed, 4), 1)
 }
 
-fn make_keywords(m: &mut [u8], n: usize, kind: usize, alphabet: usize, seed: u64) -> u64 {
+pub(crate) fn make_keywords(
+    m: &mut [u8],
+    n: usize,
+    kind: usize,
+    alphabet: usize,
+    seed: u64,
+) -> u64 {
     let mut s = seed;
     for k in 0..n {
         s = next(s);

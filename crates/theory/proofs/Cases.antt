@@ -6,7 +6,7 @@ use Rattle.spec.specs.Bytes.{leValue, leBytes, fieldsOf, fieldsBytes, splice}
 use Rattle.spec.specs.Outcome.{answer, unlessRefused}
 use Rattle.spec.specs.Keywords.{isUpper, foldByte, folded, keywordListBytes, keywordsOf, listSize, foldedKeywords, keywordCode, keywordFrontCode}
 use Rattle.spec.specs.Form.{Form, formOf}
-use Rattle.spec.specs.Store.{storeDirectoryBytes, storeBytes, storeKeys, chunkAt, storeCode}
+use Rattle.spec.specs.Store.{storeDirectoryBytes, storeBytes, storeKeys, chunkAt, chunksOf, storeCode}
 use Rattle.spec.specs.Records.{MatchRecord, reach, prefixOf, suffixOf, offsetsOf, recordOf, recordsOf, inRange, offsetsBytes, fullBytes, headBytes, recordBytes}
 use Rattle.spec.specs.Records.{bodyFrom, readOffsets, readRecord, recordSize, readFrom, allInRange, goodBody}
 use Rattle.spec.specs.Index.{directoryBytes, entryBytes, indexBytes, indexLayout, indexKeys, bodyAt, lengthsIn, indexRecords, allGood, headerCode}
@@ -15,7 +15,8 @@ use Rattle.spec.specs.Table.{cellOf, inCell}
 use Rattle.spec.specs.Recipes.{fileBytes, recipesBytes, filesOf, recipesCode, fileCode, filesCode}
 use Rattle.spec.specs.Join.{occurrencesAt, crosses, listed, joinFrom, joinFiles, fileRecords, joinList, occurrenceBytes, listBytes, innerLeast}
 use Rattle.spec.specs.Join.{joinableCode, joinCode, joinOutcome, joinBuffer}
-use Rattle.spec.specs.Scan.{scanRecords, scanBody, scanEntry, scanIndex, scannableCode, scanCode, scanOutcome, scanBuffer}
+use Rattle.spec.specs.Scan.{scanRecords, scanBody, scanEntry, scanIndex, scannableCode, scanCode, scanOutcome, scanAnswer, scanBuffer}
+use Rattle.spec.proofs.MoveExamples.{moving}
 use Rattle.theory.specs.Cases.{Cases}
 
 -- the definitions that the cases compute with: of bytes and outcomes, keyword lists, stores and recipes, records, bodies and cells, index files,
@@ -29,7 +30,7 @@ unfolding isUpper foldByte folded keywordListBytes keywordsOf listSize foldedKey
 keywordDefinitions = 0
 
 unfoldable storeDefinitions : ℕ
-unfolding storeDirectoryBytes storeBytes storeKeys chunkAt storeCode fileBytes recipesBytes filesOf recipesCode fileCode filesCode
+unfolding storeDirectoryBytes storeBytes storeKeys chunkAt chunksOf storeCode fileBytes recipesBytes filesOf recipesCode fileCode filesCode
 storeDefinitions = 0
 
 unfoldable recordDefinitions : ℕ
@@ -49,7 +50,7 @@ unfolding occurrencesAt crosses listed joinFrom joinFiles fileRecords joinList o
 joinDefinitions = 0
 
 unfoldable scanDefinitions : ℕ
-unfolding scanRecords scanBody scanEntry scanIndex scannableCode scanCode scanOutcome scanBuffer
+unfolding scanRecords scanBody scanEntry scanIndex scannableCode scanCode scanOutcome scanAnswer scanBuffer moving
 scanDefinitions = 0
 
 unfoldable pub definitions : ℕ
@@ -79,6 +80,9 @@ cases =
       as254 = refl;
       as255 = refl;
       as256 = refl;
+      moves = (refl, refl, refl);
+      chunkByChunk = (refl, refl, refl);
+      foldedMoves = (refl, refl, refl);
       bMatchesB = (refl, refl);
       braceAndBracket = refl;
       alike = (refl, refl);

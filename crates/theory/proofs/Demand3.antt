@@ -10,6 +10,8 @@ use lib.ListN.{length, take, drop}
 use lib.Seq.{take-at}
 use lib.Dec.{ltb}
 use borrow.Author.Tests.{ltb-false, le-ltb, ne-eqb}
+use Rattle.spec.specs.declared.Outcome.{Outcome}
+use Rattle.spec.specs.declared.Outcome.the-variants.{Done, Refused}
 use Rattle.spec.specs.Bytes.{splice, written}
 use Rattle.spec.specs.Outcome.{codeOf, valueOf, answer, unlessRefused}
 use Rattle.spec.specs.Keywords.{keywordCode}
@@ -18,7 +20,8 @@ use Rattle.spec.specs.Store.{storeLayout, storeKeys, storeCode}
 use Rattle.spec.specs.Form.{newest, formOf}
 use Rattle.spec.specs.Recipes.{largest32, filesOf, recipesCode, filesCode}
 use Rattle.spec.specs.Join.{listBytes, innerLeast, joinOutcome, joinBuffer, readList}
-use Rattle.spec.specs.Scan.{scanIndex, scannableCode, scanCode, scanOutcome, scanBuffer}
+use Rattle.spec.specs.Trie.{scanMoves}
+use Rattle.spec.specs.Scan.{scanIndex, scannableCode, scanCode, scanOutcome, withMoves, scanAnswer, scanBuffer, scannedCode, scannedLength}
 use Rattle.spec.specs.Search.{directSearch, searchJoinCode}
 use Rattle.spec.proofs.Codes.{passed, passed-whole, or-left, or-right}
 use Rattle.spec.proofs.Forms.{newest-read}
@@ -38,6 +41,15 @@ pub value-of-answer : (code value : ℕ) → code ≡ 0 → valueOf (answer code
 unfolding answer
 value-of-answer code value e = rw e
 
+-- moves change neither the number of an answer nor its length
+code-with-moves : (o : Outcome) (moves : ℕ) → scannedCode (withMoves o moves) ≡ codeOf o
+code-with-moves (Done size) moves = refl
+code-with-moves (Refused code) moves = refl
+
+length-with-moves : (o : Outcome) (moves : ℕ) → scannedLength (withMoves o moves) ≡ valueOf o
+length-with-moves (Done size) moves = refl
+length-with-moves (Refused code) moves = refl
+
 -- what was written is read at the start of the buffer
 written-front : (buffer bytes : List ℕ) → take (length bytes) (written buffer bytes) ≡ bytes
 unfolding splice
@@ -51,6 +63,20 @@ worked-buffer code out bytes e = rw e
 -- ---- the scan
 
 module _ (list store : List ℕ) where
+  -- the number of its answer is its tests' number; where that is 0 its length is the index's
+  pub scan-number : (room : ℕ) → scannedCode (scanAnswer newest list store room) ≡ scanCode newest list store room
+  unfolding scanAnswer scanOutcome
+  scan-number room =
+      code-with-moves (scanOutcome newest list store room) (scanMoves list store)
+      ∙ code-of-answer (scanCode newest list store room) (length (scanIndex newest list store))
+
+  pub scanned-length : (room : ℕ) → scanCode newest list store room ≡ 0
+      → scannedLength (scanAnswer newest list store room) ≡ length (scanIndex newest list store)
+  unfolding scanAnswer scanOutcome
+  scanned-length room e =
+      length-with-moves (scanOutcome newest list store room) (scanMoves list store)
+      ∙ value-of-answer (scanCode newest list store room) (length (scanIndex newest list store)) e
+
   pub scan-done : (room : ℕ) → (scanCode newest list store room ≡ 0) ↔ NoScanRefusal list store room
   unfolding scanCode scannableCode
   scan-done room = (there, back)
@@ -110,8 +136,8 @@ module _ (list store : List ℕ) where
 
   -- the scan's buffer starts with the index, so that a reader goes by the newest form
   pub scanned-is : (buffer : List ℕ) → scanCode newest list store (length buffer) ≡ 0 → scanned list store buffer ≡ scanIndex newest list store
-  unfolding scanOutcome scanBuffer unlessRefused answer
-  scanned-is buffer e = rw e (written-front buffer (scanIndex newest list store))
+  unfolding scanBuffer unlessRefused
+  scanned-is buffer e = rw (scanned-length (length buffer) e, e) (written-front buffer (scanIndex newest list store))
 
   pub scanned-form : (buffer : List ℕ) → scanCode newest list store (length buffer) ≡ 0 → formOf (scanned list store buffer) ≡ newest
   scanned-form buffer e = ap formOf (scanned-is buffer e) ∙ scan-form list store
@@ -141,10 +167,8 @@ module _ (list store : List ℕ) where
       }
 
 pub scan-and-join : (list store recipes buffer out : List ℕ) → ScanAndJoin list store recipes buffer out
-unfolding scanOutcome
 scan-and-join list store recipes buffer out =
-    let q : codeOf (scanOutcome newest list store (length buffer)) ≡ scanCode newest list store (length buffer) =
-    code-of-answer (scanCode newest list store (length buffer)) (length (scanIndex newest list store)) in
+    let q : scannedCode (scanAnswer newest list store (length buffer)) ≡ scanCode newest list store (length buffer) = scan-number list store (length buffer) in
     record {
       scan = (λ z. scan-done list store (length buffer) .0 (sym q ∙ z), λ n. q ∙ scan-done list store (length buffer) .1 n);
       join = λ z.

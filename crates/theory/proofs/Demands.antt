@@ -1,28 +1,29 @@
 -- Demands 1, 2 and 3. Demand 1 goes by the two cases of an answer; demand 2 gathers what is proved of records and index files; demand 3 is
 -- `scan-and-join` said of two calls, with "stands at" byte by byte. Assumes nothing.
 use mathlib.Core.Path.{_≡_, refl, sym, ap, ap₂, _∙_}
-use mathlib.Core.Logic.{_↔_, _≢_, _⊎_, inl, inr}
-use mathlib.Core.Bool.{Bool, true, false, _&&_, cond}
-use mathlib.Core.List.{List, [], _∷_, map}
-use Prim.Native.Nat.{ℕ, zero, suc, _+_, _≤_, _<_}
+use mathlib.Core.Logic.{_≢_}
+use mathlib.Core.Bool.{Bool, true, _&&_, cond}
+use mathlib.Core.List.{List, [], _∷_}
+use Prim.Native.Nat.{ℕ, zero, suc, _≤_, _<_}
 use native.Mathlib.Omega.{arith}
 use lib.Dec.{eqb, ltb}
 use lib.ListN.{length, take, getD, length-map}
 use borrow.Author.Tests.{ltb-true, lt-ltb, ne-eqb}
 use Rattle.spec.specs.declared.Outcome.{Outcome}
-use Rattle.spec.specs.declared.Outcome.the-variants.{Done, Refused}
+use Rattle.spec.specs.declared.Scanned.{Scanned}
 use Rattle.spec.specs.declared.Searched.the-variants.{ScanRefused, JoinRefused, Found}
 use Rattle.spec.specs.Bytes.{part, written, occursAt}
 use Rattle.spec.specs.Outcome.{firstOf, whole, codeOf, valueOf, answer, unlessRefused}
 use Rattle.spec.specs.Keywords.{flagOf, folded, keywordsOf, foldedKeywords, keywordCode}
-use Rattle.spec.specs.Directory.{Layout, offsetAt, lengthAt}
+use Rattle.spec.specs.Directory.{Layout}
 use Rattle.spec.specs.Store.{storeLayout, storeKeys, storeCode}
 use Rattle.spec.specs.Form.{newest, formOf}
 use Rattle.spec.specs.Recipes.{filesOf}
 use Rattle.spec.specs.Index.{indexLayout, indexKeys, indexCode}
 use Rattle.spec.specs.Join.{Occurrence, keywordAt, joinList, listBytes, readList, joinCode, joinOutcome, joinBuffer}
 use Rattle.spec.specs.Lookup.{lookupCode, lookupStart, lookupLength, findChunk, chunkStart, chunkLength, chunkOf, findBody, bodyStart, bodyLength, bodyOf}
-use Rattle.spec.specs.Scan.{scanIndex, scanCode, scanOutcome, scanBuffer}
+use Rattle.spec.specs.Trie.{scanMoves}
+use Rattle.spec.specs.Scan.{scanIndex, scanCode, scanOutcome, withMoves, scanAnswer, scanBuffer, scannedCode, scannedLength}
 use Rattle.spec.specs.Search.{restored, directSearch, searchJoinCode, searchCode, searchOutcome, searchBuffer, searchedCode}
 use Rattle.spec.proofs.Codes.{answer-done, answer-refused, buffer-done, buffer-refused}
 use Rattle.spec.proofs.Tests.{and-left, and-right}
@@ -32,8 +33,8 @@ use Rattle.spec.proofs.ScanLaws.{newest-scans, scan-form}
 use Rattle.theory.specs.SearchList.{isIn, inOrder, occursIn}
 use Rattle.theory.specs.RecordSets.{Says, scannedRecords}
 use Rattle.theory.specs.Demand3.{restoredFiles, scanned}
-use Rattle.theory.specs.Demands.{Answered, SearchAnswered, LookupAnswered, Demand1, Demand2, StandsAt, StandsIn, Calls, Claim, Demand3}
-use Rattle.theory.proofs.Demand3.{code-of-answer, value-of-answer, scan-done, scanned-is, scan-and-join}
+use Rattle.theory.specs.Demands.{Answered, ScanAnswered, LookupAnswered, Demand1, Demand2, StandsIn, Calls, Claim, Demand3}
+use Rattle.theory.proofs.Demand3.{code-of-answer, value-of-answer, scan-number, scanned-is, scan-and-join}
 use Rattle.theory.proofs.SearchList.{order-once}
 use Rattle.theory.proofs.IndexTheorems.{scan-says}
 use Rattle.theory.proofs.WrittenBytes.{written-once}
@@ -49,6 +50,16 @@ answered code value worked buffer =
       done = λ e. (sym (answer-done code value e), sym (buffer-done code worked buffer e));
       refused = λ d. (sym (answer-refused code value d), sym (buffer-refused code worked buffer d));
     }
+
+-- the scan's, with its moves
+scan-answered : (list store buffer : List ℕ)
+    → ScanAnswered list store buffer (scanAnswer newest list store (length buffer)) (scanBuffer newest list store buffer)
+unfolding scanAnswer scanOutcome scanBuffer
+scan-answered list store buffer =
+    let index = scanIndex newest list store in
+    let a = answered (scanCode newest list store (length buffer)) (length index) (written buffer index) buffer in
+    let moved : Outcome → Scanned = λ o. withMoves o (scanMoves list store) in
+    record { done = λ e. (ap moved (a .done e .0), a .done e .1); refused = λ d. (ap moved (a .refused d .0), a .refused d .1) }
 
 not-zero : (n : ℕ) → suc n ≢ 0
 not-zero n z = let y : ⊥ = omega arith in absurd y
@@ -74,11 +85,10 @@ lookup-answered code layout bytes keys key =
     record { empty = λ d. (rw (ne-eqb (lookupCode code keys key) 0 d), rw (ne-eqb (lookupCode code keys key) 0 d)) }
 
 pub demand-1 : Demand1
-unfolding scanOutcome scanBuffer joinOutcome joinBuffer searchBuffer findChunk chunkStart chunkLength chunkOf findBody bodyStart bodyLength bodyOf
+unfolding scanBuffer joinOutcome joinBuffer searchBuffer findChunk chunkStart chunkLength chunkOf findBody bodyStart bodyLength bodyOf
 demand-1 =
     record {
-      scan = λ list store buffer.
-          answered (scanCode newest list store (length buffer)) (length (scanIndex newest list store)) (written buffer (scanIndex newest list store)) buffer;
+      scan = scan-answered;
       join = λ index recipes buffer.
           answered (joinCode (formOf index) index recipes (length buffer)) (length (joinList (formOf index) index recipes))
           (written buffer (listBytes (joinList (formOf index) index recipes))) buffer;
@@ -97,14 +107,12 @@ demand-1 =
 -- ---- demand 2
 
 pub demand-2 : Demand2
-unfolding scanOutcome
 demand-2 = record { published = scan-published; says = scan-says-it; once = written-once }
   where
-    scan-says-it : (list store buffer : List ℕ) → codeOf (answer (scanCode newest list store (length buffer)) (length (scanIndex newest list store))) ≡ 0
+    scan-says-it : (list store buffer : List ℕ) → scannedCode (scanAnswer newest list store (length buffer)) ≡ 0
         → Says (formOf (scanned list store buffer)) list (scannedRecords list store) (scanned list store buffer)
     scan-says-it list store buffer e =
-        let c : scanCode newest list store (length buffer) ≡ 0 =
-        sym (code-of-answer (scanCode newest list store (length buffer)) (length (scanIndex newest list store))) ∙ e in
+        let c : scanCode newest list store (length buffer) ≡ 0 = sym (scan-number list store (length buffer)) ∙ e in
         rw (scanned-is list store buffer c, scan-form list store) (scan-says newest newest-scans list store (length buffer) c)
 
 -- ---- demand 3
@@ -175,8 +183,8 @@ module _ (list store recipes : List ℕ) (accept : keywordCode list ≡ 0) (o : 
       )
 
 module _ (list store recipes buffer out : List ℕ) where
-  abbrev scan : Outcome
-  scan = scanOutcome newest list store (length buffer)
+  abbrev scan : Scanned
+  scan = scanAnswer newest list store (length buffer)
 
   abbrev join : Outcome
   join = joinOutcome (formOf (scanned list store buffer)) (scanned list store buffer) recipes (length out)
@@ -184,17 +192,17 @@ module _ (list store recipes buffer out : List ℕ) where
   abbrev after : List ℕ
   after = joinBuffer (formOf (scanned list store buffer)) (scanned list store buffer) recipes out
 
-  claim-found : codeOf scan ≡ 0 → codeOf join ≡ 0 → readList (valueOf join) after ≡ directSearch list store recipes
+  claim-found : scannedCode scan ≡ 0 → codeOf join ≡ 0 → readList (valueOf join) after ≡ directSearch list store recipes
   claim-found s j = scan-and-join list store recipes buffer out .join s .listed j
 
-  claim-count : codeOf scan ≡ 0 → codeOf join ≡ 0 → valueOf join ≡ length (directSearch list store recipes)
+  claim-count : scannedCode scan ≡ 0 → codeOf join ≡ 0 → valueOf join ≡ length (directSearch list store recipes)
   claim-count s j =
       let o = scan-and-join list store recipes buffer out .join s .outcome in
       ap valueOf o
       ∙ value-of-answer (searchJoinCode newest list store recipes (length out)) (length (directSearch list store recipes))
       (sym (ap codeOf o ∙ code-of-answer (searchJoinCode newest list store recipes (length out)) (length (directSearch list store recipes))) ∙ j)
 
-  claim-ordered : codeOf scan ≡ 0 → codeOf join ≡ 0 → inOrder (readList (valueOf join) after) ≡ true
+  claim-ordered : scannedCode scan ≡ 0 → codeOf join ≡ 0 → inOrder (readList (valueOf join) after) ≡ true
   claim-ordered s j = ap inOrder (claim-found s j) ∙ scan-and-join list store recipes buffer out .search .ordered
 
   claim-at : Claim list store recipes buffer out scan join after
@@ -223,10 +231,10 @@ module _ (list store recipes buffer out : List ℕ) where
 pub demand-3 : Demand3
 demand-3 = record { calls = of-calls }
   where
-    of-calls : (list store recipes buffer out : List ℕ) (scan join : Outcome) (buffer′ index out′ : List ℕ)
+    of-calls : (list store recipes buffer out : List ℕ) (scan : Scanned) (join : Outcome) (buffer′ index out′ : List ℕ)
         → Calls list store recipes buffer out scan join buffer′ index out′ → Claim list store recipes buffer out scan join out′
     of-calls list store recipes buffer out scan join buffer′ index out′ c =
-        let i : index ≡ scanned list store buffer = c .handed ∙ ap₂ (λ (a : Outcome) (b : List ℕ). take (valueOf a) b) (c .scanned) (c .wrote) in
+        let i : index ≡ scanned list store buffer = c .handed ∙ ap₂ (λ (a : Scanned) (b : List ℕ). take (scannedLength a) b) (c .scanned) (c .wrote) in
         let j : join ≡ joinOutcome (formOf (scanned list store buffer)) (scanned list store buffer) recipes (length out) =
         c .joined ∙ ap (λ (x : List ℕ). joinOutcome (formOf x) x recipes (length out)) i in
         let o : out′ ≡ joinBuffer (formOf (scanned list store buffer)) (scanned list store buffer) recipes out =

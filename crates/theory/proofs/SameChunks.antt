@@ -1,10 +1,10 @@
 -- Request #101: two accepted stores with the same chunks, in any two orders, answer the same, and so do two scans and two joins. No fingerprint is twice,
--- so each stands for the same bytes in both; lookups, bodies, tests 15 to 17 and the direct search go by fingerprint; lengths are sums (AnyOrder).
--- Assumes nothing.
+-- so each stands for the same bytes in both; lookups, bodies, tests 15 to 17 and the direct search go by fingerprint; lengths and moves are sums
+-- over the chunks (AnyOrder). Assumes nothing.
 use mathlib.Core.Path.{_≡_, refl, sym, ap, ap₂, _∙_}
 use mathlib.Core.Logic.{_≢_, ⊎-elim}
 use mathlib.Core.Bool.{Bool, true, false, cond, false≢true}
-use mathlib.Core.List.{List, [], _∷_, map}
+use mathlib.Core.List.{List, [], _∷_, map, map-map}
 use Prim.Native.Nat.{ℕ, zero, suc, _+_, _*_, _<_}
 use native.Mathlib.Nat.{zero-add}
 use native.Mathlib.Omega.{arith}
@@ -12,18 +12,20 @@ use borrow.Author.Tests.{lt-ltb, ne-eqb}
 use lib.Dec.{eqb, ltb}
 use lib.ListN.{length, take, getD, length-append}
 use Rattle.spec.specs.declared.Outcome.{Outcome}
+use Rattle.spec.specs.declared.Scanned.{Scanned}
 use Rattle.spec.specs.declared.Searched.the-variants.{ScanRefused, JoinRefused, Found}
 use Rattle.spec.specs.Bytes.{written, part, same, contains, positionOf, every, sum, joined}
 use Rattle.spec.specs.Outcome.{firstOf, firstCode, whole, codeOf, valueOf, answer, unlessRefused}
 use Rattle.spec.specs.Keywords.{flagOf, folded, foldedKeywords}
 use Rattle.spec.specs.Directory.{Layout, pointedAt, sizeAt}
-use Rattle.spec.specs.Store.{Chunk, storeLayout, chunkCount, storeKeys, chunkAt, storeCode}
+use Rattle.spec.specs.Store.{Chunk, storeLayout, chunkCount, storeKeys, chunkAt, chunksOf, storeCode}
 use Rattle.spec.specs.Form.{Form, newest, formOf}
 use Rattle.spec.specs.Index.{Entry, indexBytes, indexLayout, indexKeys, bodyAt, indexCode}
 use Rattle.spec.specs.Recipes.{sizesIn, fileCode, filesCode, filesOf, recipesCode}
 use Rattle.spec.specs.Join.{Occurrence, joinList, listBytes, innerLeast, joinCode, joinOutcome, joinBuffer, readList}
 use Rattle.spec.specs.Lookup.{lookupCode, lookupStart, lookupLength, findChunk, chunkStart, chunkLength, chunkOf, findBody, bodyStart, bodyLength, bodyOf}
-use Rattle.spec.specs.Scan.{scanBody, scanEntry, scanIndex, scannableCode, scanCode, scanOutcome}
+use Rattle.spec.specs.Trie.{movesOf, movesOfAll, scanMoves}
+use Rattle.spec.specs.Scan.{scanBody, scanEntry, scanIndex, scannableCode, scanCode, scanOutcome, withMoves, scanAnswer, scannedLength}
 use Rattle.spec.specs.Search.{chunkNamed, restored, directSearch, occurrencesInAll, searchJoinCode, searchCode, searchOutcome, searchBuffer, searchedCount}
 use Rattle.spec.proofs.Tests.{bool-cases, and-left, and-right}
 use Rattle.spec.proofs.Codes.{passed-whole, buffer-done, buffer-refused}
@@ -43,7 +45,7 @@ use Rattle.theory.specs.WrittenInputs.{storedChunk, storedChunks}
 use Rattle.theory.proofs.AnyOrder.{weigh, weigh-le, weigh-same, weigh-one}
 use Rattle.theory.proofs.ScanThenJoin.{position-in, answer-same, buffer-same}
 use Rattle.theory.proofs.Cases.{definitions}
-use Rattle.theory.proofs.Demand3.{code-of-answer, value-of-answer, join-outcome, join-buffer, scanned-is, scanned-form, join-of-scan}
+use Rattle.theory.proofs.Demand3.{code-of-answer, value-of-answer, scan-number, join-outcome, join-buffer, scanned-is, scanned-form, join-of-scan}
 
 -- ---- a fingerprint stands for the same bytes in both stores
 
@@ -140,6 +142,35 @@ slice-is code layout bytes keys key = ⊎-elim (λ t. rw t) (λ f. rw f) (bool-c
 lookup-known : (code : ℕ) (keys : List (List ℕ)) (key : List ℕ) → lookupCode code keys key ≡ 0 → contains key keys ≡ true
 lookup-known code keys key e = contains-position key keys ∙ lt-ltb (positionOf key keys) (length keys) (lookup-passed code keys key e .2)
 
+-- ---- sums over the chunks of a store
+
+module _ (store : List ℕ) (good : StoreGood store) (g : List ℕ → ℕ) where
+  -- g of the chunk that a fingerprint names
+  abbrev named : List ℕ → ℕ
+  named key = g (chunkNamed store key)
+
+  -- by entry, and by fingerprint
+  by-entry : (k : ℕ) → k < chunkCount store → g (chunkAt store k) ≡ named (getD (storeKeys store) k [])
+  by-entry k l = ap (λ (j : ℕ). g (chunkAt store j)) (sym (position-at (storeKeys store) k (good .differ) (omega (arith, length-storeKeys store))))
+
+  by-fingerprint : tabulated (λ k. g (chunkAt store k)) 0 (chunkCount store) ≡ map named (storeKeys store)
+  by-fingerprint =
+      tabulated-same (λ k. g (chunkAt store k)) (λ k. named (getD (storeKeys store) k [])) (chunkCount store) by-entry
+      ∙ sym (map-tabulated named (λ k. getD (storeKeys store) k []) 0 (chunkCount store))
+      ∙ ap (map named) (tabulated-getD (storeKeys store) [] (chunkCount store) (length-storeKeys store))
+
+-- The moves that a chunk takes, as it compares.
+abbrev chunkMoves : List ℕ → List ℕ → ℕ
+chunkMoves list chunk = movesOf (foldedKeywords list) (folded (flagOf list) chunk)
+
+scan-moves-are : (list store : List ℕ) → StoreGood store → scanMoves list store ≡ weigh (λ key. chunkMoves list (chunkNamed store key)) (storeKeys store)
+unfolding scanMoves movesOfAll chunksOf
+scan-moves-are list store good =
+    ap sum
+    (map-map (movesOf (foldedKeywords list)) (folded (flagOf list)) (tabulated (chunkAt store) 0 (chunkCount store))
+    ∙ map-tabulated (chunkMoves list) (chunkAt store) 0 (chunkCount store)
+    ∙ by-fingerprint store good (chunkMoves list))
+
 -- ---- the length of a scan's index
 
 length-bodies : (es : List Entry) → length (bodiesOf es) ≡ sum (map (λ e. length (e .body)) es)
@@ -166,19 +197,11 @@ module _ (f : Form) (list store : List ℕ) (good : StoreGood store) where
       let at : getD entries k noEntry ≡ scanEntry f list store k = tabulated-at (scanEntry f list store) 0 (chunkCount store) k noEntry m ∙ rw zero-add in
       rw at (record { long = store-key-length store good k m; small = omega (arith, store-size-most store good k m) })
 
-  -- by entry, and by fingerprint
-  size-at : (k : ℕ) → k < chunkCount store → length (scanBody f list (chunkAt store k)) ≡ bodySize (getD (storeKeys store) k [])
-  size-at k l =
-      ap (λ (j : ℕ). length (scanBody f list (chunkAt store j)))
-      (sym (position-at (storeKeys store) k (good .differ) (omega (arith, length-storeKeys store))))
-
   sizes-are : map (λ e. length (e .body)) entries ≡ map bodySize (storeKeys store)
   unfolding scanEntry
   sizes-are =
       map-tabulated (λ e. length (e .body)) (scanEntry f list store) 0 (chunkCount store)
-      ∙ tabulated-same (λ k. length (scanBody f list (chunkAt store k))) (λ k. bodySize (getD (storeKeys store) k [])) (chunkCount store) size-at
-      ∙ sym (map-tabulated bodySize (λ k. getD (storeKeys store) k []) 0 (chunkCount store))
-      ∙ ap (map bodySize) (tabulated-getD (storeKeys store) [] (chunkCount store) (length-storeKeys store))
+      ∙ by-fingerprint store good (λ chunk. length (scanBody f list chunk))
 
   scan-length-is : length (scanIndex f list store) ≡ length (f .mark) + 4 + length list + 32 * chunkCount store + weigh bodySize (storeKeys store)
   unfolding scanIndex
@@ -254,18 +277,28 @@ module _ (store other : List ℕ) (a : Alike store other) where
   pub same-count : chunkCount store ≡ chunkCount other
   same-count = sym (weigh-one (storeKeys store) ∙ length-storeKeys store) ∙ weighs (λ key. 1) ∙ weigh-one (storeKeys other) ∙ length-storeKeys other
 
-  module _ (f : Form) (list : List ℕ) where
-    same-sums : weigh (bodySize f list store (a .stored)) (storeKeys store) ≡ weigh (bodySize f list other (a .storedOther)) (storeKeys other)
-    same-sums =
-        weigh-same _ _ (storeKeys store) (λ key c. ap (λ (chunk : List ℕ). length (scanBody f list chunk)) (a .named key c))
-        ∙ weighs (bodySize f list other (a .storedOther))
+  -- whatever is summed over the chunks
+  same-sums : (g : List ℕ → ℕ) → weigh (λ key. g (chunkNamed store key)) (storeKeys store) ≡ weigh (λ key. g (chunkNamed other key)) (storeKeys other)
+  same-sums g = weigh-same _ _ (storeKeys store) (λ key c. ap g (a .named key c)) ∙ weighs (λ key. g (chunkNamed other key))
 
+  -- request #103: the moves
+  pub same-moves : (list : List ℕ) → scanMoves list store ≡ scanMoves list other
+  same-moves list = scan-moves-are list store (a .stored) ∙ same-sums (chunkMoves list) ∙ sym (scan-moves-are list other (a .storedOther))
+
+  module _ (f : Form) (list : List ℕ) where
     pub same-index-length : length (scanIndex f list store) ≡ length (scanIndex f list other)
-    same-index-length = scan-length-is f list store (a .stored) ∙ rw (same-count, same-sums) (sym (scan-length-is f list other (a .storedOther)))
+    same-index-length =
+        scan-length-is f list store (a .stored)
+        ∙ rw (same-count, same-sums (λ chunk. length (scanBody f list chunk))) (sym (scan-length-is f list other (a .storedOther)))
 
     pub same-scan-code : (room : ℕ) → scanCode f list store room ≡ scanCode f list other room
     unfolding scanCode scannableCode
     same-scan-code room = rw (a .code, a .codeOther, same-index-length)
+
+    -- scans both done, or refused alike
+    pub same-scan : (room room₂ : ℕ) → scanCode f list store room ≡ scanCode f list other room₂ → scanAnswer f list store room ≡ scanAnswer f list other room₂
+    unfolding scanAnswer scanOutcome
+    same-scan room room₂ e = ap₂ withMoves (ap₂ answer e same-index-length) (same-moves list)
 
   -- ---- tests 15, 16 and 17
 
@@ -443,22 +476,17 @@ module _ (store other : List ℕ) (a : Alike store other) where
 
 -- ---- the claim
 
-scan-number : (list store : List ℕ) (room : ℕ) → codeOf (scanOutcome newest list store room) ≡ scanCode newest list store room
-unfolding scanOutcome
-scan-number list store room = code-of-answer (scanCode newest list store room) (length (scanIndex newest list store))
-
 -- Request #101: two accepted stores that hold the same fingerprints with the same bytes, in any two orders.
 pub same-chunks : (list store other : List ℕ) → Reordered store other → SameChunks list store other
-unfolding scanOutcome
 same-chunks list store other r =
     let a = stores-alike store other r in
     record {
       find = same-find store other a;
       chunk = same-chunk store other a;
       count = same-count store other a;
-      scan = λ room. ap₂ answer (same-scan-code store other a newest list room) (same-index-length store other a newest list);
+      scan = λ room. same-scan store other a newest list room room (same-scan-code store other a newest list room);
       written = λ room room₂ e e₂.
-          ap₂ answer (sym (scan-number list store room) ∙ e ∙ sym e₂ ∙ scan-number list other room₂) (same-index-length store other a newest list);
+          same-scan store other a newest list room room₂ (sym (scan-number list store room) ∙ e ∙ sym e₂ ∙ scan-number list other room₂);
       indexes = λ buffer buffer₂ e e₂.
           answer-alike store other a list buffer buffer₂
           (sym (scan-number list store (length buffer)) ∙ e)
@@ -492,7 +520,7 @@ join-kept index recipes out d =
 -- of what the contracts say the calls do; it goes by the fields of `SameChunks` alone
 calls-alike : (list store other : List ℕ) → SameChunks list store other → (recipes buffer buffer₂ out out₂ : List ℕ)
     → SameCalls buffer buffer₂ out out₂
-    (scanOutcome newest list store (length buffer)) (scanOutcome newest list other (length buffer₂))
+    (scanAnswer newest list store (length buffer)) (scanAnswer newest list other (length buffer₂))
     (joinOutcome (formOf (scanned list store buffer)) (scanned list store buffer) recipes (length out))
     (joinOutcome (formOf (scanned list other buffer₂)) (scanned list other buffer₂) recipes (length out₂))
     (scanned list store buffer) (scanned list other buffer₂)
@@ -502,8 +530,8 @@ calls-alike list store other s recipes buffer buffer₂ out out₂ =
     let index = scanned list store buffer in
     let index₂ = scanned list other buffer₂ in
     record {
-      scans = λ l. ap (scanOutcome newest list store) l ∙ s .scan (length buffer₂);
-      lengths = λ e. s .written (length buffer) (length buffer₂) (e .0) (e .1);
+      scans = λ l. ap (scanAnswer newest list store) l ∙ s .scan (length buffer₂);
+      reports = λ e. s .written (length buffer) (length buffer₂) (e .0) (e .1);
       indexes = λ e. s .indexes buffer buffer₂ (e .0) (e .1);
       joins = λ e l.
           let a = s .indexes buffer buffer₂ (e .0) (e .1) in
@@ -518,10 +546,10 @@ calls-alike list store other s recipes buffer buffer₂ out out₂ =
     }
 
 -- the index that a join is handed, its answer and its buffer, of the scan alone
-module _ (list store recipes buffer out : List ℕ) (scan join : Outcome) (buffer′ index out′ : List ℕ)
+module _ (list store recipes buffer out : List ℕ) (scan : Scanned) (join : Outcome) (buffer′ index out′ : List ℕ)
     (c : Calls list store recipes buffer out scan join buffer′ index out′) where
   index-is : index ≡ scanned list store buffer
-  index-is = c .handed ∙ ap₂ (λ (a : Outcome) (b : List ℕ). take (valueOf a) b) (c .scanned) (c .wrote)
+  index-is = c .handed ∙ ap₂ (λ (a : Scanned) (b : List ℕ). take (scannedLength a) b) (c .scanned) (c .wrote)
 
   join-is : join ≡ joinOutcome (formOf (scanned list store buffer)) (scanned list store buffer) recipes (length out)
   join-is = c .joined ∙ ap (λ (x : List ℕ). joinOutcome (formOf x) x recipes (length out)) index-is
@@ -531,8 +559,8 @@ module _ (list store recipes buffer out : List ℕ) (scan join : Outcome) (buffe
 
 -- Request #101 of four calls: a scan and a join on each of the two stores, with the same keyword list and recipes.
 pub same-chunks-of-calls : (list store other recipes : List ℕ) → Reordered store other
-    → (buffer out : List ℕ) (scan join : Outcome) (buffer′ index out′ : List ℕ) → Calls list store recipes buffer out scan join buffer′ index out′
-    → (buffer₂ out₂ : List ℕ) (scan₂ join₂ : Outcome) (buffer₂′ index₂ out₂′ : List ℕ)
+    → (buffer out : List ℕ) (scan : Scanned) (join : Outcome) (buffer′ index out′ : List ℕ) → Calls list store recipes buffer out scan join buffer′ index out′
+    → (buffer₂ out₂ : List ℕ) (scan₂ : Scanned) (join₂ : Outcome) (buffer₂′ index₂ out₂′ : List ℕ)
     → Calls list other recipes buffer₂ out₂ scan₂ join₂ buffer₂′ index₂ out₂′
     → SameCalls buffer buffer₂ out out₂ scan scan₂ join join₂ index index₂ out′ out₂′
 same-chunks-of-calls list store other recipes r buffer out scan join buffer′ index out′ c buffer₂ out₂ scan₂ join₂ buffer₂′ index₂ out₂′ d =
@@ -556,6 +584,7 @@ small-reordered =
     record {
       same = record { accepted = refl; acceptedThere = refl; chunks = refl };
       elsewhere = (refl, refl);
+      scan = refl;
       entries = refl;
       list = (refl, refl);
       otherByte = refl;

@@ -9,11 +9,14 @@ use lib.ListN.{length, take}
 use borrow.Author.Tests.{ne-eqb, lt-ltb}
 use Rattle.spec.specs.declared.Outcome.{Outcome}
 use Rattle.spec.specs.declared.Outcome.the-variants.{Done, Refused}
+use Rattle.spec.specs.declared.Scanned.{Scanned}
+use Rattle.spec.specs.declared.Scanned.the-variants as Scanned
 use Rattle.spec.specs.declared.Searched.the-variants.{ScanRefused, JoinRefused, Found}
 use Rattle.spec.specs.Outcome.{firstOf, whole, codeOf, valueOf, answer, unlessRefused}
 use Rattle.spec.specs.Form.{newest, formOf}
 use Rattle.spec.specs.Join.{joinOutcome, joinBuffer}
-use Rattle.spec.specs.Scan.{scanIndex, scanCode, scanOutcome, scanBuffer}
+use Rattle.spec.specs.Trie.{scanMoves}
+use Rattle.spec.specs.Scan.{scanIndex, scanCode, scanOutcome, withMoves, scanAnswer, scanBuffer, scannedLength}
 use Rattle.spec.specs.Search.{directSearch, searchJoinCode, searchCode, searchOutcome, searchBuffer}
 use Rattle.theory.proofs.Demand3.{code-of-answer, value-of-answer, join-outcome, join-buffer, scanned-is}
 
@@ -37,33 +40,51 @@ unfolding answer isDone
 refused-some zero value c e z = false≢true (sym (ap isDone e))
 refused-some (suc code) value c e z = omega arith
 
+-- ---- a scan's answer without its moves
+
+outcomeOf : Scanned → Outcome
+outcomeOf (Scanned.Done size moves) = Done size
+outcomeOf (Scanned.Refused code) = Refused code
+
+without-moves : (o : Outcome) (moves : ℕ) → outcomeOf (withMoves o moves) ≡ o
+unfolding outcomeOf
+without-moves (Done size) moves = refl
+without-moves (Refused code) moves = refl
+
+scan-outcome : (list store : List ℕ) (room : ℕ) (s : Scanned) → scanAnswer newest list store room ≡ s → scanOutcome newest list store room ≡ outcomeOf s
+unfolding scanAnswer
+scan-outcome list store room s e = sym (without-moves (scanOutcome newest list store room) (scanMoves list store)) ∙ ap outcomeOf e
+
 -- ---- the search
 
 module _ (list store recipes buffer out : List ℕ) where
-  pub search-scan-refused : (c : ℕ) → scanOutcome newest list store (length buffer) ≡ Refused c
+  pub search-scan-refused : (c : ℕ) → scanAnswer newest list store (length buffer) ≡ Scanned.Refused c
       → (ScanRefused c ≡ searchOutcome newest list store recipes (length buffer) (length out))
       × (out ≡ searchBuffer newest list store recipes (length buffer) out)
-  unfolding scanOutcome searchOutcome searchBuffer searchCode unlessRefused
+  unfolding scanOutcome outcomeOf searchOutcome searchBuffer searchCode unlessRefused
   search-scan-refused c e =
       let code : ℕ = scanCode newest list store (length buffer) in
-      let p : code ≡ c = refused-code code (length (scanIndex newest list store)) c e in
-      let q : code ≢ 0 = refused-some code (length (scanIndex newest list store)) c e in
+      let o : answer code (length (scanIndex newest list store)) ≡ Refused c = scan-outcome list store (length buffer) (Scanned.Refused c) e in
+      let p : code ≡ c = refused-code code (length (scanIndex newest list store)) c o in
+      let q : code ≢ 0 = refused-some code (length (scanIndex newest list store)) c o in
       (rw (ne-eqb code 0 q, p), rw (lt-ltb 0 code (omega arith), ne-eqb code 0 q))
 
   -- the scan did its work and reported n bytes
-  module _ (n : ℕ) (e : scanOutcome newest list store (length buffer) ≡ Done n) where
+  module _ (n moves : ℕ) (e : scanAnswer newest list store (length buffer) ≡ Scanned.Done n moves) where
+    scan-done : answer (scanCode newest list store (length buffer)) (length (scanIndex newest list store)) ≡ Done n
+    unfolding scanOutcome outcomeOf
+    scan-done = scan-outcome list store (length buffer) (Scanned.Done n moves) e
+
     pub scan-code : scanCode newest list store (length buffer) ≡ 0
-    unfolding scanOutcome
-    scan-code = done-code (scanCode newest list store (length buffer)) (length (scanIndex newest list store)) n e
+    scan-code = done-code (scanCode newest list store (length buffer)) (length (scanIndex newest list store)) n scan-done
 
     pub scan-length : length (scanIndex newest list store) ≡ n
-    unfolding scanOutcome
-    scan-length = done-value (scanCode newest list store (length buffer)) (length (scanIndex newest list store)) n e
+    scan-length = done-value (scanCode newest list store (length buffer)) (length (scanIndex newest list store)) n scan-done
 
     -- its first n bytes are the index
     pub scanned-front : take n (scanBuffer newest list store buffer) ≡ scanIndex newest list store
     scanned-front =
-        ap (λ (o : Outcome). take (valueOf o) (scanBuffer newest list store buffer)) (sym e)
+        ap (λ (s : Scanned). take (scannedLength s) (scanBuffer newest list store buffer)) (sym e)
         ∙ scanned-is list store buffer scan-code
 
     -- what it wrote: the first n bytes of its buffer

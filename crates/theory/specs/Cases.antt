@@ -1,11 +1,13 @@
--- The cases that document 01 marks with *, said of the byte-level definitions: one field for each marked line, in the paper's order.
+-- The cases that document 01 marks with *, said of the byte-level definitions: one field for each marked line, in the paper's order. Beside them the
+-- cases of the requests.
 use mathlib.Core.Path.{_≡_}
 use mathlib.Core.List.{List, [], _∷_, _++_, map}
-use Prim.Native.Nat.{ℕ}
+use Prim.Native.Nat.{ℕ, suc}
 use lib.ListN.{replicate, length}
 use lib.Dec.{ltb}
 use Rattle.spec.specs.declared.Outcome.{Outcome}
 use Rattle.spec.specs.declared.Outcome.the-variants.{Done, Refused}
+use Rattle.spec.specs.declared.Scanned.the-variants as Scanned
 use Rattle.spec.specs.Bytes.{leBytes, fieldsBytes, each, keep}
 use Rattle.spec.specs.Keywords.{keywordListBytes, keywordCode}
 use Rattle.spec.specs.Store.{storeMark, Chunk, storeBytes}
@@ -16,7 +18,7 @@ use Rattle.spec.specs.Table.{cellOf}
 use Rattle.spec.specs.Index.{indexLayout, bodyAt, indexCode}
 use Rattle.spec.specs.Recipes.{recipesBytes}
 use Rattle.spec.specs.Join.{joinOutcome, joinBuffer}
-use Rattle.spec.specs.Scan.{scanIndex, scanOutcome}
+use Rattle.spec.specs.Scan.{scanIndex, scanAnswer, toldMoves}
 
 -- ---- the inputs
 
@@ -84,6 +86,18 @@ abbrev pub countFor : ℕ → List ℕ → List ℕ → Outcome
 countFor flag keyword chunk =
     joinOutcome (formOf (oneIndex flag keyword chunk)) (oneIndex flag keyword chunk) (recipesOf ((1 ∷ []) ∷ [])) 65536
 
+-- Request #103's keywords DEDUP and UP; chunks of a store under the fingerprints of 1, 2, ..
+abbrev pub dedupAndUp : List (List ℕ)
+dedupAndUp = (0x44 ∷ 0x45 ∷ 0x44 ∷ 0x55 ∷ 0x50 ∷ []) ∷ (0x55 ∷ 0x50 ∷ []) ∷ []
+
+abbrev pub numbered : ℕ → List (List ℕ) → List Chunk
+numbered n [] = []
+numbered n (chunk ∷ chunks) = record { key = fingerprint n; bytes = chunk } ∷ numbered (suc n) chunks
+
+-- The moves that a scan of these chunks reports.
+abbrev pub movesFor : ℕ → List (List ℕ) → List (List ℕ) → ℕ
+movesFor flag words chunks = toldMoves (scanAnswer newest (keywordListBytes flag words) (storeBytes (numbered 1 chunks)) 65536) 0
+
 -- The cells of a keyword's table that hold something, by i and then by j, each from 0 to n - 1.
 abbrev pub filledCells : List ℕ → List (ℕ × ℕ × List ℕ)
 filledCells keyword =
@@ -100,10 +114,10 @@ pub record Cases : Type 0 where
   pub spelled : (store ≡ storeBytes (chunkXAB ∷ chunkABAX ∷ chunkA ∷ []))
       × (keywords ≡ keywordListBytes 0 ((0x41 ∷ 0x42 ∷ 0x41 ∷ []) ∷ (0x41 ∷ 0x41 ∷ []) ∷ []))
       × (recipes ≡ recipesOf ((1 ∷ 2 ∷ []) ∷ (3 ∷ 3 ∷ []) ∷ [] ∷ []))
-  -- the store has 100 bytes, the index 136, and both are good
+  -- the store has 100 bytes, the index 136, and both are good; the scan takes 10 moves, and refused it reports its number alone
   pub sizes : (length store ≡ 100)
-      × (scanOutcome form1 keywords store 136 ≡ Done 136)
-      × (scanOutcome form1 keywords store 135 ≡ Refused 9)
+      × (scanAnswer form1 keywords store 136 ≡ Scanned.Done 136 10)
+      × (scanAnswer form1 keywords store 135 ≡ Scanned.Refused 9)
       × (indexCode (formOf index) index ≡ 0)
   -- * XAB, ABAX and A: the bodies, at 113, 120 and 130
   pub xab : (offsetAt (indexLayout index) index 0 ≡ 113) × (bodyAt index 0 ≡ 0x00 ∷ 0x01 ∷ 0x02 ∷ 0x00 ∷ 0x00 ∷ 0x00 ∷ 0x00 ∷ [])
@@ -132,6 +146,20 @@ pub record Cases : Type 0 where
   pub as255 : bodyFor (0x41 ∷ []) (replicate 255 0x41) ≡ 0x00 ∷ 0x03 ∷ 0x00 ∷ 0x00 ∷ 0xFF ∷ 0x00 ∷ 0x00 ∷ 0xFF ∷ 0x00 ∷ fieldsBytes 2 (each (λ k. k ∷ []) 0 255)
   -- request #102: 256 As: kind 3, count FF, 0, the exact count, then 0 to 255; so the count bytes of 254, 255 and 256 are FE, FF and FF
   pub as256 : bodyFor (0x41 ∷ []) (replicate 256 0x41) ≡ 0x00 ∷ 0x03 ∷ 0x00 ∷ 0x00 ∷ 0xFF ∷ 0x00 ∷ 0x00 ∷ 0x00 ∷ 0x01 ∷ fieldsBytes 2 (each (λ k. k ∷ []) 0 256)
+  -- request #103, DEDUP and UP: DEDE 5 moves, DEDUP 5, DEDUPX 8; AAAA: AAAAAA 8, AAAX 7; A: AAAA 7, BBBB 4
+  pub moves : (map (λ chunk. movesFor 0 dedupAndUp (chunk ∷ []))
+      ((0x44 ∷ 0x45 ∷ 0x44 ∷ 0x45 ∷ []) ∷ (0x44 ∷ 0x45 ∷ 0x44 ∷ 0x55 ∷ 0x50 ∷ []) ∷ (0x44 ∷ 0x45 ∷ 0x44 ∷ 0x55 ∷ 0x50 ∷ 0x58 ∷ []) ∷ [])
+      ≡ 5 ∷ 5 ∷ 8 ∷ [])
+      × (map (λ chunk. movesFor 0 (replicate 4 0x41 ∷ []) (chunk ∷ [])) (replicate 6 0x41 ∷ (0x41 ∷ 0x41 ∷ 0x41 ∷ 0x58 ∷ []) ∷ []) ≡ 8 ∷ 7 ∷ [])
+      × (map (λ chunk. movesFor 0 ((0x41 ∷ []) ∷ []) (chunk ∷ [])) (replicate 4 0x41 ∷ replicate 4 0x42 ∷ []) ≡ 7 ∷ 4 ∷ [])
+  -- each chunk starts at the root: DEDU and PUP 7, DEDUPUP 9; no chunks 0
+  pub chunkByChunk : (movesFor 0 dedupAndUp ((0x44 ∷ 0x45 ∷ 0x44 ∷ 0x55 ∷ []) ∷ (0x50 ∷ 0x55 ∷ 0x50 ∷ []) ∷ []) ≡ 7)
+      × (movesFor 0 dedupAndUp ((0x44 ∷ 0x45 ∷ 0x44 ∷ 0x55 ∷ 0x50 ∷ 0x55 ∷ 0x50 ∷ []) ∷ []) ≡ 9)
+      × (scanAnswer form1 keywords (storeBytes []) 17 ≡ Scanned.Done 17 0)
+  -- keyword ab, chunk ABX: with flag 1 as many moves as abX, with flag 0 one a byte
+  pub foldedMoves : (movesFor 1 ((0x61 ∷ 0x62 ∷ []) ∷ []) ((0x41 ∷ 0x42 ∷ 0x58 ∷ []) ∷ []) ≡ 4)
+      × (movesFor 0 ((0x61 ∷ 0x62 ∷ []) ∷ []) ((0x61 ∷ 0x62 ∷ 0x58 ∷ []) ∷ []) ≡ 4)
+      × (movesFor 0 ((0x61 ∷ 0x62 ∷ []) ∷ []) ((0x41 ∷ 0x42 ∷ 0x58 ∷ []) ∷ []) ≡ 3)
   -- * flag 1: b matches B (with flag 0 it does not), { does not match [
   pub bMatchesB : (countFor 1 (0x62 ∷ []) (0x42 ∷ []) ≡ Done 1) × (countFor 0 (0x62 ∷ []) (0x42 ∷ []) ≡ Done 0)
   pub braceAndBracket : countFor 1 (0x7B ∷ []) (0x5B ∷ []) ≡ Done 0

@@ -1,18 +1,18 @@
 -- Demand 3, one claim on a scan and any join of its index: for every store, keyword list, recipes and buffers.
 use mathlib.Core.Path.{_≡_}
 use mathlib.Core.Logic.{_↔_}
-use mathlib.Core.List.{List, [], _∷_, map}
-use Prim.Native.Nat.{ℕ, zero, suc, _*_, _≤_}
-use lib.ListN.{length, take, drop}
-use Rattle.spec.specs.Bytes.{fieldAt, written}
+use mathlib.Core.List.{List, map}
+use Prim.Native.Nat.{ℕ, suc, _*_, _≤_}
+use lib.ListN.{length, take}
+use Rattle.spec.specs.Bytes.{written}
 use Rattle.spec.specs.Outcome.{codeOf, valueOf, answer, unlessRefused}
 use Rattle.spec.specs.Keywords.{flagOf, folded, foldedKeywords, keywordCode}
 use Rattle.spec.specs.Directory.{sizeAt}
 use Rattle.spec.specs.Store.{storeLayout, storeKeys, storeCode}
 use Rattle.spec.specs.Form.{newest, formOf}
 use Rattle.spec.specs.Recipes.{largest32, filesOf, recipesCode, filesCode}
-use Rattle.spec.specs.Join.{Occurrence, listBytes, innerLeast, joinOutcome, joinBuffer, readList}
-use Rattle.spec.specs.Scan.{scanIndex, scanOutcome, scanBuffer}
+use Rattle.spec.specs.Join.{listBytes, innerLeast, joinOutcome, joinBuffer, readList}
+use Rattle.spec.specs.Scan.{scanIndex, scanAnswer, scanBuffer, scannedCode, scannedLength}
 use Rattle.spec.specs.Search.{restored, directSearch, searchJoinCode}
 use Rattle.theory.specs.SearchList.{SearchList}
 
@@ -37,7 +37,7 @@ restoredFiles list store recipes = map (λ file. folded (flagOf list) (restored 
 
 -- The join's index: the bytes that the scan wrote into its buffer, of the length it reported.
 abbrev pub scanned : List ℕ → List ℕ → List ℕ → List ℕ
-scanned list store buffer = take (valueOf (scanOutcome newest list store (length buffer))) (scanBuffer newest list store buffer)
+scanned list store buffer = take (scannedLength (scanAnswer newest list store (length buffer))) (scanBuffer newest list store buffer)
 
 -- What holds of a join of that index, by the form that its mark names, once the scan has done its work.
 pub record JoinOfScan (list store recipes index out : List ℕ) : Type 0 where
@@ -56,8 +56,8 @@ pub record JoinOfScan (list store recipes index out : List ℕ) : Type 0 where
 
 pub record ScanAndJoin (list store recipes buffer out : List ℕ) : Type 0 where
   -- the scan does its work exactly when none of its refusals holds
-  pub scan : (codeOf (scanOutcome newest list store (length buffer)) ≡ 0) ↔ NoScanRefusal list store (length buffer)
+  pub scan : (scannedCode (scanAnswer newest list store (length buffer)) ≡ 0) ↔ NoScanRefusal list store (length buffer)
   -- and then a join of what it wrote answers by the restored files
-  pub join : codeOf (scanOutcome newest list store (length buffer)) ≡ 0 → JoinOfScan list store recipes (scanned list store buffer) out
+  pub join : scannedCode (scanAnswer newest list store (length buffer)) ≡ 0 → JoinOfScan list store recipes (scanned list store buffer) out
   -- whose direct search lists every occurrence once, in order, and nothing else
   pub search : SearchList (foldedKeywords list) (restoredFiles list store recipes) (directSearch list store recipes)

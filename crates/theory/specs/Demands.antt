@@ -8,6 +8,8 @@ use Prim.Native.Nat.{ℕ, _+_, _≤_, _<_}
 use lib.ListN.{length, take, getD}
 use Rattle.spec.specs.declared.Outcome.{Outcome}
 use Rattle.spec.specs.declared.Outcome.the-variants.{Done, Refused}
+use Rattle.spec.specs.declared.Scanned.{Scanned}
+use Rattle.spec.specs.declared.Scanned.the-variants as Scanned
 use Rattle.spec.specs.Bytes.{AllBytes, written, member}
 use Rattle.spec.specs.Outcome.{codeOf, valueOf}
 use Rattle.spec.specs.Keywords.{flagOf, foldByte, folded, keywordsOf, foldedKeywords, keywordCode}
@@ -18,8 +20,9 @@ use Rattle.spec.specs.Index.{indexRecords, indexCode}
 use Rattle.spec.specs.Recipes.{filesOf}
 use Rattle.spec.specs.Join.{Occurrence, keywordAt, joinList, listBytes, readList, joinCode, joinOutcome, joinBuffer}
 use Rattle.spec.specs.Lookup.{findChunk, chunkStart, chunkOf, findBody, bodyStart, bodyOf}
-use Rattle.spec.specs.Scan.{scanIndex, scanCode, scanOutcome, scanBuffer}
-use Rattle.spec.specs.Search.{restored, directSearch, searchJoinCode, searchCode, searchOutcome, searchBuffer, searchedCode}
+use Rattle.spec.specs.Trie.{scanMoves}
+use Rattle.spec.specs.Scan.{scanIndex, scanCode, scanAnswer, scanBuffer, scannedCode, scannedLength}
+use Rattle.spec.specs.Search.{restored, directSearch, searchCode, searchOutcome, searchBuffer, searchedCode}
 use Rattle.theory.specs.SearchList.{isIn, inOrder}
 use Rattle.theory.specs.Published.{Published}
 use Rattle.theory.specs.RecordSets.{Said, nothing, AllFitting, Says, scannedRecords, IndexForm, WrittenOnce}
@@ -32,6 +35,14 @@ use Rattle.theory.specs.Demand3.{NoScanRefusal, NoJoinRefusal, scanned}
 pub record Answered (code value : ℕ) (worked buffer : List ℕ) (outcome : Outcome) (after : List ℕ) : Type 0 where
   pub done : code ≡ 0 → (outcome ≡ Done value) × (after ≡ worked)
   pub refused : code ≢ 0 → (outcome ≡ Refused code) × (after ≡ buffer)
+
+-- A scan, on a buffer that it is lent: done with the index's length, the moves of its walk (request #103) and the index in the buffer; or refused
+-- with the number alone and every byte of the buffer as it was.
+pub record ScanAnswered (list store buffer : List ℕ) (scan : Scanned) (after : List ℕ) : Type 0 where
+  pub done : scanCode newest list store (length buffer) ≡ 0
+      → (scan ≡ Scanned.Done (length (scanIndex newest list store)) (scanMoves list store)) × (after ≡ written buffer (scanIndex newest list store))
+  pub refused : scanCode newest list store (length buffer) ≢ 0
+      → (scan ≡ Scanned.Refused (scanCode newest list store (length buffer))) × (after ≡ buffer)
 
 -- A search is a scan into one buffer and a join into another: a refusal of the join comes after the scan's work.
 pub record SearchAnswered (list store recipes index out : List ℕ) : Type 0 where
@@ -61,8 +72,7 @@ pub record Numbers : Type 0 where
 
 pub record Demand1 : Type 0 where
   pub scan : (list store buffer : List ℕ)
-      → Answered (scanCode newest list store (length buffer)) (length (scanIndex newest list store)) (written buffer (scanIndex newest list store)) buffer
-      (scanOutcome newest list store (length buffer)) (scanBuffer newest list store buffer)
+      → ScanAnswered list store buffer (scanAnswer newest list store (length buffer)) (scanBuffer newest list store buffer)
   pub join : (index recipes buffer : List ℕ)
       → Answered (joinCode (formOf index) index recipes (length buffer)) (length (joinList (formOf index) index recipes))
       (written buffer (listBytes (joinList (formOf index) index recipes))) buffer
@@ -76,12 +86,12 @@ pub record Demand1 : Type 0 where
 
 pub record Demand2 : Type 0 where
   -- what is read from a scan's buffer is, for each chunk and keyword, the published record
-  pub published : (list store buffer : List ℕ) → codeOf (scanOutcome newest list store (length buffer)) ≡ 0
+  pub published : (list store buffer : List ℕ) → scannedCode (scanAnswer newest list store (length buffer)) ≡ 0
       → (k w : ℕ) → k < chunkCount store → w < length (foldedKeywords list)
       → Published (keywordAt (foldedKeywords list) w) (folded (flagOf list) (chunkAt store k))
       (recordAt (indexRecords (formOf (scanned list store buffer)) (scanned list store buffer) k) w)
   -- the scan's index says these records, in the store's order, under the fingerprints of the chunks
-  pub says : (list store buffer : List ℕ) → codeOf (scanOutcome newest list store (length buffer)) ≡ 0
+  pub says : (list store buffer : List ℕ) → scannedCode (scanAnswer newest list store (length buffer)) ≡ 0
       → Says (formOf (scanned list store buffer)) list (scannedRecords list store) (scanned list store buffer)
   -- each set of records that fits an index of a form (keyword list and fingerprints are bytes) reads back, and has one writing in that form
   pub once : (f : Form) → IndexForm f → (list : List ℕ) (said : List Said) → AllFitting f list said → AllBytes list
@@ -102,30 +112,30 @@ pub record StandsIn (list store recipes : List ℕ) (o : Occurrence) : Type 0 wh
   pub stands : StandsAt (flagOf list) (keywordAt (keywordsOf list) (o .keyword)) (restored store (getD (filesOf recipes) (o .file) [])) (o .offset)
 
 -- What the contracts of scan::scan and join::join say of two calls: their answers, and their buffers after (buffer′, out′).
-pub record Calls (list store recipes buffer out : List ℕ) (scan join : Outcome) (buffer′ index out′ : List ℕ) : Type 0 where
-  pub scanned : scan ≡ scanOutcome newest list store (length buffer)
+pub record Calls (list store recipes buffer out : List ℕ) (scan : Scanned) (join : Outcome) (buffer′ index out′ : List ℕ) : Type 0 where
+  pub scanned : scan ≡ scanAnswer newest list store (length buffer)
   pub wrote : buffer′ ≡ scanBuffer newest list store buffer
   -- the join's index: the bytes that the scan wrote, of the length it reported, in the scan's buffer or a copy
-  pub handed : index ≡ take (valueOf scan) buffer′
+  pub handed : index ≡ take (scannedLength scan) buffer′
   pub joined : join ≡ joinOutcome (formOf index) index recipes (length out)
   pub listed : out′ ≡ joinBuffer (formOf index) index recipes out
 
 -- What then holds of the answers and of the list buffer.
-pub record Claim (list store recipes buffer out : List ℕ) (scan join : Outcome) (out′ : List ℕ) : Type 0 where
+pub record Claim (list store recipes buffer out : List ℕ) (scan : Scanned) (join : Outcome) (out′ : List ℕ) : Type 0 where
   -- both do their work exactly when no refusal of either holds
-  pub both : ((codeOf scan ≡ 0) × (codeOf join ≡ 0)) ↔ (NoScanRefusal list store (length buffer) × NoJoinRefusal list store recipes (length out))
+  pub both : ((scannedCode scan ≡ 0) × (codeOf join ≡ 0)) ↔ (NoScanRefusal list store (length buffer) × NoJoinRefusal list store recipes (length out))
   -- and then the list holds a file, an offset and a keyword exactly when the keyword stands there
-  pub exactly : codeOf scan ≡ 0 → codeOf join ≡ 0 → (o : Occurrence) → (isIn o (readList (valueOf join) out′) ≡ true) ↔ StandsIn list store recipes o
+  pub exactly : scannedCode scan ≡ 0 → codeOf join ≡ 0 → (o : Occurrence) → (isIn o (readList (valueOf join) out′) ≡ true) ↔ StandsIn list store recipes o
   -- it rises by file, then offset, then keyword
-  pub ordered : codeOf scan ≡ 0 → codeOf join ≡ 0 → inOrder (readList (valueOf join) out′) ≡ true
+  pub ordered : scannedCode scan ≡ 0 → codeOf join ≡ 0 → inOrder (readList (valueOf join) out′) ≡ true
   -- each is there once
-  pub once : codeOf scan ≡ 0 → codeOf join ≡ 0 → (i j : ℕ) (none : Occurrence) → i < j → j < valueOf join
+  pub once : scannedCode scan ≡ 0 → codeOf join ≡ 0 → (i j : ℕ) (none : Occurrence) → i < j → j < valueOf join
       → getD (readList (valueOf join) out′) i none ≢ getD (readList (valueOf join) out′) j none
   -- the count is the list's length
-  pub count : codeOf scan ≡ 0 → codeOf join ≡ 0 → valueOf join ≡ length (directSearch list store recipes)
+  pub count : scannedCode scan ≡ 0 → codeOf join ≡ 0 → valueOf join ≡ length (directSearch list store recipes)
   -- it is the direct search's list
-  pub found : codeOf scan ≡ 0 → codeOf join ≡ 0 → readList (valueOf join) out′ ≡ directSearch list store recipes
+  pub found : scannedCode scan ≡ 0 → codeOf join ≡ 0 → readList (valueOf join) out′ ≡ directSearch list store recipes
 
 pub record Demand3 : Type 0 where
-  pub calls : (list store recipes buffer out : List ℕ) (scan join : Outcome) (buffer′ index out′ : List ℕ)
+  pub calls : (list store recipes buffer out : List ℕ) (scan : Scanned) (join : Outcome) (buffer′ index out′ : List ℕ)
       → Calls list store recipes buffer out scan join buffer′ index out′ → Claim list store recipes buffer out scan join out′

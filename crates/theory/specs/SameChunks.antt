@@ -8,18 +8,19 @@ use Prim.Native.Nat.{ℕ}
 use lib.ListN.{replicate, length}
 use Rattle.spec.specs.declared.Outcome.{Outcome}
 use Rattle.spec.specs.declared.Outcome.the-variants.{Done}
+use Rattle.spec.specs.declared.Scanned.{Scanned}
+use Rattle.spec.specs.declared.Scanned.the-variants as Scanned
 use Rattle.spec.specs.Bytes.{same, every}
 use Rattle.spec.specs.Outcome.{codeOf, valueOf}
 use Rattle.spec.specs.Store.{Chunk, storeBytes, chunkCount, storeCode}
-use Rattle.spec.specs.Form.{newest, formOf}
+use Rattle.spec.specs.Form.{form1, newest, formOf}
 use Rattle.spec.specs.Index.{indexKeys}
 use Rattle.spec.specs.Lookup.{findChunk, chunkStart, chunkOf, findBody, bodyOf}
 use Rattle.spec.specs.Join.{joinOutcome, joinBuffer, readList}
-use Rattle.spec.specs.Scan.{scanIndex, scanOutcome}
+use Rattle.spec.specs.Scan.{scanIndex, scanAnswer, scannedCode}
 use Rattle.spec.specs.Search.{searchCode, searchOutcome, searchBuffer, searchedCount}
 use Rattle.theory.specs.Cases.{store, keywords, recipes, fingerprint, oneChunk, nine, chunkXAB, chunkABAX, chunkA}
 use Rattle.theory.specs.Demand3.{scanned}
-use Rattle.theory.specs.Demands.{Calls}
 use Rattle.theory.specs.WrittenInputs.{storedChunks}
 
 -- ---- the same chunks
@@ -80,23 +81,23 @@ pub record SameChunks (list here there : List ℕ) : Type 0 where
   pub find : (key : List ℕ) → findChunk here key ≡ findChunk there key
   pub chunk : (key : List ℕ) → chunkOf here key ≡ chunkOf there key
   pub count : chunkCount here ≡ chunkCount there
-  -- a scan into index buffers of equal length: the same refusal, or the same length
-  pub scan : (room : ℕ) → scanOutcome newest list here room ≡ scanOutcome newest list there room
-  -- index files both written in full, into buffers of any two lengths: the scans report the same length, and the files answer the same
-  pub written : (room room₂ : ℕ) → codeOf (scanOutcome newest list here room) ≡ 0 → codeOf (scanOutcome newest list there room₂) ≡ 0
-      → scanOutcome newest list here room ≡ scanOutcome newest list there room₂
+  -- a scan into index buffers of equal length: the same refusal, or the same length and moves
+  pub scan : (room : ℕ) → scanAnswer newest list here room ≡ scanAnswer newest list there room
+  -- index files both written in full, into buffers of any two lengths: the scans report the same length and moves, and the files answer the same
+  pub written : (room room₂ : ℕ) → scannedCode (scanAnswer newest list here room) ≡ 0 → scannedCode (scanAnswer newest list there room₂) ≡ 0
+      → scanAnswer newest list here room ≡ scanAnswer newest list there room₂
   pub indexes : (buffer buffer₂ : List ℕ)
-      → codeOf (scanOutcome newest list here (length buffer)) ≡ 0 → codeOf (scanOutcome newest list there (length buffer₂)) ≡ 0
+      → scannedCode (scanAnswer newest list here (length buffer)) ≡ 0 → scannedCode (scanAnswer newest list there (length buffer₂)) ≡ 0
       → AnswerAlike (scanned list here buffer) (scanned list there buffer₂)
   -- searches whose scans are both done or refused alike (as they are with index buffers of equal length, by `scan`)
-  pub search : (indexRoom indexRoom₂ : ℕ) → codeOf (scanOutcome newest list here indexRoom) ≡ codeOf (scanOutcome newest list there indexRoom₂)
+  pub search : (indexRoom indexRoom₂ : ℕ) → scannedCode (scanAnswer newest list here indexRoom) ≡ scannedCode (scanAnswer newest list there indexRoom₂)
       → SearchAlike list here there indexRoom indexRoom₂
 
 -- ---- what is then the same, of calls
 
 -- Both index files are written in full: both scans did their work.
-abbrev pub WrittenInFull : Outcome → Outcome → Type 0
-WrittenInFull scan scan₂ = (codeOf scan ≡ 0) × (codeOf scan₂ ≡ 0)
+abbrev pub WrittenInFull : Scanned → Scanned → Type 0
+WrittenInFull scan scan₂ = (scannedCode scan ≡ 0) × (scannedCode scan₂ ≡ 0)
 
 -- Two joins with these list buffers (out, out₂), answers, and buffers after (out′, out₂′) say the same.
 pub record JoinsAlike (out out₂ : List ℕ) (join join₂ : Outcome) (out′ out₂′ : List ℕ) : Type 0 where
@@ -111,11 +112,12 @@ pub record JoinsAlike (out out₂ : List ℕ) (join join₂ : Outcome) (out′ o
 
 -- What holds of four calls (`Calls`, twice): on each of the two stores a scan and a join of the bytes that it wrote, with the same keyword list and the
 -- same recipes.
-pub record SameCalls (buffer buffer₂ out out₂ : List ℕ) (scan scan₂ join join₂ : Outcome) (index index₂ out′ out₂′ : List ℕ) : Type 0 where
-  -- scans into index buffers of equal length: the same refusal, or the same length
+pub record SameCalls (buffer buffer₂ out out₂ : List ℕ) (scan scan₂ : Scanned) (join join₂ : Outcome) (index index₂ out′ out₂′ : List ℕ) : Type 0 where
+  -- scans into index buffers of equal length: the same refusal, or the same length and moves
   pub scans : length buffer ≡ length buffer₂ → scan ≡ scan₂
-  -- index files both written in full: the scans report the same length; the files have it, and the same body under each fingerprint
-  pub lengths : WrittenInFull scan scan₂ → scan ≡ scan₂
+  -- index files both written in full: the scans report the same length and moves; the files have that length, and the same body under
+  -- each fingerprint
+  pub reports : WrittenInFull scan scan₂ → scan ≡ scan₂
   pub indexes : WrittenInFull scan scan₂ → AnswerAlike index index₂
   -- and list buffers of equal length: the same refusal or the same list
   pub joins : WrittenInFull scan scan₂ → length out ≡ length out₂ → JoinsAlike out out₂ join join₂ out′ out₂′
@@ -133,7 +135,8 @@ pub record SmallReordered : Type 0 where
   -- it is accepted and holds the vault's chunks, chunk A elsewhere
   pub same : Reordered store smallReordered
   pub elsewhere : (chunkStart store (fingerprint 3) ≡ 99) × (chunkStart smallReordered (fingerprint 3) ≡ 92)
-  -- its index has its own order of entries
+  -- a scan of it reports the vault's length and moves; its index has its own order of entries
+  pub scan : scanAnswer form1 keywords smallReordered 136 ≡ Scanned.Done 136 10
   pub entries : indexKeys reorderedIndex ≡ fingerprint 3 ∷ fingerprint 1 ∷ fingerprint 2 ∷ []
   -- the list is the small vault's, in a buffer of 30 bytes
   pub list : (joinOutcome (formOf reorderedIndex) reorderedIndex recipes 30 ≡ Done 3)

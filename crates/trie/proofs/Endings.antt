@@ -14,7 +14,7 @@ use Rattle.spec.specs.Records.{reach, endsWith, prefixOf, recordOf}
 use Rattle.spec.proofs.Tests.{le-or-lt, leb-true, leb-false}
 use Rattle.spec.proofs.Same.{same-refl, same-not, same-lengths}
 use Rattle.spec.proofs.Begins.{begins-front}
-use Rattle.trie.specs.Trie.{isEnding, endsAt, prefixAt}
+use Rattle.trie.specs.Endings.{isEnding, endsAt, prefixAt}
 
 -- of equal length, to begin is to be the same
 pub begins-same : (u x : List ℕ) → length u ≡ length x → begins u x ≡ same u x

@@ -1,15 +1,17 @@
--- Small tries, by computation: he, she, his, hers over "ushers", and the paper's DEDUP, UP (its figure 2) over "DEDE". Assumes nothing.
+-- What nodes tell, of small tries, by computation: he, she, his, hers over "ushers", and the paper's DEDUP, UP (its figure 2). Links and moves of
+-- the latter: spec/proofs/MoveExamples. Assumes nothing.
 use mathlib.Core.Path.{_≡_, refl}
 use mathlib.Core.Bool.{true, false}
 use mathlib.Core.List.{List, [], _∷_, map}
 use Prim.Native.Nat.{ℕ}
-use Rattle.trie.specs.Trie.{someBegins, isNode, hasChild, longestNode, link, stops, arrived, oneMore, follow, step, nodeFrom, movesFrom}
-use Rattle.trie.specs.Trie.{nodeAfter, movesOf, movesOfAll, isEnding, endsAt, prefixAt}
+use Rattle.spec.specs.Trie.{link, nodeAfter, movesOf}
+use Rattle.spec.proofs.MoveExamples.{moving, dedup, up}
+use Rattle.trie.specs.Endings.{isEnding, endsAt, prefixAt}
 use Rattle.trie.specs.Numbers.{beginnings, without, distinct, nodesOf, nodeCount, nodeNumber, nodeAt}
 
 -- every definition that the examples compute with
 unfoldable pub definitions : ℕ
-unfolding someBegins isNode hasChild longestNode link stops arrived oneMore follow step nodeFrom movesFrom movesOfAll isEnding endsAt prefixAt beginnings without distinct nodesOf nodeCount nodeNumber nodeAt
+unfolding moving isEnding endsAt prefixAt beginnings without distinct nodesOf nodeCount nodeNumber nodeAt
 definitions = 0
 
 -- ---- he, she, his, hers
@@ -63,28 +65,8 @@ four-nodes = (refl, refl)
 
 -- ---- the paper's DEDUP, UP
 
-abbrev pub dedup : List ℕ
-dedup = 0x44 ∷ 0x45 ∷ 0x44 ∷ 0x55 ∷ 0x50 ∷ []
-
-abbrev pub up : List ℕ
-up = 0x55 ∷ 0x50 ∷ []
-
 abbrev pub two : List (List ℕ)
 two = dedup ∷ up ∷ []
-
--- the links of DED, DEDU, DEDUP
-pub two-links : map (link two) ((0x44 ∷ 0x45 ∷ 0x44 ∷ []) ∷ (0x44 ∷ 0x45 ∷ 0x44 ∷ 0x55 ∷ []) ∷ dedup ∷ []) ≡ (0x44 ∷ []) ∷ (0x55 ∷ []) ∷ up ∷ []
-unfolding definitions
-two-links = refl
-
--- DEDE: from DED back to D, and on to DE; 5 moves
-pub dede : step two (0x44 ∷ 0x45 ∷ 0x44 ∷ []) 0x45 ≡ record { node = 0x44 ∷ 0x45 ∷ []; moves = 2 }
-unfolding definitions
-dede = refl
-
-pub dede-moves : movesOfAll two ((0x44 ∷ 0x45 ∷ 0x44 ∷ 0x45 ∷ []) ∷ up ∷ []) ≡ 7
-unfolding definitions
-dede-moves = refl
 
 -- a chunk that ends with DEDU: prefix DEDU of DEDUP, prefix U of UP
 pub dedu-prefixes : map (λ keyword. prefixAt keyword (0x44 ∷ 0x45 ∷ 0x44 ∷ 0x55 ∷ [])) two ≡ 4 ∷ 1 ∷ []

@@ -13,7 +13,8 @@ use Rattle.spec.specs.Keywords.{longest}
 use Rattle.spec.proofs.Tests.{le-or-lt, cond-elim, false-of, eqb-same, and-left, and-right, bool-cases}
 use Rattle.spec.proofs.Same.{same-eq}
 use Rattle.spec.proofs.Begins.{begins-short}
-use Rattle.trie.specs.Trie.{someBegins, isNode, child, hasChild, longestNode, link, isEnding}
+use Rattle.spec.specs.Trie.{someBegins, isNode, child, hasChild, longestNode, link}
+use Rattle.trie.specs.Endings.{isEnding}
 use Rattle.trie.proofs.Endings.{ending-self, ending-tail, ending-more, ending-le}
 
 or-cases : (a b : Bool) → (a || b) ≡ true → (a ≡ true) ⊎ (b ≡ true)

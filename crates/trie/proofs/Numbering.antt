@@ -16,7 +16,7 @@ use Rattle.spec.proofs.KeywordLaws.{Accepted, folded-count, longest-most, sum-m
 use Rattle.spec.proofs.EntryLaws.{contains-position, contains-at, position-of, position-at}
 use Rattle.spec.proofs.RecordLaws.{bool-ext}
 use Rattle.spec.proofs.Tabulated.{length-tabulated, tabulated-at}
-use Rattle.trie.specs.Trie.{someBegins, isNode}
+use Rattle.spec.specs.Trie.{someBegins, isNode}
 use Rattle.trie.specs.Numbers.{beginnings, distinct, nodesOf, nodeCount, nodeNumber, nodeAt}
 use Rattle.trie.proofs.Nodes.{begins-take, begins-length}
 use Rattle.trie.proofs.Distinct.{contains-append, distinct-length, distinct-contains, distinct-once}

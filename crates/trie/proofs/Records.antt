@@ -21,7 +21,8 @@ use Rattle.spec.proofs.Folding.{folded-length}
 use Rattle.spec.proofs.KeywordLaws.{Accepted, folded-count, folded-keyword}
 use Rattle.spec.proofs.EntryLaws.{contains-at}
 use Rattle.spec.proofs.Tabulated.{map-match}
-use Rattle.trie.specs.Trie.{isNode, nodeAfter, isEnding, endsAt, prefixAt, walkRecord}
+use Rattle.spec.specs.Trie.{isNode, nodeAfter}
+use Rattle.trie.specs.Endings.{isEnding, endsAt, prefixAt, walkRecord}
 use Rattle.trie.proofs.Endings.{ends-ending, largest-match, prefix-ending}
 use Rattle.trie.proofs.Nodes.{beginning-is-node, ending-of-longest}
 use Rattle.trie.proofs.Walks.{walk-node}

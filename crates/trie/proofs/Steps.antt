@@ -9,7 +9,7 @@ use native.Mathlib.Nat.{le-refl}
 use native.Mathlib.Omega.{arith}
 use lib.ListN.{length, length-append}
 use Rattle.spec.proofs.Tests.{eqb-ne, bool-cases, cond-elim}
-use Rattle.trie.specs.Trie.{isNode, child, hasChild, longestNode, link, Step, stops, arrived, oneMore, follow, step}
+use Rattle.spec.specs.Trie.{isNode, child, hasChild, longestNode, link, Step, stops, arrived, oneMore, follow, step}
 use Rattle.trie.proofs.Nodes.{no-child, longest-of-node, longest-of-tail, longest-is-node, link-node}
 
 module _ (keywords : List (List ℕ)) where

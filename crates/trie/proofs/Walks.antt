@@ -12,7 +12,8 @@ use Rattle.spec.specs.Bytes.{sum}
 use Rattle.spec.specs.Keywords.{foldedAll, foldedKeywords, flagOf, longest}
 use Rattle.spec.specs.Store.{chunksOf}
 use Rattle.spec.proofs.Folding.{lengths-folded}
-use Rattle.trie.specs.Trie.{isNode, child, longestNode, step, nodeFrom, movesFrom, nodeAfter, movesOf, movesOfAll, scanMoves, isEnding}
+use Rattle.spec.specs.Trie.{isNode, child, longestNode, step, nodeFrom, movesFrom, nodeAfter, movesOf, movesOfAll, scanMoves}
+use Rattle.trie.specs.Endings.{isEnding}
 use Rattle.trie.proofs.Nodes.{longest-node, longest-window}
 use Rattle.trie.proofs.Steps.{step-node, step-is-node, step-moves, step-moves-least}
 

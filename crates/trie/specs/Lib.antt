@@ -1,2 +1,2 @@
-pub mod Trie
+pub mod Endings
 pub mod Numbers

@@ -4,10 +4,11 @@ use mathlib.Core.List.{List}
 use Prim.Native.Nat.{ℕ}
 use lib.ListN.{length}
 use Rattle.spec.specs.declared.Outcome.{Outcome}
+use Rattle.spec.specs.declared.Scanned.{Scanned}
 use Rattle.spec.specs.declared.Searched.{Searched}
 use Rattle.spec.specs.Outcome.{codeOf, toldValue}
 use Rattle.spec.specs.Form.{newest}
-use Rattle.spec.specs.Scan.{scanBuffer}
+use Rattle.spec.specs.Scan.{scanBuffer, scannedCode, toldLength, toldMoves}
 use Rattle.spec.specs.Search.{searchOutcome, searchBuffer, searchedCode, toldSize, toldCount}
 
 -- `before` is what the number held at entry
@@ -17,6 +18,14 @@ module _ (o r : Outcome) {e : Outcome} (k : r ≡ o) (d : r ≡ e) (before : ℕ
 
   pub told-buffer : {out b : List ℕ} → out ≡ b → (codeOf o ≡ codeOf e) × (toldValue o before ≡ toldValue e before) × (out ≡ b)
   told-buffer q = (told .0, told .1, q)
+
+-- of a scan: `size` and `moves` are what the numbers held at entry
+module _ (o r : Scanned) {e : Scanned} (k : r ≡ o) (d : r ≡ e) (size moves : ℕ) where
+  pub told-scan : {out b : List ℕ} → out ≡ b
+      → (scannedCode o ≡ scannedCode e) × (toldLength o size ≡ toldLength e size) × (toldMoves o moves ≡ toldMoves e moves) × (out ≡ b)
+  told-scan q =
+      let p : o ≡ e = sym k ∙ d in
+      (ap scannedCode p, ap (λ (x : Scanned). toldLength x size) p, ap (λ (x : Scanned). toldMoves x moves) p, q)
 
 module _ (list store recipes index out index′ out′ : List ℕ) (o r : Searched) (size count : ℕ) where
   -- the definition's answer

@@ -1,5 +1,5 @@
 // The library for C and other languages: numbers, byte slices (a pointer and a length) and single numbers by reference. A call answers
-// document 01's number, 0 for accepted, found or done. A number by reference is told the length or the count where the work is done, and stays
+// document 01's number, 0 for accepted, found or done. A number by reference is told the length, the moves or the count where the work is done, and stays
 // as it was on a refusal. include/vault.h declares these functions.
 ghost use mathlib.Core.Path.{_≡_};
 ghost use lib.ListN.{length};
@@ -9,7 +9,7 @@ ghost use Rattle.spec.specs.Form.{newest, formOf};
 ghost use Rattle.spec.specs.Index.{indexCode};
 ghost use Rattle.spec.specs.Lookup.{findChunk, chunkStart, chunkLength, findBody, bodyStart, bodyLength};
 ghost use Rattle.spec.specs.Outcome.{codeOf, toldValue};
-ghost use Rattle.spec.specs.Scan.{sizeOutcome, scanOutcome, scanBuffer};
+ghost use Rattle.spec.specs.Scan.{sizeOutcome, scanAnswer, scanBuffer, scannedCode, toldLength, toldMoves};
 ghost use Rattle.spec.specs.Join.{countOutcome, joinOutcome, joinBuffer};
 ghost use Rattle.spec.specs.Search.{searchOutcome, searchBuffer, searchedCode, toldSize, toldCount};
 
@@ -53,17 +53,25 @@ pub extern "C" fn vault_scan_size(list: &[u8], store: &[u8], size: &mut u64) -> 
 }
 
 #[no_mangle]
-pub extern "C" fn vault_scan(list: &[u8], store: &[u8], out: &mut [u8], size: &mut u64) -> u8
-    ensures { λ r. ⌜ (r ≡ codeOf (scanOutcome newest (now (list .entry)) (now (store .entry)) (length (now (out .entry)))))
-        × (now (size .exit) ≡ toldValue (scanOutcome newest (now (list .entry)) (now (store .entry)) (length (now (out .entry)))) (now (size .entry)))
+pub extern "C" fn vault_scan(
+    list: &[u8],
+    store: &[u8],
+    out: &mut [u8],
+    size: &mut u64,
+    moves: &mut u64,
+) -> u8
+    ensures { λ r. ⌜ (r ≡ scannedCode (scanAnswer newest (now (list .entry)) (now (store .entry)) (length (now (out .entry)))))
+        × (now (size .exit) ≡ toldLength (scanAnswer newest (now (list .entry)) (now (store .entry)) (length (now (out .entry)))) (now (size .entry)))
+        × (now (moves .exit) ≡ toldMoves (scanAnswer newest (now (list .entry)) (now (store .entry)) (length (now (out .entry)))) (now (moves .entry)))
         × (now (out .exit) ≡ scanBuffer newest (now (list .entry)) (now (store .entry)) (now (out .entry))) ⌝ }
 {
     match scan::scan(list, store, out) {
-        spec::Outcome::Done(written) => {
+        spec::Scanned::Done(written, walked) => {
             *size = written as u64;
+            *moves = walked;
             0
         }
-        spec::Outcome::Refused(code) => code,
+        spec::Scanned::Refused(code) => code,
     }
 }
 

@@ -1,4 +1,4 @@
-//! Processor time of this thread, medians, and a fixed loop that tells a slow phase of the machine from a quiet one.
+//! Processor time of this thread, medians, and fixed loops that tell a slow phase of the machine from a quiet one.
 
 #[repr(C)]
 struct Timespec {
@@ -33,6 +33,24 @@ pub fn median(times: &[f64]) -> f64 {
     let mut sorted = times.to_vec();
     sorted.sort_by(f64::total_cmp);
     sorted.get(sorted.len() / 2).copied().unwrap_or(0.0)
+}
+
+pub fn best(times: &[f64]) -> f64 {
+    times.iter().copied().fold(f64::INFINITY, f64::min)
+}
+
+/// One chain of multiplications, each of which waits for the one before: about 4 ms, hardly more in a slow phase.
+pub fn latency() -> f64 {
+    let work = || {
+        let mut chain = std::hint::black_box(1u64);
+        for _ in 0..2_500_000u32 {
+            chain = (chain ^ (chain >> 29)).wrapping_mul(0x9E37_79B9_7F4A_7C15);
+        }
+        chain
+    };
+    let (time, result) = timed(work);
+    std::hint::black_box(result);
+    time
 }
 
 /// A fixed amount of work in the first-level cache, with four independent chains: about 10 ms on a quiet machine.

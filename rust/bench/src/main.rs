@@ -1,18 +1,16 @@
 //! How long a search by scan and join takes, beside restoring each file and searching it.
 //!
 //!     bench [MEGABYTES] [ROUNDS] [--fresh] [--no-plain] [--directories]
+//!     bench --scan [MEGABYTES] [ROUNDS] [FOLDER..]
 //!
 //! Every row's methods run one after the other in each round, so that a row's ratios are of one run; times are medians of
 //! the rounds, in processor time of the thread. With each row stands the time of a fixed loop: rows whose loop took longer
 //! were run in a slow phase of the machine and only their ratios say something.
 
-mod clock;
-mod generate;
-mod peers;
-
-use clock::{calibration, median, timed};
-use generate::{index_of, key, recipes, recipes_of, store_of, vault, Vault};
-use peers::{plain, restore_each, Automaton, Chunks};
+use bench::clock::{calibration, median, timed};
+use bench::generate::{self, index_of, key, recipes, recipes_of, store_of, vault, Vault};
+use bench::peers::{plain, restore_each, Automaton, Chunks};
+use bench::scan;
 use std::hint::black_box;
 
 struct Options {
@@ -42,8 +40,15 @@ fn options() -> Option<Options> {
 }
 
 fn main() {
+    let mut words = std::env::args().skip(1);
+    if words.next().as_deref() == Some("--scan") {
+        return scan::main(words.collect(), &[scan::OWN]);
+    }
     let Some(options) = options() else {
-        eprintln!("usage: bench [MEGABYTES] [ROUNDS] [--fresh] [--no-plain] [--directories]");
+        eprintln!(
+            "usage: bench [MEGABYTES] [ROUNDS] [--fresh] [--no-plain] [--directories]\n       bench --scan {}",
+            scan::USAGE
+        );
         std::process::exit(64);
     };
     vault::on_large_stack(|| run(&options)).expect("a thread can be started");
@@ -102,10 +107,10 @@ fn row(options: &Options, vault: &Vault, ratio: f64, count: usize, common: bool)
     let list = vault::keyword_list(false, &keywords).expect("different keywords");
     let (recipes, places) = recipes(vault.chunks, ratio);
     let chunks = Chunks::new(&vault.store);
-    let automaton = Automaton::new(&keywords);
+    let automaton = Automaton::new(&keywords, false);
 
     // The list, once by each method: they must agree. What they wrote stays as warm buffers.
-    let mut index = vault::scan(&list, &vault.store).expect("a good store");
+    let mut index = vault::scan(&list, &vault.store).expect("a good store").index;
     let mut out = vault::join_bytes(&index, &recipes).expect("good recipes");
     let occurrences = out.len() / vault::ROW;
     let mut found = Vec::with_capacity(occurrences);

@@ -62,18 +62,20 @@ pub struct Automaton {
 const CELLS: usize = 1 << 18;
 
 impl Automaton {
-    pub fn new(keywords: &[&[u8]]) -> Automaton {
+    /// With the fold flag, A to Z match a to z.
+    pub fn new(keywords: &[&[u8]], fold: bool) -> Automaton {
+        let compared = |b: u8| usize::from(if fold { b.to_ascii_lowercase() } else { b });
         let mut children: Vec<[usize; 256]> = vec![[0; 256]];
         let mut ends: Vec<Vec<(u8, u32)>> = vec![vec![]];
         for (k, keyword) in keywords.iter().enumerate() {
             let mut state = 0;
-            for b in *keyword {
-                if children[state][usize::from(*b)] == 0 {
-                    children[state][usize::from(*b)] = children.len();
+            for b in keyword.iter().map(|b| compared(*b)) {
+                if children[state][b] == 0 {
+                    children[state][b] = children.len();
                     children.push([0; 256]);
                     ends.push(vec![]);
                 }
-                state = children[state][usize::from(*b)];
+                state = children[state][b];
             }
             ends[state].push((k as u8, keyword.len() as u32));
         }
@@ -95,10 +97,22 @@ impl Automaton {
                 }
             }
         }
-        let entry = |target: &usize| (*target as u32) * 256 + u32::from(!ends[*target].is_empty());
-        let mut cells: Vec<u32> = rows.iter().flat_map(|row| row.iter().map(entry)).collect();
+        let entry = |target: usize| (target as u32) * 256 + u32::from(!ends[target].is_empty());
+        let mut cells: Vec<u32> = rows.iter().flat_map(|row| (0..=255).map(|b| entry(row[compared(b)]))).collect();
         cells.resize(CELLS, 0);
         Automaton { table: cells.try_into().expect("it has that length"), ends }
+    }
+
+    /// How many finds there are in some bytes.
+    pub fn count(&self, data: &[u8]) -> u64 {
+        let (mut state, mut finds) = (0u32, 0);
+        for b in data {
+            state = self.table[((state & 0x3FF00) | u32::from(*b)) as usize];
+            if state & 1 == 1 {
+                finds += self.ends[(state / 256) as usize].len() as u64;
+            }
+        }
+        finds
     }
 
     /// The finds of one file, put into the list's order.
@@ -124,7 +138,7 @@ mod tests {
     #[test]
     fn the_automaton_is_the_plain_loop() {
         let keywords: &[&[u8]] = &[b"ABA", b"A", b"AB", b"BAAB", b"BBB", b"AABA"];
-        let automaton = Automaton::new(keywords);
+        let (automaton, folded) = (Automaton::new(keywords, false), Automaton::new(keywords, true));
         let mut state = 1u32;
         for length in 0..200 {
             let data: Vec<u8> = (0..length)
@@ -137,6 +151,8 @@ mod tests {
             plain(keywords, 3, &data, &mut one);
             automaton.search(3, &data, &mut other);
             assert_eq!(one, other);
+            assert_eq!([automaton.count(&data), folded.count(&data.to_ascii_lowercase())], [one.len() as u64; 2]);
+            assert_eq!(automaton.count(&data.to_ascii_lowercase()), 0);
         }
     }
 }

@@ -3,7 +3,7 @@
 use crate::inputs::Case;
 use crate::rng::Rng;
 use oracle::join::{self, Joined};
-use oracle::{calls, direct, index, keywords, recipes, store, U32};
+use oracle::{calls, direct, index, keywords, moves, recipes, store, U32};
 use std::collections::BTreeMap;
 use vault::raw;
 
@@ -14,6 +14,11 @@ pub struct Tally {
     /// Calls by operation and code.
     pub codes: BTreeMap<(&'static str, u8), u64>,
     pub occurrences: u64,
+    /// The moves of all accepted stores, and scans into buffers in which the library walks each chunk once.
+    pub moves: u64,
+    pub one_walk: u64,
+    /// Stores whose moves the oracle counted by strings too.
+    pub by_strings: u64,
     /// Lists that the direct search of restored files gave too.
     pub direct: u64,
     /// Bytes of buffers compared.
@@ -30,9 +35,13 @@ pub struct Limits {
     pub direct: u64,
     /// From this length on, a buffer is tried exact and one short only.
     pub large: u64,
+    /// Buffers as long as the scan's bound aren't made above this length.
+    pub bound: u64,
+    /// Bytes of chunks above which the moves aren't counted by strings.
+    pub strings: u64,
 }
 
-pub const USUAL: Limits = Limits { buffer: 1 << 30, direct: 1 << 30, large: 1 << 20 };
+pub const USUAL: Limits = Limits { buffer: 1 << 30, direct: 1 << 30, large: 1 << 20, bound: 1 << 28, strings: 1 << 13 };
 
 pub struct Comparison<'a> {
     pub tally: &'a mut Tally,
@@ -87,9 +96,19 @@ impl Comparison<'_> {
         let [a, b] = stores.map(|store| number(&|n| raw::scan_size(list, store, n)));
         self.alike("scan_size", [a.0, b.0], a == b)?;
         let length = if a.0 == 0 { a.1 as usize } else { 100 };
-        let scan = |length: usize| stores.map(|store| buffer(length, &|out, n| raw::scan(list, store, out, n)));
+        let scan = |length: usize| {
+            stores.map(|store| {
+                let (mut length, mut moves, mut out) = (pattern_number, !pattern_number, pattern(salt, length));
+                let code = raw::scan(list, store, &mut out, (&mut length, &mut moves));
+                (code, (length, moves), out)
+            })
+        };
         let [a, b] = scan(length - 1);
         self.alike("scan", [a.0, b.0], a == b)?;
+        for length in self.around_the_bound(list, other, self.limits.large) {
+            let [a, b] = scan(length);
+            self.alike("scan", [a.0, b.0], a.1 == b.1 && (a.0 == 0 || a.2 == b.2))?;
+        }
         let scans = scan(length);
         let [a, b] = &scans;
         self.alike("scan", [a.0, b.0], a.1 == b.1 && (a.0 == 0 || a.2 == b.2))?;
@@ -194,6 +213,34 @@ impl Comparison<'_> {
         lengths.into_iter().map(|length| length as usize).collect()
     }
 
+    /// The length from which on the library scans with one walk, and one byte less.
+    fn around_the_bound(&self, list: &[u8], bytes: &[u8], most: u64) -> Vec<usize> {
+        match vault::scan_bound(list, bytes) {
+            bound if bound <= most => vec![bound as usize, bound as usize - 1],
+            _ => vec![],
+        }
+    }
+
+    /// The oracle's moves; of small stores it counts them twice.
+    fn moves(&mut self, list: &[u8], bytes: &[u8]) -> Result<Result<u64, u8>, String> {
+        let counted = calls::moves_of(list, bytes);
+        let (Ok(count), Ok(keywords), Ok(chunks)) = (counted, keywords::read(list), store::read(bytes)) else {
+            return Ok(counted);
+        };
+        let data: u64 = chunks.iter().map(|c| c.place.len() as u64).sum();
+        if !(data..=2 * data).contains(&count) {
+            return Err(format!("the oracle counts {count} moves over {data} bytes (a fault of the oracle)"));
+        }
+        if data <= self.limits.strings {
+            if moves::of_scan_by_strings(&keywords, bytes, &chunks) != count {
+                return Err("the oracle's moves by numbers and by strings differ (a fault of the oracle)".into());
+            }
+            self.tally.by_strings += 1;
+        }
+        self.tally.moves += count;
+        Ok(counted)
+    }
+
     /// Keyword check, store check, the scan's length, and scans. Gives the index.
     fn scans(&mut self, list: &[u8], bytes: &[u8]) -> Result<Result<Vec<u8>, u8>, String> {
         self.code("check_keywords", raw::check_keywords(list), calls::check_keywords(list))?;
@@ -204,16 +251,20 @@ impl Comparison<'_> {
         self.code("scan_size", code, want.as_ref().err().copied().unwrap_or(0))?;
         let exact = want.as_ref().map_or(0, |index| index.len() as u64);
         self.told("scan_size", "length", &size, want.is_ok().then_some(exact))?;
-        let lengths = if want.is_ok() { self.lengths(exact) } else { vec![0, self.rng.below(300)] };
+        let moves = self.moves(list, bytes)?;
+        let mut lengths = if want.is_ok() { self.lengths(exact) } else { vec![0, self.rng.below(300)] };
+        lengths.extend(self.around_the_bound(list, bytes, if want.is_ok() { self.limits.bound } else { self.limits.large }));
         for length in lengths {
             let salt = self.rng.byte();
             let mut out = pattern(salt, length);
-            let mut written = Number::new(self.rng);
-            let code = raw::scan(list, bytes, &mut out, &mut written.now);
+            let (mut written, mut moved) = (Number::new(self.rng), Number::new(self.rng));
+            let code = raw::scan(list, bytes, &mut out, (&mut written.now, &mut moved.now));
             let (want_code, front) = fits(&want, length, 9);
             self.code("scan", code, want_code)?;
             self.told("scan", "length", &written, (want_code == 0).then_some(front.len() as u64))?;
+            self.told("scan", "moves", &moved, moves.ok().filter(|_| want_code == 0))?;
             self.buffer("scan", &out, salt, front)?;
+            self.tally.one_walk += u64::from(want_code == 0 && length as u64 >= vault::scan_bound(list, bytes));
         }
         Ok(want)
     }
@@ -287,6 +338,7 @@ impl Comparison<'_> {
         let mut tries = vec![(length, room), (length, room.saturating_sub(1))];
         if (length + room) as u64 <= self.limits.large {
             tries.extend([(length - 1, room), (length + more, room + more)]);
+            tries.extend(self.around_the_bound(list, bytes, self.limits.large).into_iter().map(|length| (length, room)));
         }
         for (length, room) in tries {
             let (salt, pepper) = (self.rng.byte(), self.rng.byte());

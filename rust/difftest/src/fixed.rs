@@ -1,6 +1,7 @@
 //! Cases that are not random: the paper's, the corners of each format, and the large ones.
 
 use crate::inputs::{list, Case};
+use crate::lanes;
 use crate::rng::Rng;
 use oracle::records::Record;
 use oracle::{index, recipes, store, Fingerprint};
@@ -68,10 +69,83 @@ pub fn small() -> Vec<Case> {
             cases.push(short);
         }
     }
+    cases.extend(stores());
+    cases.extend(moves());
+    cases.extend([255, 256, 259].map(|length| around_borders(&sixteen()[..1], length, b'.')));
     cases.extend(keyword_lists());
     cases.extend(indexes());
     cases.extend(all_recipes());
     cases
+}
+
+/// Stores with two faults, of which the first in the order of the tests is told: twins (8) with every other one, and those with each other.
+fn stores() -> Vec<Case> {
+    let of = |spoil: &dyn Fn(&mut Vec<u8>)| {
+        let twins = vec![([1; 20], b"XAB".to_vec()), ([2; 20], b"ABAX".to_vec()), ([1; 20], b"A".to_vec())];
+        let mut bad = case("stores with two faults", list(false, &[b"ABA", b"AA"]), &twins, &[vec![[1; 20]]]);
+        spoil(&mut bad.store);
+        bad
+    };
+    vec![
+        of(&|_| ()),
+        of(&|store| store.push(0)),
+        of(&|store| store.truncate(99)),
+        of(&|store| store.truncate(91)),
+        of(&|store| store[0] = 0),
+        of(&|store| store[4] = 4),
+        of(&|store| store[6] = 1),
+        of(&|store| store[8 + 24] = 0),
+        of(&|store| store[8 + 56 + 20] += 1),
+        of(&|store| store[8 + 56 + 24] += 1),
+        of(&|store| store[8 + 56 + 26] = 1),
+        of(&|store| {
+            store[4] = 4;
+            store[0] = 0;
+        }),
+        of(&|store| {
+            store[6] = 1;
+            store[8 + 24] = 0;
+        }),
+    ]
+}
+
+/// Chunks whose moves are in the readings of request 103, and those of its sentences: links behind a whole keyword, to a beginning of
+/// another keyword, one trie for all, the fold, the root anew in each chunk.
+fn moves() -> Vec<Case> {
+    let of = |fold: bool, words: &[&[u8]], chunks: &[&[u8]]| {
+        let chunks: Chunks = chunks.iter().enumerate().map(|(k, chunk)| (key(k), chunk.to_vec())).collect();
+        case("moves by hand", list(fold, words), &chunks, &[chunks.iter().map(|(key, _)| *key).collect()])
+    };
+    vec![
+        of(false, &[b"DEDUP", b"UP"], &[b"DEDE", b"DEDUP", b"DEDUPX", b"DEDUPDEDUP", b"DEDUUP"]),
+        of(false, &[b"AAAA"], &[b"AAAAAA", b"AAAX", b"AAA", b"AAA"]),
+        of(false, &[b"A"], &[b"AAAA", b"BBBB", b"ABAB"]),
+        of(false, &[b"A"], &[]),
+        of(false, &[b"ABCD", b"BC", b"C"], &[b"ABCABCABCD", b"ABCE", b"BCBCC"]),
+        of(false, &[b"ABABABAC", b"BABD"], &[b"ABABABABABABAC", b"ABABABD"]),
+        of(true, &[b"dedup", b"Up"], &[b"DeDe", b"dEDUPx", b"DEDuP"]),
+        of(false, &[b"dedup", b"Up"], &[b"DeDe", b"dEDUPx", b"DEDuP"]),
+        of(true, &[b"[[", b"@@", b"\xC9\xC9"], &[b"[{[[", b"@`@@", b"\xC9\xE9\xC9\xC9"]),
+    ]
+}
+
+/// a^16 b to a^31 b.
+fn sixteen() -> Vec<Vec<u8>> {
+    (16..32).rev().map(|k| [vec![b'a'; k], vec![b'b']].concat()).collect()
+}
+
+/// A chunk for each distance: the first keyword ends so many bytes behind each quarter's first byte, in filler of that byte.
+fn around_borders(words: &[Vec<u8>], length: usize, filler: u8) -> Case {
+    let distances = 0..=words[0].len() + 1;
+    let chunks: Chunks = distances
+        .map(|distance| {
+            let mut data = vec![filler; length];
+            (1..=4).for_each(|lane| lanes::put(&mut data, &words[0], lane * (length / 4) + distance));
+            (key(distance), data)
+        })
+        .collect();
+    let words = list(false, &words.iter().map(|w| &w[..]).collect::<Vec<_>>());
+    case("keywords around the quarters", words, &chunks, &[chunks.iter().map(|(key, _)| *key).collect()])
 }
 
 /// Keyword lists with faults, singly and in pairs.
@@ -273,7 +347,43 @@ pub fn large() -> Vec<(&'static str, fn(&mut Rng) -> Vec<Case>)> {
         ("65,000 chunks", many_chunks),
         ("one hash chain", one_chain),
         ("megabytes", megabytes),
+        ("keywords around the quarters", quarters),
+        ("moves of the longest chunks", longest_walks),
     ]
+}
+
+fn quarters(_: &mut Rng) -> Vec<Case> {
+    let (fibonacci, two) = (b"abaababaabaababaababaabaababaaba".to_vec(), b"ab".to_vec());
+    let periodic = b"abababababababababababababababab".to_vec();
+    let endings = [periodic.clone(), b"babab".to_vec(), b"abab".to_vec(), b"b".to_vec(), two.clone()];
+    let lists = [sixteen(), vec![vec![b'a'; 32], vec![b'a'; 31]], vec![fibonacci, two.clone()], endings.to_vec(), vec![two]];
+    let mut cases = Vec::new();
+    for words in &lists {
+        for length in [255, 256, 257, 258, 259, 260, 1023, 1024, 1025, 1026, 1027] {
+            cases.extend([b'.', b'a', b'b'].map(|filler| around_borders(words, length, filler)));
+        }
+    }
+    cases
+}
+
+/// Chunks of 65,532 to 65,535 bytes: runs of a letter and of a keyword, with two moves a byte, and with a last byte that ends them.
+fn longest_walks(_: &mut Rng) -> Vec<Case> {
+    let all: Vec<Vec<u8>> = (17..=32).map(|k| vec![b'a'; k]).collect();
+    let lists = [sixteen(), vec![b"ab".to_vec()], vec![b"aab".to_vec(), b"abaab".to_vec()], all];
+    let mut cases = Vec::new();
+    for words in &lists {
+        let run = |length: usize, last: u8| {
+            let mut data = vec![b'a'; length];
+            data[length - 1] = last;
+            data
+        };
+        let repeated: Vec<u8> = words[0].iter().copied().cycle().take(65_535).collect();
+        let mut chunks: Chunks = (65_532..=65_535).map(|length| (key(length), run(length, b'a'))).collect();
+        chunks.extend([(key(1), run(65_535, b'b')), (key(2), run(65_534, b'.')), (key(3), repeated)]);
+        let words = list(false, &words.iter().map(|w| &w[..]).collect::<Vec<_>>());
+        cases.push(case("moves of the longest chunks", words, &chunks, &[vec![key(1), key(3)]]));
+    }
+    cases
 }
 
 fn counts(_: &mut Rng) -> Vec<Case> {

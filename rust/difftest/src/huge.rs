@@ -1,7 +1,9 @@
-//! The sizes at which 32 bits end: a store of the greatest length, indexes around 4,294,967,295 bytes. Each step wants
-//! some 5 GB of memory, so these run only when asked for (`--huge`).
+//! The sizes at which 32 bits end: a store of the greatest length, indexes, moves and bounds around 4,294,967,295. Each step
+//! wants some 5 GB of memory, so these run only when asked for (`--huge`). With the feature `mock` steps 2 to 4 hold the
+//! oracle's records too and want some 20 GB: there name another step.
 
 use crate::inputs::list;
+use oracle::moves::Trie;
 use oracle::records::{encode_body, records_of};
 use oracle::{calls, index, keywords, recipes, store, Fingerprint, U32};
 use std::collections::HashMap;
@@ -33,9 +35,26 @@ fn answer(call: impl FnOnce(&mut u64) -> u8) -> (u8, u64) {
     (call(&mut number), number)
 }
 
+/// A scan's code, the index's length and the moves.
+fn scan(words: &[u8], store: &[u8], out: &mut [u8]) -> (u8, u64, u64) {
+    let (mut length, mut moves) = (UNTOLD, UNTOLD);
+    (raw::scan(words, store, out, (&mut length, &mut moves)), length, moves)
+}
+
+/// What a refused scan gives.
+const TOO_LONG: (u8, u64, u64) = (9, UNTOLD, UNTOLD);
+
 /// All steps, or the one of that number from 1.
 pub fn run(step: u64) -> Verdict {
-    let steps: [fn() -> Verdict; 4] = [longest_store, || longest_index(0), || longest_index(1), longer_than_a_scan_writes];
+    let steps: [fn() -> Verdict; 7] = [
+        longest_store,
+        || longest_index(0),
+        || longest_index(1),
+        longer_than_a_scan_writes,
+        moves_past_32_bits,
+        || longest_bound(0),
+        || longest_bound(1),
+    ];
     steps.iter().zip(1..).filter(|(_, number)| step == 0 || step == *number).try_for_each(|(run, _)| run())
 }
 
@@ -53,9 +72,9 @@ fn longest_store() -> Verdict {
     }
     let mut state = 1u32;
     for k in 0..count {
-        // Nothing but dots, a keyword at a random place, and half a keyword at one end.
+        // Nothing but its first letter (two moves a byte), a keyword at a random place, and half a keyword at one end.
         let start = bytes.len();
-        bytes.resize(start + size, b'.');
+        bytes.resize(start + size, b'c');
         state = state.wrapping_mul(1_664_525).wrapping_add(1_013_904_223);
         let at = start + 3 + (state >> 8) as usize % (size - 10);
         bytes[at..at + 4].copy_from_slice(b"cash");
@@ -71,7 +90,9 @@ fn longest_store() -> Verdict {
     let want = calls::index_of(&words, &bytes).map_err(|code| format!("the oracle refuses with {code}"))?;
     same("scan_size", answer(|length| raw::scan_size(&words, &bytes, length)), (0, want.len() as u64))?;
     let mut out = vec![0xEE; want.len() + 5];
-    same("scan", answer(|length| raw::scan(&words, &bytes, &mut out, length)), (0, want.len() as u64))?;
+    let moves = calls::moves_of(&words, &bytes).map_err(|code| format!("the oracle refuses with {code}"))?;
+    same("more moves than 32 bits hold", moves > U32, true)?;
+    same("scan", scan(&words, &bytes, &mut out), (0, want.len() as u64, moves))?;
     same("the index is the oracle's", out[..want.len()] == want && out[want.len()..] == [0xEE; 5], true)?;
     same("last chunk", raw::chunk(&bytes, &key(count - 1)), (0, 4_261_595_008 - 65_535, 65_535))?;
     // One file of all chunks, backwards: offsets up to 4,259,775,000.
@@ -115,13 +136,14 @@ fn longest_index(more: u64) -> Verdict {
     same("scan_size", answer(|length| raw::scan_size(&words, &bytes, length)), (0, U32 + more))?;
     let mut out = vec![0; (U32 + more) as usize + 3];
     if more > 0 {
-        same("scan", answer(|length| raw::scan(&words, &bytes, &mut out, length)), (9, UNTOLD))?;
+        same("scan", scan(&words, &bytes, &mut out), TOO_LONG)?;
         return same("nothing is written", out.iter().all(|b| *b == 0), true);
     }
-    same("scan, a byte short", answer(|length| raw::scan(&words, &bytes, &mut out[..U32 as usize - 1], length)), (9, UNTOLD))?;
-    same("scan", answer(|length| raw::scan(&words, &bytes, &mut out, length)), (0, U32))?;
+    same("scan, a byte short", scan(&words, &bytes, &mut out[..U32 as usize - 1]), TOO_LONG)?;
     // The oracle's bodies, each once.
     let read = keywords::read(&words).map_err(|code| format!("the oracle refuses with {code}"))?;
+    let moves = calls::moves_of(&words, &bytes).map_err(|code| format!("the oracle refuses with {code}"))?;
+    same("scan", scan(&words, &bytes, &mut out), (0, U32, moves))?;
     let mut bodies: HashMap<&[u8], Vec<u8>> = HashMap::new();
     let mut at = 8 + words.len() + 32 * chunks.len();
     for (_, chunk) in &chunks {
@@ -163,4 +185,59 @@ fn longer_than_a_scan_writes() -> Verdict {
         (0..2050).map(|k| (key(k), 65_535, if k < 2049 { &body[..] } else { &[] })).collect();
     drop(bytes);
     same("index check, an offset past 32 bits", raw::check_index(&index::encode(&words, &entries)), 11)
+}
+
+/// Two moves for each byte of 2,149,548,000 but for the chunks' first ones.
+fn moves_past_32_bits() -> Verdict {
+    println!("moves past 32 bits");
+    let (words, count) = (list(false, &[b"ab"]), 32_800);
+    let chunk = vec![b'a'; 65_535];
+    let bytes = store::encode(&(0..count).map(|k| (key(k), &chunk[..])).collect::<Vec<_>>());
+    let read = keywords::read(&words).map_err(|code| format!("the oracle refuses with {code}"))?;
+    let moves = count as u64 * Trie::new(&read).moves(&chunk);
+    same("moves by the oracle", moves, 32_800 * (2 * 65_535 - 1))?;
+    same("they pass 32 bits", moves > U32, true)?;
+    let body = encode_body(&records_of(&read, &chunk));
+    let want = index::encode(&words, &(0..count).map(|k| (key(k), 65_535, &body[..])).collect::<Vec<_>>());
+    let mut out = vec![0xEE; want.len()];
+    same("scan", scan(&words, &bytes, &mut out), (0, want.len() as u64, moves))?;
+    same("the index is the oracle's", out == want, true)?;
+    same("scan, a byte short", scan(&words, &bytes, &mut out[1..]), TOO_LONG)
+}
+
+/// A store whose scan has a bound of 4,294,967,295 and `more`, in buffers of about that length: from there on the library may not
+/// leave the measuring out.
+fn longest_bound(more: u64) -> Verdict {
+    println!("a bound of 4,294,967,295 + {more}");
+    let words = list(false, &[b"ab"]);
+    // The bound is 24 + list + 97 x count + 2 x bytes of chunks.
+    let count = 32_768 + more;
+    let data = (U32 + more - 24 - words.len() as u64 - 97 * count) / 2;
+    let (size, longer) = (data / count, data % count);
+    let read = keywords::read(&words).map_err(|code| format!("the oracle refuses with {code}"))?;
+    let trie = Trie::new(&read);
+    // Four kinds of chunks: two lengths, without and with the keyword at its end.
+    let kinds: Vec<(Vec<u8>, Vec<u8>, u64)> = (0..4)
+        .map(|kind| {
+            let mut chunk = vec![b'a'; (size + kind % 2) as usize];
+            *chunk.last_mut().expect("it isn't empty") = if kind < 2 { b'a' } else { b'b' };
+            let (body, moves) = (encode_body(&records_of(&read, &chunk)), trie.moves(&chunk));
+            (chunk, body, moves)
+        })
+        .collect();
+    let kind = |k: u64| &kinds[usize::from(k < longer) + if k % 3 == 0 { 2 } else { 0 }];
+    let bytes = store::encode(&(0..count).map(|k| (key(k as usize), &kind(k).0[..])).collect::<Vec<_>>());
+    same("the bound", vault::scan_bound(&words, &bytes), U32 + more)?;
+    let entries: Vec<(Fingerprint, u64, &[u8])> =
+        (0..count).map(|k| (key(k as usize), kind(k).0.len() as u64, &kind(k).1[..])).collect();
+    let want = index::encode(&words, &entries);
+    let told = (0, want.len() as u64, (0..count).map(|k| kind(k).2).sum());
+    for length in [U32 - 1, U32, U32 + 1] {
+        // Pages that nobody writes to are not there.
+        let mut out = vec![0; length as usize];
+        same(&format!("scan into {length} bytes"), scan(&words, &bytes, &mut out), told)?;
+        let (front, rest) = out.split_at(want.len());
+        same("the index is the oracle's, and no byte behind it", front == want && rest.iter().all(|b| *b == 0), true)?;
+    }
+    Ok(())
 }

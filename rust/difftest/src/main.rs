@@ -11,6 +11,7 @@ mod damage;
 mod fixed;
 mod huge;
 mod inputs;
+mod lanes;
 mod rng;
 
 use compare::{Comparison, Limits, Tally, USUAL};
@@ -71,9 +72,9 @@ fn on_large_stack<T: Send>(work: impl FnOnce() -> T + Send) -> T {
     vault::on_large_stack(work).expect("a thread can be started")
 }
 
-/// A random case: sound, damaged in one input, in two, made up, or noise.
+/// A random case: sound, damaged in one input, in two, made up, noise, or for the walk.
 fn random(rng: &mut Rng) -> Case {
-    match rng.below(100) {
+    match rng.below(112) {
         0..=29 => inputs::vault(rng, "vaults").0,
         30..=36 => {
             let (mut case, _, _) = inputs::vault(rng, "damaged keywords");
@@ -101,7 +102,8 @@ fn random(rng: &mut Rng) -> Case {
             case
         }
         96..=97 => long_chunks(rng),
-        _ => noise(rng),
+        98..=99 => noise(rng),
+        _ => lanes::vault(rng),
     }
 }
 
@@ -319,6 +321,10 @@ fn report(tally: &Tally, time: Duration) {
         tally.occurrences
     );
     println!("{} lists the same as the direct search of the restored files,", tally.direct);
+    println!(
+        "{} moves, of {} stores counted by strings too, {} scans in buffers as long as the bound,",
+        tally.moves, tally.by_strings, tally.one_walk
+    );
     println!("{} answers the same on two orders of a store's chunks, {:.1} s", tally.orders, time.as_secs_f64());
     println!("no difference");
 }

@@ -4,7 +4,7 @@
 use crate::index::Index;
 use crate::join::Joined;
 use crate::store::Chunk;
-use crate::{index, join, keywords, store, Code, U32};
+use crate::{index, join, keywords, moves, store, Code, U32};
 use std::ops::Range;
 
 /// A call's code; its length or count goes to the lent number where the call is done.
@@ -50,7 +50,14 @@ pub fn scan_size(list: &[u8], store: &[u8], length: &mut u64) -> Code {
     told(size(), length)
 }
 
-pub fn scan(list: &[u8], store: &[u8], out: &mut [u8], length: &mut u64) -> Code {
+/// The moves of a scan, whatever the length of its index: refusals 1 to 8.
+pub fn moves_of(list: &[u8], store: &[u8]) -> Result<u64, Code> {
+    let keywords = keywords::read(list)?;
+    let chunks = store::read(store)?;
+    Ok(moves::of_scan(&keywords, store, &chunks))
+}
+
+pub fn scan(list: &[u8], store: &[u8], out: &mut [u8], (length, moves): (&mut u64, &mut u64)) -> Code {
     let mut run = || {
         let bytes = index_of(list, store)?;
         if bytes.len() as u64 > U32 {
@@ -58,7 +65,11 @@ pub fn scan(list: &[u8], store: &[u8], out: &mut [u8], length: &mut u64) -> Code
         }
         put(out, &bytes, 9)
     };
-    told(run(), length)
+    let code = told(run(), length);
+    if code == 0 {
+        return told(moves_of(list, store), moves);
+    }
+    code
 }
 
 /// Writes bytes to the buffer's front; the code given, and nothing written, if they are more than it holds.
@@ -128,7 +139,8 @@ pub fn search(
     (index, out): (&mut [u8], &mut [u8]),
     (index_length, count): (&mut u64, &mut u64),
 ) -> Code {
-    let scanned = scan(list, store, index, index_length);
+    // A search doesn't report its scan's moves.
+    let scanned = scan(list, store, index, (index_length, &mut 0));
     if scanned != 0 {
         return scanned;
     }
@@ -168,13 +180,27 @@ mod tests {
     }
 
     #[test]
+    fn a_scan_tells_its_moves() {
+        let (list, store, _) = small();
+        for (room, want) in [(136, (0, 136, 10)), (135, (9, UNTOLD, UNTOLD)), (5_000, (0, 136, 10))] {
+            let (mut length, mut moves) = (UNTOLD, UNTOLD);
+            let code = scan(&list, &store, &mut vec![0; room], (&mut length, &mut moves));
+            assert_eq!((code, length, moves), want);
+        }
+        let empty = store::encode::<&[u8]>(&[]);
+        assert_eq!(moves_of(&list, &empty), Ok(0));
+        assert_eq!(moves_of(&list[1..], &empty), Err(2));
+        assert_eq!(moves_of(&list, &empty[1..]), Err(5));
+    }
+
+    #[test]
     fn exact_buffers_fit_and_shorter_ones_change_nothing() {
         let (list, store, recipes) = small();
         let mut index = vec![0xEE; 136];
         let mut short = vec![0xEE; 135];
-        assert_eq!(answer(|length| scan(&list, &store, &mut short, length)), (9, UNTOLD));
+        assert_eq!(answer(|length| scan(&list, &store, &mut short, (length, &mut 0))), (9, UNTOLD));
         assert_eq!(short, [0xEE; 135]);
-        assert_eq!(answer(|length| scan(&list, &store, &mut index, length)), (0, 136));
+        assert_eq!(answer(|length| scan(&list, &store, &mut index, (length, &mut 0))), (0, 136));
         let mut out = vec![0xEE; 26];
         assert_eq!(answer(|count| join(&index, &recipes, &mut out, count)), (18, UNTOLD));
         assert_eq!(out, [0xEE; 26]);

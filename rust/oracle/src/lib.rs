@@ -1,4 +1,4 @@
-//! A plain implementation of document 01, written from the paper and from nothing else.
+//! A plain implementation of document 01 and of the requests of document 02, written from the papers and from nothing else.
 //!
 //! It is here to be compared with: nothing is clever, every test stands in the paper's order, every sum is
 //! taken in 64 bits, and every function answers for all inputs. Each module is one section of the paper:
@@ -6,6 +6,7 @@
 //! * [`keywords`]: "Words", with the word check;
 //! * [`store`]: "Store", with the store check;
 //! * [`records`]: "Notes on one chunk and one word", and their written form;
+//! * [`moves`]: request 103, what a scan's walk of the trie counts;
 //! * [`index`]: "Notes file", with the notes check;
 //! * [`recipes`]: "Recipes", with refusals 14 to 17;
 //! * [`join`]: "Joining two notes" and the join;
@@ -17,6 +18,7 @@ pub mod direct;
 pub mod index;
 pub mod join;
 pub mod keywords;
+pub mod moves;
 pub mod recipes;
 pub mod records;
 pub mod store;

@@ -18,6 +18,7 @@ extern "C" {
         out: *mut u8,
         out_length: usize,
         length: *mut u64,
+        moves: *mut u64,
     ) -> u8;
     pub fn vault_count(index: *const u8, index_length: usize, recipes: *const u8, recipes_length: usize, count: *mut u64) -> u8;
     pub fn vault_join(

@@ -1,7 +1,7 @@
 //! Search over deduplicated backups: safe Rust over the proved library `libvault_c.a`.
 //!
 //! * A **store** holds each distinct chunk once. **Recipes** say which chunks make up each file.
-//! * [`scan`] scans each chunk once for up to 16 **keywords** and writes a **match index**.
+//! * [`scan`] scans each chunk for up to 16 **keywords** at once, writes a **match index** and counts its **moves**.
 //! * [`join`] takes the index and recipes, and no chunk, and lists every [`Occurrence`] in the restored files: by file,
 //!   then offset, then keyword, each exactly once, also those that cross from one chunk into the next.
 //!
@@ -9,14 +9,15 @@
 //! buffer. What is proved is the library behind; this crate checks nothing again and only names things. Functions that make
 //! their own buffer give a [`Failure`]: a refusal, or memory that can't be had.
 //!
-//! The library keeps its tables on the stack, up to 1.1 MB of it, and a thread that Rust starts has 2 MB: call from the
+//! The library keeps its tables on the stack, up to 1.3 MB of it, and a thread that Rust starts has 2 MB: call from the
 //! main thread or through [`on_large_stack`].
 //!
 //! ```no_run
 //! let keywords = vault::keyword_list(false, &[b"invoice", b"paid"]).unwrap();
 //! let (store, recipes) = (std::fs::read("store.bin").unwrap(), std::fs::read("recipes.bin").unwrap());
-//! let index = vault::scan(&keywords, &store).unwrap();
-//! for found in vault::join(&index, &recipes).unwrap() {
+//! let scan = vault::scan(&keywords, &store).unwrap();
+//! println!("{} moves", scan.moves);
+//! for found in vault::join(&scan.index, &recipes).unwrap() {
 //!     println!("file {} offset {} keyword {}", found.file, found.offset, found.keyword);
 //! }
 //! ```
@@ -76,6 +77,26 @@ impl std::fmt::Display for SearchError {
 }
 
 impl std::error::Error for SearchError {}
+
+/// A scan's index, and its moves.
+///
+/// The moves are those in the trie of all keywords, whose nodes are all beginnings of the keywords, compared under the fold
+/// flag, with the empty one as root; a node's failure link leads to its longest proper ending that is a node. For each byte
+/// of a chunk each link followed is a move, and so is the step to a child or the stay at the root behind them. Each chunk
+/// starts at the root. The moves are summed over all chunks, and are at most twice the chunks' bytes. Not counted are the
+/// short backward look for suffixes and a walk made only to measure.
+#[derive(Clone, Debug, PartialEq, Eq)]
+pub struct Scan {
+    pub index: Vec<u8>,
+    pub moves: u64,
+}
+
+/// What a scan wrote into a lent buffer: the index's length, and the moves as [`Scan`] has them.
+#[derive(Clone, Copy, Debug, PartialEq, Eq)]
+pub struct Written {
+    pub length: usize,
+    pub moves: u64,
+}
 
 /// What a search wrote.
 #[derive(Clone, Copy, Debug, PartialEq, Eq)]
@@ -156,16 +177,29 @@ pub fn scan_size(list: &[u8], store: &[u8]) -> Result<u64, Error> {
     valued(|length| raw::scan_size(list, store, length))
 }
 
-/// Writes the index to the buffer's front and gives its length; what follows stays as it was. Refusals 1 to 9.
-pub fn scan_into(list: &[u8], store: &[u8], out: &mut [u8]) -> Result<usize, Error> {
-    valued(|length| raw::scan(list, store, out, length)).map(|length| length as usize)
+/// A length that no index of a scan of these passes, from lengths and counts alone.
+///
+/// Where it is at most [`LONGEST_INDEX`] and a buffer has it, [`scan_into`] walks each chunk once; else once to measure and,
+/// where a keyword occurs, once more to write. The answer is the same. What is behind the index is not touched, so the unused
+/// part of a large new buffer costs no memory.
+pub fn scan_bound(list: &[u8], store: &[u8]) -> u64 {
+    let keywords = list.first().map_or(0, |count| u64::from(*count));
+    let chunks = store.get(4..8).map_or(0, |b| u64::from(u32::from_le_bytes([b[0], b[1], b[2], b[3]])));
+    let of_keyword = (9 * chunks).saturating_add(2 * store.len() as u64);
+    (8 + list.len() as u64 + 32 * chunks).saturating_add(keywords.saturating_mul(of_keyword))
 }
 
-/// The index. Refusals 1 to 8, and 9 where it would be longer than [`LONGEST_INDEX`].
+/// Writes the index to the buffer's front and gives its length and the moves; what follows stays as it was. Refusals 1 to 9.
+pub fn scan_into(list: &[u8], store: &[u8], out: &mut [u8]) -> Result<Written, Error> {
+    let (mut length, mut moves) = (0, 0);
+    done(raw::scan(list, store, out, (&mut length, &mut moves))).map(|()| Written { length: length as usize, moves })
+}
+
+/// The index and the moves. Refusals 1 to 8, and 9 where the index would be longer than [`LONGEST_INDEX`].
 ///
 /// Most indexes are far shorter than the store, so a sixteenth of the store's length is tried first, and only where that
 /// doesn't do is the length asked for.
-pub fn scan(list: &[u8], store: &[u8]) -> Result<Vec<u8>, Failure> {
+pub fn scan(list: &[u8], store: &[u8]) -> Result<Scan, Failure> {
     let mut index = buffer(store.len() as u64 / 16 + (1 << 20))?;
     let written = match scan_into(list, store, &mut index) {
         Err(Error { code: 9, .. }) => {
@@ -179,8 +213,8 @@ pub fn scan(list: &[u8], store: &[u8]) -> Result<Vec<u8>, Failure> {
         }
         answer => answer?,
     };
-    index.truncate(written);
-    Ok(index)
+    index.truncate(written.length);
+    Ok(Scan { index, moves: written.moves })
 }
 
 /// The number of occurrences. Refusals of the index check, 14 to 17.
@@ -261,7 +295,7 @@ pub fn search_into(list: &[u8], store: &[u8], recipes: &[u8], index: &mut [u8], 
 /// Every occurrence in the restored files, by a scan and a join of its index. Refusals 1 to 9 are the scan's, 14 to 17 the
 /// join's.
 pub fn search(list: &[u8], store: &[u8], recipes: &[u8]) -> Result<Vec<Occurrence>, Failure> {
-    join(&scan(list, store)?, recipes)
+    join(&scan(list, store)?.index, recipes)
 }
 
 /// Runs `work` on a thread whose stack is large enough for every call, and waits for it. The error is of a thread that can't
@@ -304,8 +338,8 @@ mod tests {
     fn the_small_vault() {
         with_stack(|| {
             let (list, store, recipes) = small();
-            let index = scan(&list, &store).unwrap();
-            assert_eq!(index.len(), 136);
+            let Scan { index, moves } = scan(&list, &store).unwrap();
+            assert_eq!((index.len(), moves), (136, 10));
             assert_eq!(index[113..], [0, 1, 2, 0, 0, 0, 0, 0, 1, 0, 1, 1, 0, 0, 1, 0, 2, 0, 0, 3, 1, 0, 3]);
             let found = |file, offset, keyword| Occurrence { file, offset, keyword };
             let want = vec![found(0, 1, 0), found(0, 3, 0), found(1, 0, 1)];
@@ -318,11 +352,95 @@ mod tests {
         });
     }
 
+    /// A store of these chunks.
+    fn store_of(chunks: &[&[u8]]) -> Vec<u8> {
+        let mut store = b"DV1\n".to_vec();
+        store.extend_from_slice(&(chunks.len() as u32).to_le_bytes());
+        let mut offset = 8 + 28 * chunks.len();
+        for (k, chunk) in chunks.iter().enumerate() {
+            store.extend_from_slice(&[k as u8; 20]);
+            [offset, chunk.len()].iter().for_each(|field| store.extend_from_slice(&(*field as u32).to_le_bytes()));
+            offset += chunk.len();
+        }
+        store.extend_from_slice(&chunks.concat());
+        store
+    }
+
+    /// The moves of a scan for these keywords, the same in every buffer that the index fits.
+    fn moves(fold: bool, keywords: &[&[u8]], chunks: &[&[u8]]) -> u64 {
+        let (list, store) = (keyword_list(fold, keywords).unwrap(), store_of(chunks));
+        let Scan { index, moves } = scan(&list, &store).unwrap();
+        let bound = scan_bound(&list, &store) as usize;
+        assert!(index.len() <= bound && moves <= 2 * chunks.concat().len() as u64);
+        for length in [index.len(), index.len() + 1, bound.max(index.len() + 1) - 1, bound, bound + 1] {
+            let mut out = vec![7; length];
+            assert_eq!(scan_into(&list, &store, &mut out), Ok(Written { length: index.len(), moves }));
+            assert!(out[..index.len()] == index && out[index.len()..].iter().all(|b| *b == 7));
+        }
+        moves
+    }
+
+    #[test]
+    fn moves_by_the_paper() {
+        with_stack(|| {
+            for (keywords, chunk, want) in [
+                (&[&b"DEDUP"[..], b"UP"][..], &b"DEDE"[..], 5),
+                (&[b"DEDUP", b"UP"], b"DEDUP", 5),
+                (&[b"DEDUP", b"UP"], b"DEDUPX", 8),
+                (&[b"AAAA"], b"AAAAAA", 8),
+                (&[b"AAAA"], b"AAAX", 7),
+                (&[b"A"], b"AAAA", 7),
+                (&[b"A"], b"BBBB", 4),
+            ] {
+                assert_eq!(moves(false, keywords, &[chunk]), want, "{}", chunk.escape_ascii());
+            }
+        });
+    }
+
+    #[test]
+    fn moves_of_chunks_and_folds() {
+        with_stack(|| {
+            assert_eq!(moves(false, &[b"A"], &[]), 0);
+            // Each chunk starts at the root; the order is all one.
+            assert_eq!(moves(false, &[b"AAAA"], &[b"AAAAAA", b"AAAX", b"A"]), 8 + 7 + 1);
+            assert_eq!(moves(false, &[b"AAAA"], &[b"A", b"AAAX", b"AAAAAA"]), 8 + 7 + 1);
+            assert_eq!(moves(true, &[b"dedup", b"Up"], &[b"DeDe", b"dEDUPx"]), 5 + 8);
+            assert_eq!(moves(false, &[b"dedup", b"Up"], &[b"DeDe", b"dEDUPx"]), 4 + 8);
+            // Two a byte but for the first 31, in chunks that are walked in one part and in four.
+            let word = [&[b'a'; 31][..], b"b"].concat();
+            for length in [33, 255, 256, 257, 1023, 1024, 1025, 65_535] {
+                assert_eq!(moves(false, &[&word], &[&vec![b'a'; length]]), 2 * length as u64 - 31);
+            }
+        });
+    }
+
+    #[test]
+    fn a_refused_scan_keeps_both_numbers() {
+        with_stack(|| {
+            let (list, store, _) = small();
+            let bad = [&list[..], &[0]].concat();
+            for (list, store, length, code) in
+                [(&list, &store[..], 135, 9), (&list, &store[1..], 5000, 5), (&bad, &store[..], 5000, 1)]
+            {
+                let (mut told, mut moves) = (1 << 40, 1 << 41);
+                assert_eq!(raw::scan(list, store, &mut vec![7; length], (&mut told, &mut moves)), code);
+                assert_eq!((told, moves), (1 << 40, 1 << 41));
+            }
+        });
+    }
+
+    #[test]
+    fn the_bound_of_a_scan() {
+        let (list, store, _) = small();
+        assert_eq!(scan_bound(&list, &store), 8 + 9 + 32 * 3 + 2 * (9 * 3 + 2 * 100));
+        assert_eq!(scan_bound(&[], &[]), 8);
+    }
+
     #[test]
     fn lookups_are_parts_of_the_input() {
         with_stack(|| {
             let (list, store, _) = small();
-            let index = scan(&list, &store).unwrap();
+            let index = scan(&list, &store).unwrap().index;
             let chunk = find_chunk(&store, &[2; 20]).unwrap();
             assert_eq!((chunk, chunk.as_ptr()), (&b"ABAX"[..], store[95..].as_ptr()));
             let body = find_body(&index, &[3; 20]).unwrap();
@@ -336,7 +454,7 @@ mod tests {
     fn refusals() {
         with_stack(|| {
             let (list, store, recipes) = small();
-            let index = scan(&list, &store).unwrap();
+            let index = scan(&list, &store).unwrap().index;
             assert_eq!(keyword_list(true, &[b"Ab", b"aB"]).unwrap_err().code, 4);
             assert_eq!(keyword_list(true, &[&[b'a'; 300]]).unwrap_err().code, 3);
             assert_eq!(check_store(&store[1..]).unwrap_err().code, 5);

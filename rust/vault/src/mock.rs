@@ -25,6 +25,7 @@ pub unsafe fn vault_scan_size(
     calls::scan_size(from_raw_parts(list, list_length), from_raw_parts(store, store_length), &mut *length)
 }
 
+#[allow(clippy::too_many_arguments)]
 pub unsafe fn vault_scan(
     list: *const u8,
     list_length: usize,
@@ -33,9 +34,10 @@ pub unsafe fn vault_scan(
     out: *mut u8,
     out_length: usize,
     length: *mut u64,
+    moves: *mut u64,
 ) -> u8 {
     let out = from_raw_parts_mut(out, out_length);
-    calls::scan(from_raw_parts(list, list_length), from_raw_parts(store, store_length), out, &mut *length)
+    calls::scan(from_raw_parts(list, list_length), from_raw_parts(store, store_length), out, (&mut *length, &mut *moves))
 }
 
 pub unsafe fn vault_count(

@@ -20,8 +20,10 @@ pub fn scan_size(list: &[u8], store: &[u8], length: &mut u64) -> u8 {
     unsafe { ffi::vault_scan_size(list.as_ptr(), list.len(), store.as_ptr(), store.len(), length) }
 }
 
-pub fn scan(list: &[u8], store: &[u8], out: &mut [u8], length: &mut u64) -> u8 {
-    unsafe { ffi::vault_scan(list.as_ptr(), list.len(), store.as_ptr(), store.len(), out.as_mut_ptr(), out.len(), length) }
+/// The index's length and the moves.
+pub fn scan(list: &[u8], store: &[u8], out: &mut [u8], (length, moves): (&mut u64, &mut u64)) -> u8 {
+    let (l, n, s, m) = (list.as_ptr(), list.len(), store.as_ptr(), store.len());
+    unsafe { ffi::vault_scan(l, n, s, m, out.as_mut_ptr(), out.len(), length, moves) }
 }
 
 pub fn count(index: &[u8], recipes: &[u8], count: &mut u64) -> u8 {

@@ -140,8 +140,8 @@ impl Session<'_> {
         Ok(Recipes { path: path.to_path_buf(), bytes, names })
     }
 
-    /// An index of a store that was read.
-    fn scanned(&self, list: &[u8], store: &[u8], path: &Path) -> Result<Vec<u8>, Failure> {
+    /// An index of a store that was read, and the scan's moves.
+    fn scanned(&self, list: &[u8], store: &[u8], path: &Path) -> Result<vault::Scan, Failure> {
         let count = vault::keywords_of(list).len();
         let s = if count == 1 { "" } else { "s" };
         let step = format!("scanning {} for {count} keyword{s}", size(store.len() as u64));
@@ -174,7 +174,7 @@ impl Session<'_> {
         let list = self.keywords()?;
         let recipes = self.recipes(recipes_path)?;
         let store = self.read(store_path, &input::STORE)?;
-        let index = self.scanned(&list, &store, store_path)?;
+        let index = self.scanned(&list, &store, store_path)?.index;
         drop(store);
         self.joined(&index, "the index", recipes, format)
     }
@@ -185,11 +185,12 @@ impl Session<'_> {
         self.keep_apart(&[path])?;
         let list = self.keywords()?;
         let store = self.read(path, &input::STORE)?;
-        let index = self.scanned(&list, &store, path)?;
+        let vault::Scan { index, moves } = self.scanned(&list, &store, path)?;
         let length = index.len() as u64;
         let step = format!("writing {}", size(length));
         self.progress.step(&step, length, || output::write(Some(output), |out| out.write_all(&index)))?;
-        let report = format!("{}: {} for a store of {}", text::path(output), size(length), size(store.len() as u64));
+        let (written, scanned, s) = (size(length), size(store.len() as u64), if moves == 1 { "" } else { "s" });
+        let report = format!("{}: {written} for a store of {scanned}, {moves} move{s}", text::path(output));
         if identity::is_standard_output(output) {
             text::say(report);
             return Ok(());

@@ -42,7 +42,7 @@ fn keywords_in_three_ways() {
 #[test]
 fn an_index_is_kept_and_joined() {
     let folder = Folder::new("index");
-    folder.prints("scan store.bin --words words.bin -o index.bin", "index.bin: 136 bytes for a store of 100 bytes\n");
+    folder.prints("scan store.bin --words words.bin -o index.bin", "index.bin: 136 bytes for a store of 100 bytes, 10 moves\n");
     assert_eq!(folder.read("index.bin")[113..120], [0, 1, 2, 0, 0, 0, 0]);
     folder.prints("join index.bin recipes.bin --format plain", "finds 3\n0 1 0\n0 3 0\n1 0 1\n");
     let good = "store.bin: good, 3 chunks\nindex.bin: good, 3 chunks\nrecipes.bin: good, 3 files, 3 occurrences\n";
@@ -55,6 +55,34 @@ fn an_index_is_kept_and_joined() {
     folder.prints(&format!("lookup --index index.bin {key}"), explained);
     folder.refuses(&format!("lookup --store store.bin {}", "04".repeat(20)), 15, "not there");
     folder.refuses("lookup --index index.bin 0102", 19, "20 bytes");
+}
+
+#[test]
+fn a_scan_tells_its_moves() {
+    let folder = Folder::new("moves");
+    let store = |chunk: &[u8]| [&b"DV1\n\x01\0\0\0"[..], &[7; 20], &[36, 0, 0, 0, chunk.len() as u8, 0, 0, 0], chunk].concat();
+    for (words, chunk, told) in [
+        ("--word DEDUP --word UP", &b"DEDE"[..], "5 moves"),
+        ("--word DEDUP --word UP", b"DEDUPX", "8 moves"),
+        ("--word dedup --word Up --fold", b"DeDUPx", "8 moves"),
+        ("--word AAAA", b"AAAX", "7 moves"),
+        ("--word A", b"B", "1 move"),
+    ] {
+        folder.write("one.bin", &store(chunk));
+        let (status, out, err) = folder.run(&format!("scan one.bin {words} -o index.bin"));
+        assert!(status == 0 && out.ends_with(&format!(" bytes, {told}\n")), "{out}{err}");
+    }
+    folder.write("none.bin", b"DV1\n\0\0\0\0");
+    folder.prints("scan none.bin --word A -o index.bin", "index.bin: 12 bytes for a store of 8 bytes, 0 moves\n");
+    // On standard error where the index goes to standard output; a search and a refusal tell none.
+    let (_, _, err) = folder.run("scan none.bin --word A -o /dev/stdout");
+    assert!(err.ends_with("/dev/stdout: 12 bytes for a store of 8 bytes, 0 moves\n"), "{err}");
+    for words in ["search store.bin recipes.bin --words words.bin", "scan words.bin --word A -o index.bin"] {
+        let (_, out, err) = folder.run(words);
+        assert!(!(out + &err).contains("move"), "{words}");
+    }
+    let (_, help, _) = folder.run("--help");
+    assert!(help.contains("It tells the moves in the keywords' trie: each failure link followed"));
 }
 
 #[test]

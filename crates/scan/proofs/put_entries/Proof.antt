@@ -1,25 +1,28 @@
 -- `scan::put_entries` meets its contract. The invariant: with the rest of the directory and the rest of the bodies written, each from where
--- it is now, the buffer is as promised. Assumes nothing.
-use mathlib.Core.Path.{_≡_, refl, ap, _∙_}
+-- it is now, the buffer is as promised; moves so far and those left are the whole. Assumes nothing.
+use mathlib.Core.Path.{_≡_, refl, sym, ap, _∙_}
 use mathlib.Core.List.{List}
-use Prim.Native.Nat.{ℕ, _+_, _*_, _-_, _≤_, _<_}
+use Prim.Native.Nat.{ℕ, _+_, _*_, _-_, _%_, _≤_, _<_}
+use native.Mathlib.Nat.{zero-add}
 use native.Mathlib.Omega.{arith}
 use borrow.Author.Needs.{needs}
 use borrow.Rule.Slice.PartMut.{same-len-mid, putMid}
 use denote.Ref.{now}
-use lib.ListN.{length}
+use lib.ListN.{length, getD}
 use Rattle.spec.specs.Bytes.{splice}
 use Rattle.spec.specs.Store.{chunkCount}
 use Rattle.spec.specs.Form.{newest}
 use Rattle.spec.specs.Scan.{scanBody}
 use Rattle.spec.proofs.StoreLaws.{store-good, store-key-length}
-use Rattle.matcher.proofs.Bodies.{part-room}
+use Rattle.records.proofs.Beginning.{part-room}
+use Rattle.chunkwalk.specs.Marks.{walkedMoves, Usable}
+use Rattle.chunkwalk.proofs.Walking.{equipped-on, written-size, written-moves}
 use Rattle.scan.specs.Layout.{bodiesFrom, tailBytes}
-use Rattle.scan.proofs.Parts.{body, bodies-length}
+use Rattle.scan.proofs.Parts.{body, bodies-length, bodies-end, body-short, index-length}
 use Rattle.scan.proofs.Turns.{entryAt, directoryLeft, bodiesLeft, regions-start, regions-turn, regions-end}
+use Rattle.scan.proofs.Moves.{Lengths, writtenAt, movesLeft, written-all, moves-step, moves-end, written-most}
 use Rattle.scan.proofs.put_entries.Statement.{statement}
 use Rattle.scan.proofs.put_entries.Tie as tie
-use Rattle.scan.proofs.put_entries.Reads as reads
 
 -- the lists' state: the bodies' place, the room, and what is left in both regions
 abbrev Left : List ℕ → List ℕ → List ℕ → ℕ → List ℕ → ℕ → ℕ → Type 0
@@ -30,157 +33,253 @@ Left out₀ list store count out at k =
     × (at + length (bodiesFrom newest list store k) ≡ 8 + length list + 32 * count + length (bodiesFrom newest list store 0))
 
 abbrev Inv-loop : tie.InvT-loop
-Inv-loop out₀ list words store count start at₀ k₀ out at k =
+Inv-loop out₀ list words store count table ends tails log₀ run1₀ run2₀ run3₀ marks start at₀ moves₀ k₀ out log run1 run2 run3 at moves k =
     Left out₀ list store count out at k
     × (splice (splice out (entryAt list store k) (directoryLeft list store at k)) at (bodiesLeft list store k)
     ≡ splice out₀ (8 + length list) (tailBytes newest list store))
+    × Lengths log₀ run1₀ run2₀ run3₀ log run1 run2 run3
+    × (moves + movesLeft store (writtenAt list store marks) k ≡ movesLeft store (writtenAt list store marks) 0)
+    × (moves ≤ 131070 * k)
 
 abbrev μ-loop : tie.MeasureT-loop
-μ-loop out₀ list words store count start at₀ k₀ out at k = count - k
+μ-loop out₀ list words store count table ends tails log₀ run1₀ run2₀ run3₀ marks start at₀ moves₀ k₀ out log run1 run2 run3 at moves k = count - k
+
+-- where the function starts, where a turn does, and where its chunk is written
+abbrev outset : tie.In-loop Inv-loop μ-loop → tie.Start Inv-loop μ-loop
+outset i = i .before .before .before .before .before .before .before .before .before .before .before .before .before
+
+abbrev turn : tie.After-put Inv-loop μ-loop → tie.In-loop Inv-loop μ-loop
+turn b = b .before .before .before .before .before .before .before .before
+
+abbrev written : tie.After-key-at Inv-loop μ-loop → tie.After-put Inv-loop μ-loop
+written c = c .before .before .before .before .before .before .before .before .before .before .before
 
 -- in a turn there is such a chunk, and its body and entry have room
-within : (c : tie.In-loop Inv-loop μ-loop) → c .before .loop .k < chunkCount (c .before .before .before .before .before .args .store .now)
-within c = omega (arith, c .loop-test .taken, c .before .before .before .before .before .pre .walks .counted)
+module _ (i : tie.In-loop Inv-loop μ-loop) where
+  abbrev list : List ℕ
+  list = outset i .args .list .now
 
-room : (c : tie.In-loop Inv-loop μ-loop) → let p = c .before in let a = p .before .before .before .before .args in
-    p .loop .at + length (body newest (a .list .now) (a .store .now) (p .loop .k)) ≤ length (p .loop .out)
-room c =
-    let p = c .before in
-    let s = p .before .before .before .before in
-    omega (arith, bodies-length newest (s .args .list .now) (s .args .store .now) (p .loop .k) (within c), p .loop .inv .0 .1, p .loop .inv .0 .3, s .pre .room)
+  abbrev store : List ℕ
+  store = outset i .args .store .now
 
--- and the entry
-entry-room : (c : tie.In-loop Inv-loop μ-loop) → let p = c .before in let a = p .before .before .before .before .args in
-    8 + length (a .list .now) + 32 * p .loop .k + 32 ≤ length (p .loop .out)
-entry-room c = omega (arith, room c, c .loop-test .taken, c .before .loop .inv .0 .2)
+  abbrev k : ℕ
+  k = i .before .loop .k
+
+  within : k < chunkCount store
+  within = omega (arith, i .loop-test .taken, outset i .pre .measures .walks .counted)
+
+  few : k < 65000
+  few = omega (arith, within, store-good store (outset i .pre .measures .walks .checked) .few)
+
+  room : i .before .loop .at + length (body newest list store k) ≤ length (i .before .loop .out)
+  room = omega (arith, bodies-length newest list store k within, i .before .loop .inv .0 .1, i .before .loop .inv .0 .3, outset i .pre .room)
+
+  entry-room : 8 + length list + 32 * k + 32 ≤ length (i .before .loop .out)
+  entry-room = omega (arith, room, i .loop-test .taken, i .before .loop .inv .0 .2)
+
+-- the chunk is short
+short : (c : tie.After-chunk-at Inv-loop μ-loop) → length (c .chunk-at .result .now) ≤ 65535
+short c =
+    let i = c .before in
+    let w = outset i .pre .measures .walks in
+    omega (arith, ap length (c .chunk-at .ensures .0), body-short (list i) (store i) (w .checked) (w .reads .accepted) (k i) (within i))
 
 add-start : tie.Need-add-start Inv-loop μ-loop
-add-start c = omega (arith, c .before .before .before .pre .room)
+add-start c = omega (arith, c .before .before .before .before .before .before .before .before .before .before .before .pre .room)
 
 mul-at : tie.Need-mul-at Inv-loop μ-loop
-mul-at c = omega (arith, c .before .before .before .pre .room)
+mul-at c = omega (arith, c .before .before .before .before .before .before .before .before .before .before .before .pre .room)
 
 add-at : tie.Need-add-at Inv-loop μ-loop
-add-at c = omega (arith, c .before .before .before .pre .room)
+add-at c = omega (arith, c .before .before .before .before .before .before .before .before .before .before .before .pre .room)
 
 loop-holds : tie.Need-loop-holds Inv-loop μ-loop
 loop-holds c =
-    let s = c .before .before .before in
+    let s = c .before .before .before .before .before .before .before .before .before .before .before in
     let a = s .args in
-    let w = s .pre .walks in (
+    let w = s .pre .measures .walks in (
       (omega arith, refl, omega arith, refl),
       regions-start (a .list .now) (a .store .now) (w .checked) (a .out .now) (a .count) (w .counted) (omega (arith, s .pre .room)),
+      record { log = refl; run1 = refl; run2 = refl; run3 = refl },
+      zero-add _,
+      omega arith,
     )
 
 chunk-at-requires : tie.Need-chunk-at-requires Inv-loop μ-loop
-chunk-at-requires c κs = record { checked = c .before .before .before .before .before .pre .walks .checked; within = within c }
+chunk-at-requires i κs = record { checked = outset i .pre .measures .walks .checked; within = within i }
 
-sub-put-body : tie.Need-sub-put-body Inv-loop μ-loop
-sub-put-body c = omega (arith, room (c .before))
+sub-put : tie.Need-sub-put Inv-loop μ-loop
+sub-put c = omega (arith, room (c .before))
 
-part-put-body-start : tie.Need-part-put-body-start Inv-loop μ-loop
-part-put-body-start c = omega (arith, room (c .before))
+part-put-start : tie.Need-part-put-start Inv-loop μ-loop
+part-put-start c = omega (arith, room (c .before))
 
-part-put-body-end : tie.Need-part-put-body-end Inv-loop μ-loop
-part-put-body-end c = search needs
+part-put-end : tie.Need-part-put-end Inv-loop μ-loop
+part-put-end c = search needs
 
-put-body-requires : tie.Need-put-body-requires Inv-loop μ-loop
-put-body-requires c κs =
-    let i = c .before .before in
-    let p = i .before in
-    let s = p .before .before .before .before in
-    let e = ap (λ chunk. length (scanBody newest (s .args .list .now) chunk)) (c .before .chunk-at .ensures .0) in
-    record {
-      reads = s .pre .walks .reads;
-      room = part-room (p .loop .out) (p .loop .at) _ (omega (arith, e, room i));
-    }
+mul-put : tie.Need-mul-put Inv-loop μ-loop
+mul-put c = omega (arith, few (c .before .before .before .before .before .before))
+
+shared-slice-read-put : tie.Need-shared-slice-read-put Inv-loop μ-loop
+shared-slice-read-put c =
+    let i = c .before .before .before .before .before .before .before in
+    omega (arith, few i, outset i .pre .measures .long)
+
+put-requires : tie.Need-put-requires Inv-loop μ-loop
+put-requires c κs =
+    let h = c .before .before .before .before .before .before in
+    let i = h .before in
+    let p = i .before .loop in
+    let s = outset i in
+    let l = p .inv .2 in
+    let e = h .chunk-at .ensures .0 in (
+      equipped-on (s .pre .measures .equipped) (l .log) (l .run1) (l .run2) (l .run3),
+      short h,
+      λ z. rw e (s .pre .usable (k i) (within i) z),
+      part-room (p .out) (p .at) _ (omega (arith, ap (λ chunk. length (scanBody newest (list i) chunk)) e, room i)),
+    )
 
 key-at-requires : tie.Need-key-at-requires Inv-loop μ-loop
 key-at-requires c κs =
-    let i = c .before .before .before .before .before in
-    record { checked = i .before .before .before .before .before .pre .walks .checked; within = within i }
+    let i = turn (c .before .before .before .before .before .before .before .before .before .before) in
+    record { checked = outset i .pre .measures .walks .checked; within = within i }
 
 mul-put-entry : tie.Need-mul-put-entry Inv-loop μ-loop
-mul-put-entry c = omega (arith, entry-room (c .before .before .before .before .before .before .before))
+mul-put-entry c = omega (arith, few (turn (written (c .before))))
 
 add-put-entry : tie.Need-add-put-entry Inv-loop μ-loop
-add-put-entry c = omega (arith, entry-room (c .before .before .before .before .before .before .before))
+add-put-entry c =
+    let i = turn (written (c .before)) in
+    omega (arith, entry-room i, i .before .loop .inv .0 .1, outset i .good .0)
 
--- the buffer is as long as it was when the part is back
-same : (c : tie.After-put-body Inv-loop μ-loop) → let p = c .before .before .before .before in
-    length (putMid (p .loop .at) (length (p .loop .out) - p .loop .at) (p .loop .out) (c .put-body .last .0)) ≡ length (p .loop .out)
-same c =
-    let p = c .before .before .before .before in
-    same-len-mid (p .loop .at) (length (p .loop .out) - p .loop .at) (p .loop .out) (c .put-body .last .0) (c .put-body .kept .0)
+-- what writing said of the chunk, by its place in the store; the buffer is as long as it was when the part is back
+module _ (b : tie.After-put Inv-loop μ-loop) where
+  abbrev chunked : tie.After-chunk-at Inv-loop μ-loop
+  chunked = b .before .before .before .before .before .before .before
+
+  abbrev mark : ℕ
+  mark = getD (outset (turn b) .args .marks .now) (k (turn b)) 0
+
+  same : let p = turn b .before .loop in length (putMid (p .at) (length (p .out) - p .at) (p .out) (b .put .last .0)) ≡ length (p .out)
+  same = let p = turn b .before .loop in same-len-mid (p .at) (length (p .out) - p .at) (p .out) (b .put .last .0) (b .put .kept .0)
+
+  size-is : b .put .result .size ≡ length (scanBody newest (list (turn b)) (now (chunked .chunk-at .result)))
+  size-is = written-size (list (turn b)) (now (chunked .chunk-at .result)) mark (b .put .result) (b .put .ensures .1)
+
+  measured : b .put .result .size ≡ length (body newest (list (turn b)) (store (turn b)) (k (turn b)))
+  measured = size-is ∙ ap (λ chunk. length (scanBody newest (list (turn b)) chunk)) (chunked .chunk-at .ensures .0)
+
+  moves-is : b .put .result .moves ≡ writtenAt (list (turn b)) (store (turn b)) (outset (turn b) .args .marks .now) (k (turn b))
+  moves-is =
+      written-moves (list (turn b)) (now (chunked .chunk-at .result)) mark (b .put .result) (b .put .ensures .1)
+      ∙ ap (λ chunk. walkedMoves (list (turn b)) chunk mark) (chunked .chunk-at .ensures .0)
+
+  moves-few : b .put .result .moves ≤ 131070
+  moves-few =
+      omega (
+        arith,
+        written-moves (list (turn b)) (now (chunked .chunk-at .result)) mark (b .put .result) (b .put .ensures .1),
+        written-most (list (turn b)) (store (turn b)) (now (chunked .chunk-at .result)) mark (short chunked),
+      )
 
 put-entry-requires : tie.Need-put-entry-requires Inv-loop μ-loop
 put-entry-requires c κs =
-    let b = c .before .before .before .before in
-    let i = b .before .before .before in
-    let s = i .before .before .before .before .before in
-    let good = store-good (s .args .store .now) (s .pre .walks .checked) in
+    let b = written (c .before) in
+    let i = turn b in
+    let good = store-good (store i) (outset i .pre .measures .walks .checked) in
     record {
-      long = ap length (c .before .key-at .ensures) ∙ store-key-length (s .args .store .now) good (i .before .loop .k) (within i);
+      long = ap length (c .before .key-at .ensures) ∙ store-key-length (store i) good (k i) (within i);
       room = omega (arith, same b, entry-room i);
     }
 
--- the body's length, by the list's definition
-measured : (c : tie.After-put-body Inv-loop μ-loop) → let p = c .before .before .before .before in let a = p .before .before .before .before .args in
-    c .put-body .result ≡ length (body newest (a .list .now) (a .store .now) (p .loop .k))
-measured c =
-    let a = c .before .before .before .before .before .before .before .before .args in
-    let e = ap (λ chunk. length (scanBody newest (a .list .now) chunk)) (c .before .before .chunk-at .ensures .0) in
-    omega (arith, c .put-body .ensures .1, e)
-
 add-at-2 : tie.Need-add-at-2 Inv-loop μ-loop
 add-at-2 c =
-    let b = c .before .before .before .before .before .before .before in
-    omega (arith, measured b, room (b .before .before .before))
+    let b = written (c .before .before .before .before .before) in
+    let i = turn b in
+    omega (arith, measured b, room i, i .before .loop .inv .0 .1, outset i .good .0)
+
+add-moves : tie.Need-add-moves Inv-loop μ-loop
+add-moves c =
+    let b = written (c .before .before .before .before .before .before) in
+    omega (arith, moves-few b, turn b .before .loop .inv .4, few (turn b))
 
 add-k : tie.Need-add-k Inv-loop μ-loop
-add-k c = omega (arith, entry-room (c .before .before .before .before .before .before .before .before .before .before))
+add-k c = omega (arith, few (turn (written (c .before .before .before .before .before .before))))
 
 loop-less : tie.Need-loop-less Inv-loop μ-loop
-loop-less c = omega (arith, c .before .before .before .before .before .before .before .before .before .before .loop-test .taken)
+loop-less c = omega (arith, turn (written (c .before .before .before .before .before .before)) .loop-test .taken)
 
 loop-again : tie.Need-loop-again Inv-loop μ-loop
 loop-again c =
-    let w = c .before .before in
-    let b = w .before .before .before .before .before in
-    let i = b .before .before .before in
-    let p = i .before in
-    let s = p .before .before .before .before in
-    let a = s .args in
-    let k = p .loop .k in
-    let l = within i in
+    let w = c .before .before .before .before in
+    let b = written (w .before .before) in
+    let i = turn b in
+    let p = i .before .loop in
+    let s = outset i in
     let key = w .before .before .key-at in
-    let chunk = b .before .before .chunk-at in
-    let whole = splice (a .out .now) (8 + length (a .list .now)) (tailBytes newest (a .list .now) (a .store .now)) in (
+    let chunk = chunked b .chunk-at in
+    let kept = b .put .kept .1 .1 .1 .1 .1 .1 .1 in
+    let l = p .inv .2 in
+    let whole = splice (s .args .out .now) (8 + length (list i)) (tailBytes newest (list i) (store i)) in (
       (
         omega (arith, i .loop-test .taken),
-        w .put-entry .kept .0 ∙ same b ∙ p .loop .inv .0 .1,
-        omega (arith, p .loop .inv .0 .2),
-        omega (arith, measured b, bodies-length newest (a .list .now) (a .store .now) k l, p .loop .inv .0 .3),
+        w .put-entry .kept .0 ∙ same b ∙ p .inv .0 .1,
+        omega (arith, p .inv .0 .2),
+        omega (arith, measured b, bodies-length newest (list i) (store i) (k i) (within i), p .inv .0 .3),
       ),
-      regions-turn (a .list .now) (a .store .now) (s .pre .walks .checked) k (p .loop .at) l
-          (now (key .result)) (now (chunk .result)) (b .put-body .result) (chunk .ensures .0) (key .ensures)
-          (p .loop .out) (b .put-body .last .0) (w .put-entry .last .0) whole
-          (omega (arith, p .loop .inv .0 .2, s .pre .walks .counted)) (room i)
-          (b .put-body .ensures .0) (b .put-body .ensures .1) (w .put-entry .ensures) (p .loop .inv .1),
+      regions-turn (list i) (store i) (s .pre .measures .walks .checked) (k i) (p .at) (within i)
+          (now (key .result)) (now (chunk .result)) (b .put .result .size) (chunk .ensures .0) (key .ensures)
+          (p .out) (b .put .last .0) (w .put-entry .last .0) whole
+          (omega (arith, p .inv .0 .2, s .pre .measures .walks .counted)) (room i)
+          (b .put .ensures .0) (size-is b) (w .put-entry .ensures) (p .inv .1),
+      record {
+        log = kept .0 ∙ l .log;
+        run1 = kept .1 .0 ∙ l .run1;
+        run2 = kept .1 .1 .0 ∙ l .run2;
+        run3 = kept .1 .1 .1 .0 ∙ l .run3;
+      },
+      omega (arith, moves-is b, moves-step (store i) (writtenAt (list i) (store i) (s .args .marks .now)) (k i) (within i), p .inv .3),
+      omega (arith, moves-few b, p .inv .4),
     )
 
 same-length : tie.Need-same-length Inv-loop μ-loop
 same-length c = c .before .loop .inv .0 .1
 
+same-length-2 : tie.Need-same-length-2 Inv-loop μ-loop
+same-length-2 c = c .before .loop .inv .2 .log
+
+same-length-3 : tie.Need-same-length-3 Inv-loop μ-loop
+same-length-3 c = c .before .loop .inv .2 .run1
+
+same-length-4 : tie.Need-same-length-4 Inv-loop μ-loop
+same-length-4 c = c .before .loop .inv .2 .run2
+
+same-length-5 : tie.Need-same-length-5 Inv-loop μ-loop
+same-length-5 c = c .before .loop .inv .2 .run3
+
 returns : tie.Need-returns Inv-loop μ-loop
 returns c =
-    let p = c .before in
-    let s = p .before .before .before .before in
+    let p = c .before .loop in
+    let s = c .before .before .before .before .before .before .before .before .before .before .before .before .before in
     let a = s .args in
-    let g = s .pre .walks .checked in
-    let whole = splice (a .out .now) (8 + length (a .list .now)) (tailBytes newest (a .list .now) (a .store .now)) in
-    regions-end (a .list .now) (a .store .now) g (p .loop .out) whole (p .loop .at) (p .loop .k)
-    (omega (arith, c .loop-test .left, s .pre .walks .counted)) (p .loop .inv .1)
+    let g = s .pre .measures .walks .checked in
+    let e : chunkCount (a .store .now) ≤ p .k = omega (arith, c .loop-test .left, s .pre .measures .walks .counted) in
+    let whole = splice (a .out .now) (8 + length (a .list .now)) (tailBytes newest (a .list .now) (a .store .now)) in (
+      regions-end (a .list .now) (a .store .now) g (p .out) whole (p .at) (p .k) e (p .inv .1),
+      omega (
+        arith,
+        p .inv .0 .3,
+        ap length (bodies-end newest (a .list .now) (a .store .now) (p .k) e),
+        index-length (a .list .now) (a .store .now) g,
+        s .pre .measures .walks .counted,
+      ),
+      omega (
+        arith,
+        p .inv .3,
+        moves-end (a .store .now) (writtenAt (a .list .now) (a .store .now) (a .marks .now)) (p .k) e,
+        written-all (a .list .now) (a .store .now) (a .marks .now),
+      ),
+    )
 
 pub put-entries-spec : {M : Type 1} → statement M
 put-entries-spec =
@@ -193,17 +292,24 @@ put-entries-spec =
     add-at
     loop-holds
     chunk-at-requires
-    sub-put-body
-    part-put-body-start
-    part-put-body-end
-    put-body-requires
+    sub-put
+    part-put-start
+    part-put-end
+    mul-put
+    shared-slice-read-put
+    put-requires
     key-at-requires
     mul-put-entry
     add-put-entry
     put-entry-requires
     add-at-2
+    add-moves
     add-k
     loop-less
     loop-again
     same-length
+    same-length-2
+    same-length-3
+    same-length-4
+    same-length-5
     returns)

@@ -1,66 +1,131 @@
--- `scan::scan` meets its contract: one law for each way out. Assumes nothing.
-use mathlib.Core.Path.{sym, _∙_}
+-- `scan::scan` meets its contract: the arrays are made and filled, and `scanned` answers. Assumes nothing.
+use mathlib.Core.Path.{_≡_, sym, _∙_}
+use Prim.Native.Nat.{ℕ}
 use native.Mathlib.Omega.{arith}
 use borrow.Author.Needs.{needs}
-use Rattle.scan.proofs.Answers.{scan-refused, scan-short, scan-large, scan-done}
+use lib.ListN.{length-replicate}
+use Rattle.spec.proofs.KeywordLaws.{keyword-front}
+use Rattle.spec.proofs.StoreLaws.{store-good}
+use Rattle.scan.specs.Layout.{Walks}
+use Rattle.scan.proofs.Answers.{scan-refused}
+use Rattle.scan.proofs.Arrays.{walks-read, can-make, can-measure, table-empty, table-room, odd-ones}
+use Rattle.scan.proofs.Parts.{Passed, passed-both}
 use Rattle.scan.proofs.scan.Statement.{statement}
 use Rattle.scan.proofs.scan.Tie as tie
 
+-- where the function starts, and where the arrays are filled
+abbrev outset : tie.Else1 → tie.Start
+outset e = e .before .before .before .before .before .before .before
+
+abbrev counted : tie.After-build → tie.After-chunk-count
+counted b = b .before .before .before .before
+
+slice-aggregate-scannable : tie.Need-slice-aggregate-scannable
+slice-aggregate-scannable c = length-replicate {A = ℕ} 131328 0
+
 scannable-requires : tie.Need-scannable-requires
-scannable-requires c κs = search needs
+scannable-requires c κs = table-empty
 
 returns : tie.Need-returns
 returns c =
-    let a = c .before .before .before .before .before .args in
-    scan-refused (a .list .now) (a .store .now) (c .before .scannable .result) (c .before .scannable .ensures) (a .out .now) (omega arith)
+    let s = c .before .before in
+    let a = s .before .before .before .before .before .args in
+    let f = scan-refused (a .list .now) (a .store .now) (s .scannable .result) (s .scannable .ensures) (a .out .now) (omega arith) in
+    (f .answered, f .bytes)
 
-index-size-requires : tie.Need-index-size-requires
-index-size-requires c κs = search needs
+-- both checks passed
+checks : (e : tie.Else1) → let a = outset e .args in Passed (a .list .now) (a .store .now)
+checks e = let a = outset e .args in passed-both (a .list .now) (a .store .now) (sym (e .before .before .scannable .ensures) ∙ e .if1 .left)
 
-returns-2 : tie.Need-returns-2
-returns-2 c =
-    let n = c .before in
-    let s = n .before .before in
-    let a = s .before .before .before .before .args in
-    scan-short (a .list .now) (a .store .now) (s .scannable .result) (s .scannable .ensures) (a .out .now)
-    (n .index-size .result) (omega arith) (n .index-size .ensures) (omega arith)
+parse-requires : tie.Need-parse-requires
+parse-requires c κs = keyword-front (outset c .args .list .now) (checks c .accepted)
 
-returns-3 : tie.Need-returns-3
-returns-3 c =
-    let n = c .before .before in
-    let s = n .before .before in
-    let a = s .before .before .before .before .args in
-    scan-large (a .list .now) (a .store .now) (s .scannable .result) (s .scannable .ensures) (a .out .now)
-    (n .index-size .result) (omega arith) (n .index-size .ensures) (omega arith)
+chunk-count-requires : tie.Need-chunk-count-requires
+chunk-count-requires c κs = store-good (outset (c .before) .args .store .now) (checks (c .before) .checked) .header
 
-put-index-requires : tie.Need-put-index-requires
-put-index-requires c κs =
-    let n = c .before .before .before in
-    let s = n .before .before in
-    record { passed = sym (s .scannable .ensures) ∙ n .before .if1 .left; room = omega (arith, n .index-size .ensures, c .before .before .if2 .left) }
+-- the list is read, the store checked and counted
+walks : (c : tie.After-chunk-count) → let a = outset (c .before .before) .args in
+    Walks (a .list .now) (c .before .parse .result) (a .store .now) (c .chunk-count .result)
+walks c = walks-read (checks (c .before .before)) (c .before .parse .ensures) (c .chunk-count .ensures)
+
+slice-aggregate-build : tie.Need-slice-aggregate-build
+slice-aggregate-build c = let s = c .before .before .before .before .before in sym (s .scannable .kept .1 .1 .0 ∙ length-replicate {A = ℕ} 131328 0)
+
+slice-aggregate-build-2 : tie.Need-slice-aggregate-build-2
+slice-aggregate-build-2 c = search needs
+
+slice-aggregate-build-3 : tie.Need-slice-aggregate-build-3
+slice-aggregate-build-3 c = search needs
+
+build-requires : tie.Need-build-requires
+build-requires c κs =
+    let s = c .before .before .before .before .before .before .before .scannable in
+    can-make (walks (c .before .before .before)) (s .last .1 .1 .0) (table-room (s .last .1 .1 .0) (s .kept .1 .1 .0))
+
+slice-aggregate-scanned : tie.Need-slice-aggregate-scanned
+slice-aggregate-scanned c = search needs
+
+slice-aggregate-scanned-2 : tie.Need-slice-aggregate-scanned-2
+slice-aggregate-scanned-2 c = search needs
+
+slice-aggregate-scanned-3 : tie.Need-slice-aggregate-scanned-3
+slice-aggregate-scanned-3 c = search needs
+
+slice-aggregate-scanned-4 : tie.Need-slice-aggregate-scanned-4
+slice-aggregate-scanned-4 c = search needs
+
+slice-aggregate-scanned-5 : tie.Need-slice-aggregate-scanned-5
+slice-aggregate-scanned-5 c = search needs
+
+slice-aggregate-scanned-6 : tie.Need-slice-aggregate-scanned-6
+slice-aggregate-scanned-6 c = search needs
+
+slice-aggregate-scanned-7 : tie.Need-slice-aggregate-scanned-7
+slice-aggregate-scanned-7 c = search needs
+
+slice-aggregate-scanned-8 : tie.Need-slice-aggregate-scanned-8
+slice-aggregate-scanned-8 c = search needs
+
+scanned-requires : tie.Need-scanned-requires
+scanned-requires c κs =
+    let b = c .before .before .before .before .before .before .before .before .before .before .before .before in
+    let r = b .build in
+    let q = r .ensures .1 in
+    let e = counted b .before .before in
+    let s = e .before .before .scannable in (
+      can-measure (walks (counted b)) (s .last .1 .1 .0) (r .last .1 .1 .0) (r .last .1 .1 .1 .0) (r .last .1 .1 .1 .1 .0) 1
+          (table-room (s .last .1 .1 .0) (s .kept .1 .1 .0)) (q .0) (q .1 .0) (q .1 .1),
+      odd-ones 65000,
+      sym (s .ensures) ∙ e .if1 .left,
+    )
 
 same-length : tie.Need-same-length
 same-length c = search needs
 
-returns-4 : tie.Need-returns-4
-returns-4 c =
-    let w = c .before .before in
-    let n = w .before .before .before .before in
-    let s = n .before .before in
-    let a = s .before .before .before .before .args in
-    scan-done (a .list .now) (a .store .now) (s .scannable .result) (s .scannable .ensures) (a .out .now)
-    (n .index-size .result) (w .put-index .last .0) (omega arith) (n .index-size .ensures)
-    (omega (arith, w .before .before .before .if2 .left)) (omega (arith, w .before .before .if3 .left)) (w .put-index .ensures)
+returns-2 : tie.Need-returns-2
+returns-2 c = let f = c .before .before .before .before .before .before .before .scanned .ensures in (f .answered, f .bytes)
 
 pub scan-spec : {M : Type 1} → statement M
 scan-spec =
     tie.close
     (tie.spec
+    slice-aggregate-scannable
     scannable-requires
     returns
-    index-size-requires
-    returns-2
-    returns-3
-    put-index-requires
+    parse-requires
+    chunk-count-requires
+    slice-aggregate-build
+    slice-aggregate-build-2
+    slice-aggregate-build-3
+    build-requires
+    slice-aggregate-scanned
+    slice-aggregate-scanned-2
+    slice-aggregate-scanned-3
+    slice-aggregate-scanned-4
+    slice-aggregate-scanned-5
+    slice-aggregate-scanned-6
+    slice-aggregate-scanned-7
+    slice-aggregate-scanned-8
+    scanned-requires
     same-length
-    returns-4)
+    returns-2)

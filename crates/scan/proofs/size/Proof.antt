@@ -1,27 +1,158 @@
--- `scan::size` meets its contract. Assumes nothing.
+-- `scan::size` meets its contract: the arrays are made and filled, and the bodies measured. Assumes nothing.
+use mathlib.Core.Path.{_≡_, sym, _∙_}
+use Prim.Native.Nat.{ℕ, _+_, _*_, _≤_}
 use native.Mathlib.Omega.{arith}
 use borrow.Author.Needs.{needs}
+use lib.ListN.{length, length-replicate}
+use Rattle.spec.proofs.KeywordLaws.{keyword-front}
+use Rattle.spec.proofs.StoreLaws.{store-good}
+use Rattle.scan.specs.Layout.{Walks}
 use Rattle.scan.proofs.Answers.{size-refused, size-done}
+use Rattle.scan.proofs.Arrays.{walks-read, can-make, can-measure, table-empty, table-room}
+use Rattle.scan.proofs.Fits.{count-few, size-few, len-is}
+use Rattle.scan.proofs.Parts.{Passed, passed-both}
 use Rattle.scan.proofs.size.Statement.{statement}
 use Rattle.scan.proofs.size.Tie as tie
 
+-- where the function starts, and where the arrays are filled
+abbrev outset : tie.Else1 → tie.Start
+outset e = e .before .before .before .before .before .before
+
+abbrev counted : tie.After-build → tie.After-chunk-count
+counted b = b .before .before .before .before
+
+slice-aggregate-scannable : tie.Need-slice-aggregate-scannable
+slice-aggregate-scannable c = length-replicate {A = ℕ} 131328 0
+
 scannable-requires : tie.Need-scannable-requires
-scannable-requires c κs = search needs
+scannable-requires c κs = table-empty
 
 returns : tie.Need-returns
 returns c =
-    let a = c .before .before .before .before .args in
-    size-refused (a .list .now) (a .store .now) (c .before .scannable .result) (c .before .scannable .ensures) (omega arith)
+    let s = c .before .before in
+    let a = s .before .before .before .before .args in
+    size-refused (a .list .now) (a .store .now) (s .scannable .result) (s .scannable .ensures) (omega arith)
 
-index-size-requires : tie.Need-index-size-requires
-index-size-requires c κs = search needs
+-- both checks passed
+checks : (e : tie.Else1) → let a = outset e .args in Passed (a .list .now) (a .store .now)
+checks e = let a = outset e .args in passed-both (a .list .now) (a .store .now) (sym (e .before .before .scannable .ensures) ∙ e .if1 .left)
+
+parse-requires : tie.Need-parse-requires
+parse-requires c κs = keyword-front (outset c .args .list .now) (checks c .accepted)
+
+chunk-count-requires : tie.Need-chunk-count-requires
+chunk-count-requires c κs = store-good (outset (c .before) .args .store .now) (checks (c .before) .checked) .header
+
+-- the list is read, the store checked and counted
+walks : (c : tie.After-chunk-count) → let a = outset (c .before .before) .args in
+    Walks (a .list .now) (c .before .parse .result) (a .store .now) (c .chunk-count .result)
+walks c = walks-read (checks (c .before .before)) (c .before .parse .ensures) (c .chunk-count .ensures)
+
+slice-aggregate-build : tie.Need-slice-aggregate-build
+slice-aggregate-build c = let s = c .before .before .before .before .before in sym (s .scannable .kept .1 .1 .0 ∙ length-replicate {A = ℕ} 131328 0)
+
+slice-aggregate-build-2 : tie.Need-slice-aggregate-build-2
+slice-aggregate-build-2 c = search needs
+
+slice-aggregate-build-3 : tie.Need-slice-aggregate-build-3
+slice-aggregate-build-3 c = search needs
+
+build-requires : tie.Need-build-requires
+build-requires c κs =
+    let s = c .before .before .before .before .before .before .before .scannable in
+    can-make (walks (c .before .before .before)) (s .last .1 .1 .0) (table-room (s .last .1 .1 .0) (s .kept .1 .1 .0))
+
+slice-aggregate-measure-bodies : tie.Need-slice-aggregate-measure-bodies
+slice-aggregate-measure-bodies c = search needs
+
+slice-aggregate-measure-bodies-2 : tie.Need-slice-aggregate-measure-bodies-2
+slice-aggregate-measure-bodies-2 c = search needs
+
+slice-aggregate-measure-bodies-3 : tie.Need-slice-aggregate-measure-bodies-3
+slice-aggregate-measure-bodies-3 c = search needs
+
+slice-aggregate-measure-bodies-4 : tie.Need-slice-aggregate-measure-bodies-4
+slice-aggregate-measure-bodies-4 c = search needs
+
+slice-aggregate-measure-bodies-5 : tie.Need-slice-aggregate-measure-bodies-5
+slice-aggregate-measure-bodies-5 c = search needs
+
+slice-aggregate-measure-bodies-6 : tie.Need-slice-aggregate-measure-bodies-6
+slice-aggregate-measure-bodies-6 c = search needs
+
+slice-aggregate-measure-bodies-7 : tie.Need-slice-aggregate-measure-bodies-7
+slice-aggregate-measure-bodies-7 c = search needs
+
+slice-aggregate-measure-bodies-8 : tie.Need-slice-aggregate-measure-bodies-8
+slice-aggregate-measure-bodies-8 c = search needs
+
+measure-bodies-requires : tie.Need-measure-bodies-requires
+measure-bodies-requires c κs =
+    let b = c .before .before .before .before .before .before .before .before .before .before .before in
+    let r = b .build in
+    let q = r .ensures .1 in
+    let s = counted b .before .before .before .before .scannable in
+    can-measure (walks (counted b)) (s .last .1 .1 .0) (r .last .1 .1 .0) (r .last .1 .1 .1 .0) (r .last .1 .1 .1 .1 .0) 0
+    (table-room (s .last .1 .1 .0) (s .kept .1 .1 .0)) (q .0) (q .1 .0) (q .1 .1)
+
+-- where the bodies are measured; the list is short, as every slice is, and so are the sums
+abbrev filled : tie.After-measure-bodies → tie.After-build
+filled m = m .before .before .before .before .before .before .before .before .before .before .before .before
+
+abbrev begun : tie.After-measure-bodies → tie.Start
+begun m = outset (counted (filled m) .before .before)
+
+few : (m : tie.After-measure-bodies) → (counted (filled m) .chunk-count .result ≤ 65000) × (m .measure-bodies .result .size ≤ 2097264 * 65000)
+few m =
+    let w = walks (counted (filled m)) in
+    (count-few w, size-few w (m .measure-bodies .result .size) (m .measure-bodies .ensures .0))
+
+add-whole : tie.Need-add-whole
+add-whole c = omega (arith, begun (c .before .before .before .before .before) .good .0)
+
+mul-whole : tie.Need-mul-whole
+mul-whole c = omega (arith, few (c .before .before .before .before .before) .0)
+
+add-whole-2 : tie.Need-add-whole-2
+add-whole-2 c = let m = c .before .before .before .before .before in omega (arith, begun m .good .0, few m .0)
+
+add-whole-3 : tie.Need-add-whole-3
+add-whole-3 c = let m = c .before .before .before .before .before .before in omega (arith, begun m .good .0, few m .0, few m .1)
 
 returns-2 : tie.Need-returns-2
 returns-2 c =
-    let a = c .before .before .before .before .before .args in
-    let code = c .before .before .scannable in
-    let n = c .index-size in
-    size-done (a .list .now) (a .store .now) (code .result) (code .ensures) (n .result) (omega arith) (n .ensures)
+    let m = c .before .before .before .before .before .before in
+    let n = counted (filled m) in
+    let e = n .before .before in
+    let a = outset e .args in
+    let r = m .measure-bodies in
+    size-done (a .list .now) (a .store .now) (e .before .before .scannable .result) (e .before .before .scannable .ensures)
+    (8 + length (a .list .now) + 32 * n .chunk-count .result + r .result .size) (e .if1 .left) (len-is (walks n) (r .result .size) (r .ensures .0))
 
 pub size-spec : {M : Type 1} → statement M
-size-spec = tie.close (tie.spec scannable-requires returns index-size-requires returns-2)
+size-spec =
+    tie.close
+    (tie.spec
+    slice-aggregate-scannable
+    scannable-requires
+    returns
+    parse-requires
+    chunk-count-requires
+    slice-aggregate-build
+    slice-aggregate-build-2
+    slice-aggregate-build-3
+    build-requires
+    slice-aggregate-measure-bodies
+    slice-aggregate-measure-bodies-2
+    slice-aggregate-measure-bodies-3
+    slice-aggregate-measure-bodies-4
+    slice-aggregate-measure-bodies-5
+    slice-aggregate-measure-bodies-6
+    slice-aggregate-measure-bodies-7
+    slice-aggregate-measure-bodies-8
+    measure-bodies-requires
+    add-whole
+    mul-whole
+    add-whole-2
+    add-whole-3
+    returns-2)

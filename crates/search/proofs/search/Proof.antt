@@ -19,14 +19,14 @@ slice-reshare-prefix-joined : tie.Need-slice-reshare-prefix-joined
 slice-reshare-prefix-joined c =
     let called = c .before .before .before .before .before in
     let a = called .before .before .before .before .before .before .before .args in
-    front-room (now (a .list)) (now (a .store)) (now (a .recipes)) (now (a .index)) (now (a .out)) (c .before .n .given .0 .0)
+    front-room (now (a .list)) (now (a .store)) (now (a .recipes)) (now (a .index)) (now (a .out)) (c .before .n .given .0 .0) (c .before .n .given .0 .1 .0)
     (sym (called .scan .ensures .0) ∙ c .before .n .given .1) (called .scan .last .1 .1 .0) (called .scan .ensures .1)
 
 slice-aggregate-joined : tie.Need-slice-aggregate-joined
 slice-aggregate-joined c =
     let called = c .before .before .before .before .before .before in
     let a = called .before .before .before .before .before .before .before .args in
-    front-length (now (a .list)) (now (a .store)) (now (a .recipes)) (now (a .index)) (now (a .out)) (c .before .before .n .given .0 .0)
+    front-length (now (a .list)) (now (a .store)) (now (a .recipes)) (now (a .index)) (now (a .out)) (c .before .before .n .given .0 .0) (c .before .before .n .given .0 .1 .0)
     (sym (called .scan .ensures .0) ∙ c .before .before .n .given .1) (called .scan .last .1 .1 .0) (called .scan .ensures .1)
 
 joined-requires : tie.Need-joined-requires
@@ -53,7 +53,7 @@ returns-2 c =
     let named = c .before .before .before .before .before .before in
     let called = c .before .before .before .before .before .before .before .before .before .before in
     let a = called .before .before .before .before .before .before .before .args in
-    scanned-joined (now (a .list)) (now (a .store)) (now (a .recipes)) (now (a .index)) (now (a .out)) (named .n .given .0 .0)
+    scanned-joined (now (a .list)) (now (a .store)) (now (a .recipes)) (now (a .index)) (now (a .out)) (named .n .given .0 .0) (named .n .given .0 .1 .0)
     (sym (called .scan .ensures .0) ∙ named .n .given .1) (called .scan .last .1 .1 .0) (called .scan .ensures .1)
     (c .before .before .joined .last .1 .1 .0) (c .before .before .joined .result) (c .before .before .joined .ensures)
 

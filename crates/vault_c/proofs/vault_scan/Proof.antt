@@ -1,8 +1,8 @@
 -- `vault_scan` meets its contract: the answer of `scan`, case by case. Assumes nothing.
 use denote.Ref.{now}
-use Rattle.spec.specs.declared.Outcome.the-variants.{Done, Refused}
+use Rattle.spec.specs.declared.Scanned.the-variants.{Done, Refused}
 use borrow.Author.Needs.{needs}
-use Rattle.vault_c.proofs.Answers.{told-buffer}
+use Rattle.vault_c.proofs.Answers.{told-scan}
 use Rattle.vault_c.proofs.vault_scan.Statement.{statement}
 use Rattle.vault_c.proofs.vault_scan.Tie as tie
 
@@ -21,8 +21,10 @@ same-length c = search needs
 returns : tie.Need-returns
 returns c =
     let called = c .before .before .before .before .before in
-    told-buffer (Done (c .before .written .given .0 .0)) (called .scan .result) (c .before .written .given .1) (called .scan .ensures .0)
-    (now (called .before .before .before .before .before .args .size)) (called .scan .ensures .1)
+    let a = called .before .before .before .before .before .args in
+    let g = c .before .written .given in
+    told-scan (Done (g .0 .0) (g .0 .1 .0)) (called .scan .result) (g .1) (called .scan .ensures .0) (now (a .size)) (now (a .moves))
+    (called .scan .ensures .1)
 
 same-length-2 : tie.Need-same-length-2
 same-length-2 c = search needs
@@ -30,8 +32,9 @@ same-length-2 c = search needs
 returns-2 : tie.Need-returns-2
 returns-2 c =
     let called = c .before .before .before .before .before in
-    told-buffer (Refused (c .before .code .given .0 .0)) (called .scan .result) (c .before .code .given .1) (called .scan .ensures .0)
-    (now (called .before .before .before .before .before .args .size)) (called .scan .ensures .1)
+    let a = called .before .before .before .before .before .args in
+    let g = c .before .code .given in
+    told-scan (Refused (g .0 .0)) (called .scan .result) (g .1) (called .scan .ensures .0) (now (a .size)) (now (a .moves)) (called .scan .ensures .1)
 
 pub vault-scan-spec : {M : Type 1} → statement M
 vault-scan-spec =

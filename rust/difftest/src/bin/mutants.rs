@@ -12,6 +12,8 @@ use std::process::{Command, ExitCode};
 struct Mutant {
     name: String,
     edits: Vec<Edit>,
+    /// The words with which difftest sees it, where the usual runs can't.
+    words: Option<String>,
 }
 
 #[derive(Default)]
@@ -25,12 +27,14 @@ fn mutants(text: &str) -> Vec<Mutant> {
     let mut all: Vec<Mutant> = Vec::new();
     for line in text.lines() {
         if let Some(name) = line.strip_prefix("= ") {
-            all.push(Mutant { name: name.into(), edits: vec![] });
+            all.push(Mutant { name: name.into(), edits: vec![], words: None });
             continue;
         }
         let Some(mutant) = all.last_mut() else { continue };
         if let Some(file) = line.strip_prefix("@ ") {
             mutant.edits.push(Edit { file: file.into(), ..Edit::default() });
+        } else if let Some(words) = line.strip_prefix("! ") {
+            mutant.words = Some(words.into());
         } else if let (Some(edit), Some(first)) = (mutant.edits.last_mut(), line.chars().next()) {
             let to = if first == '-' { &mut edit.old } else { &mut edit.new };
             if !to.is_empty() {
@@ -87,19 +91,22 @@ fn mutate(from: &Path, to: &Path, mutant: &Mutant) -> Result<(), String> {
 }
 
 /// Builds and runs; what difftest said of the difference, or nothing if it saw none.
-fn seen(to: &Path) -> Result<Option<String>, String> {
+fn seen(to: &Path, mutant: &Mutant) -> Result<Option<String>, String> {
     let words = ["build", "--release", "--offline", "-q", "-p", "difftest", "--features", "mock"];
     let built = Command::new("cargo").args(words).env("RUSTFLAGS", "-A warnings").current_dir(to).output();
     let built = built.map_err(|error| error.to_string())?;
     if !built.status.success() {
         return Err(format!("it doesn't build\n{}", String::from_utf8_lossy(&built.stderr)));
     }
-    for words in [&["6000", "7", "--quick"][..], &["100", "7"]] {
-        let run = Command::new(to.join("target/release/difftest")).args(words).current_dir(to).output();
+    let runs = mutant.words.as_deref().map_or(vec!["6000 7 --quick", "100 7"], |words| vec![words]);
+    for words in runs {
+        let run = Command::new(to.join("target/release/difftest")).args(words.split(' ')).current_dir(to).output();
         let run = run.map_err(|error| error.to_string())?;
         if !run.status.success() {
             let text = String::from_utf8_lossy(&run.stdout).into_owned() + &String::from_utf8_lossy(&run.stderr);
-            let said = text.lines().skip_while(|line| !line.contains("DIFFERENCE")).nth(1);
+            // The reason stands behind the colon, or on the next line.
+            let mut lines = text.lines().skip_while(|line| !line.contains("DIFFERENCE"));
+            let said = lines.next().and_then(|line| line.strip_prefix("DIFFERENCE: ").or(lines.next()));
             let panicked = text.lines().skip_while(|line| !line.contains("panicked")).nth(1);
             return Ok(Some(said.or(panicked).unwrap_or("ended with a failure").trim().to_string()));
         }
@@ -115,7 +122,7 @@ fn main() -> ExitCode {
     workspace(&from, &to);
     let (mut killed, mut wrong) = (0, Vec::new());
     for mutant in mutants(include_str!("../../mutants.txt")).iter().filter(|m| m.name.contains(&part)) {
-        let verdict = mutate(&from, &to, mutant).and_then(|()| seen(&to));
+        let verdict = mutate(&from, &to, mutant).and_then(|()| seen(&to, mutant));
         match verdict {
             Ok(Some(why)) => {
                 killed += 1;

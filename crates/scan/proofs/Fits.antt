@@ -1,0 +1,80 @@
+-- The bound by which a scan writes in one walk. The idea: a store that passed its check is short, so the bound is a number of 64 bits; and an index is never
+-- longer than its bound. Assumes nothing.
+use mathlib.Core.Path.{_≡_, sym, ap₂, _∙_}
+use mathlib.Core.Bool.{Bool, true, false, _&&_}
+use mathlib.Core.List.{List}
+use Prim.Native.Nat.{ℕ, zero, suc, _+_, _*_, _≤_, _<_}
+use native.Mathlib.Nat.{mul-le-mul-right}
+use native.Mathlib.Omega.{arith}
+use lib.ListN.{length}
+use lib.Dec.{leb}
+use borrow.Author.Tests.{le-leb, lt-leb, leb-true}
+use Rattle.spec.specs.Bytes.{sum}
+use Rattle.spec.specs.Store.{storeLayout, chunkCount, storeCode}
+use Rattle.spec.specs.Form.{newest}
+use Rattle.spec.specs.Recipes.{largest32}
+use Rattle.spec.specs.Scan.{scanIndex}
+use Rattle.spec.proofs.EntryLaws.{lengthsFrom}
+use Rattle.spec.proofs.StoreLaws.{store-good, store-size-most}
+use Rattle.spec.proofs.Tests.{le-of-and, and-right}
+use Rattle.keywords.specs.declared.Keywords.{Keywords}
+use Rattle.keywords.proofs.Reading.{parsed}
+use Rattle.scan.specs.Layout.{bodiesFrom, mostBytes, Walks}
+use Rattle.scan.proofs.Parts.{index-length, bodies-most, index-most}
+
+-- a store that passed its check is short: each of its chunks is
+module _ (store : List ℕ) (good : storeCode store ≡ 0) where
+  sizes-most : (n k : ℕ) → n + k ≡ chunkCount store → sum (lengthsFrom storeLayout store k n) ≤ 65535 * n
+  sizes-most zero k e = omega arith
+  sizes-most (suc n) k e = omega (arith, store-size-most store (store-good store good) k (omega arith), sizes-most n (suc k) (omega arith))
+
+  pub store-short : length store ≤ largest32
+  store-short =
+      let g = store-good store good in
+      omega (arith, g .few, g .entries .ends, sizes-most (chunkCount store) 0 (omega arith))
+
+module _ {list : List ℕ} {words : Keywords} {store : List ℕ} {count : ℕ} (w : Walks list words store count) where
+  pub count-few : count ≤ 65000
+  count-few = omega (arith, w .counted, store-good store (w .checked) .few)
+
+  -- what one keyword can take of the bound, and all of them
+  pub share-few : 9 * count + 2 * length store ≤ 9 * 65000 + 2 * 4294967295
+  share-few = omega (arith, count-few, store-short store (w .checked))
+
+  pub shares-few : words .count * (9 * count + 2 * length store) ≤ 16 * (9 * 65000 + 2 * 4294967295)
+  shares-few =
+      let few : words .count * (9 * count + 2 * length store) ≤ 16 * (9 * count + 2 * length store) =
+      mul-le-mul-right (9 * count + 2 * length store) (parsed list words (w .reads) .few) in
+      omega (arith, few, share-few)
+
+  pub most-is : 8 + length list + 32 * count + words .count * (9 * count + 2 * length store) ≡ mostBytes list store
+  unfolding mostBytes
+  most-is =
+      ap₂ {C = ℕ} (λ n k. 8 + length list + 32 * n + k * (9 * n + 2 * length store)) (w .counted) (parsed list words (w .reads) .counts)
+
+  -- the comparison, by the way taken
+  module _ (most room : ℕ) (e : most ≡ mostBytes list store) where
+    pub fits-not : room < most → false ≡ (leb (mostBytes list store) room && leb (mostBytes list store) 4294967295)
+    fits-not h = sym (rw (← e, lt-leb most room h))
+
+    pub fits-so : most ≤ room → leb most 4294967295 ≡ (leb (mostBytes list store) room && leb (mostBytes list store) 4294967295)
+    fits-so h = sym (rw (← e, le-leb most room h))
+
+  -- where it says so, the index fits
+  pub index-fits : (room : ℕ) (b : Bool) → b ≡ (leb (mostBytes list store) room && leb (mostBytes list store) 4294967295) → b ≡ true
+      → (length (scanIndex newest list store) ≤ room) × (length (scanIndex newest list store) ≤ 4294967295)
+  index-fits room b e t =
+      let both = sym e ∙ t in
+      let first = le-of-and (mostBytes list store) room (leb (mostBytes list store) 4294967295) both in
+      let second = leb-true (mostBytes list store) 4294967295 (and-right (leb (mostBytes list store) room) _ both) in
+      let most = index-most list store (w .checked) words (w .reads) (parsed list words (w .reads) .counts) in
+      (omega (arith, most, first), omega (arith, most, second))
+
+  -- ---- what was measured
+
+  module _ (size : ℕ) (e : size ≡ length (bodiesFrom newest list store 0)) where
+    pub size-few : size ≤ 2097264 * 65000
+    size-few = omega (arith, e, bodies-most list store (w .checked) (w .reads .accepted), store-good store (w .checked) .few)
+
+    pub len-is : 8 + length list + 32 * count + size ≡ length (scanIndex newest list store)
+    len-is = omega (arith, e, w .counted, index-length list store (w .checked))

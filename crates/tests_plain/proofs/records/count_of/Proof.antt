@@ -1,0 +1,53 @@
+-- `count_of` is safe and ends. Assumes nothing.
+use borrow.Author.Needs.{needs}
+use mathlib.Core.Path.{_≡_}
+use mathlib.Core.Logic.{_⊎_}
+use Prim.Native.Nat.{_≤_, _-_}
+use lib.ListN.{length}
+use Rattle.tests_plain.proofs.records.count_of.Statement.{statement}
+use Rattle.tests_plain.proofs.records.count_of.Tie as tie
+
+abbrev Inv-loop : tie.InvT-loop
+Inv-loop m c k size n₀ p₀ n p = (p ≤ size)
+
+abbrev μ-loop : tie.MeasureT-loop
+μ-loop m c k size n₀ p₀ n p = size - p
+
+loop-holds : tie.Need-loop-holds Inv-loop μ-loop
+loop-holds c = search needs
+
+is-marked-requires : tie.Need-is-marked-requires Inv-loop μ-loop
+is-marked-requires c κs = search needs
+
+cast-plus : tie.Need-cast-plus Inv-loop μ-loop
+cast-plus c = search needs
+
+plus-requires : tie.Need-plus-requires Inv-loop μ-loop
+plus-requires c κs = search needs
+
+add-p : tie.Need-add-p Inv-loop μ-loop
+add-p c = search needs
+
+loop-less : tie.Need-loop-less Inv-loop μ-loop
+loop-less c = search needs
+
+loop-again : tie.Need-loop-again Inv-loop μ-loop
+loop-again c = search needs
+
+returns : tie.Need-returns Inv-loop μ-loop
+returns c = search needs
+
+pub count-of-spec : {M : Type 1} → statement M
+count-of-spec =
+    tie.close
+    (tie.spec
+    Inv-loop
+    μ-loop
+    loop-holds
+    is-marked-requires
+    cast-plus
+    plus-requires
+    add-p
+    loop-less
+    loop-again
+    returns)
