@@ -5,6 +5,10 @@
  * changes no byte of a buffer and no number behind a pointer: these are told the length, the moves or the count where the work is done, and
  * stay as they were on a refusal. vault_search is two operations: where its join refuses, the index that its scan wrote stays in the index
  * buffer, and its length is told. A buffer or number must not overlap another argument. A null pointer may stand only where the length beside it is 0.
+ * Bytes of keywords and data compare by the keyword list's fold flag, which is its second byte: with 0 as they are; with 1, 41 to 5A and
+ * C0 to DE except D7 (hexadecimal) compare as the byte 20 (hexadecimal) higher, so that A to Z and the accented capitals of Latin-1 (ISO/IEC
+ * 8859-1) meet their small letters; D7, DF, F7 and FF compare as themselves. An index that an earlier version, which folded 41 to 5A only, wrote with
+ * flag 1 has to be scanned anew: no call can tell it from a new one or refuses it for its age, and a join of it may lack occurrences.
  * A call keeps nothing behind and touches only what it is lent, so calls may run at once from several threads, each with buffers of its own.
  * Stack that a call needs, about:
  *   600 KB   a check of a store or an index, a lookup
@@ -24,7 +28,7 @@ extern "C" {
 
 /* ---- checks: 0, or the number of the first test that fails */
 
-/* A keyword list: 1 to 4. */
+/* A keyword list: 1 to 4. With fold flag 1, two keywords that differ only in case, as above, are alike (4). */
 uint8_t vault_check_keywords(const uint8_t *list, size_t list_length);
 
 /* A store: 5 to 8. */

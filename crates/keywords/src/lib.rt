@@ -5,8 +5,27 @@ ghost use Prim.Native.Nat.{_+_, _≤_, _<_, max};
 ghost use lib.ListN.{length, drop, getD};
 ghost use Rattle.spec.specs.Bytes.{same, contains, twice};
 ghost use Rattle.spec.specs.Outcome.{firstOf};
-ghost use Rattle.spec.specs.Keywords.{foldByte, folded, foldedKeywords, readCode, frontTests, keywordCode, keywordFrontCode};
+ghost use Rattle.spec.specs.Keywords.{isUpper, foldByte, folded, foldedKeywords, readCode, frontTests, keywordCode, keywordFrontCode};
 ghost use Rattle.keywords.specs.Parsed.{ReadableList, Places, parsedOf};
+
+// Whether the byte is a capital: A to Z, or in Latin-1 an accented one, which the multiplication sign between them is not.
+fn is_upper(b: u8) -> bool
+    ensures { λ r. ⌜ r ≡ isUpper b ⌝ }
+{
+    if b < 0x41 {
+        return false;
+    }
+    if b <= 0x5A {
+        return true;
+    }
+    if b < 0xC0 {
+        return false;
+    }
+    if 0xDE < b {
+        return false;
+    }
+    b != 0xD7
+}
 
 // The byte as it compares.
 pub fn fold(flag: u8, b: u8) -> u8
@@ -15,13 +34,10 @@ pub fn fold(flag: u8, b: u8) -> u8
     if flag != 1 {
         return b;
     }
-    if b < 0x41 {
-        return b;
+    if is_upper(b) {
+        return b + 0x20;
     }
-    if 0x5A < b {
-        return b;
-    }
-    b + 0x20
+    b
 }
 
 // A list that was read: how many keywords, the fold flag, the list's length, the longest keyword's length; for each keyword its first

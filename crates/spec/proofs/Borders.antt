@@ -6,16 +6,23 @@ use mathlib.Core.List.{List, [], _∷_}
 use Prim.Native.Nat.{ℕ}
 use lib.ListN.{length, replicate}
 use Rattle.spec.specs.Bytes.{leBytes, fieldsBytes}
-use Rattle.spec.specs.Keywords.{isUpper, foldByte, keywordsOf}
+use Rattle.spec.specs.Keywords.{isUpper, foldByte, folded, keywordsOf}
 use Rattle.spec.specs.Form.{form1}
 use Rattle.spec.specs.Records.{reach, prefixOf, suffixOf, offsetsOf, recordOf, recordsOf, kindOf, offsetsBytes, fullBytes, recordBytes, headBytes}
 use Rattle.spec.specs.Table.{inCell}
 use Rattle.spec.specs.Join.{occurrencesAt, crosses, listed, joinFrom, joinFiles, innerLeast}
 
 -- 40 and 5B stay, 41 and 5A are folded
-pub fold-borders : (foldByte 1 0x40 ≡ 0x40) × (foldByte 1 0x41 ≡ 0x61) × (foldByte 1 0x5A ≡ 0x7A) × (foldByte 1 0x5B ≡ 0x5B)
-unfolding foldByte isUpper
-fold-borders = (refl, refl, refl, refl)
+pub fold-borders : folded 1 (0x40 ∷ 0x41 ∷ 0x5A ∷ 0x5B ∷ []) ≡ 0x40 ∷ 0x61 ∷ 0x7A ∷ 0x5B ∷ []
+unfolding folded foldByte isUpper
+fold-borders = refl
+
+-- BF, D7, DF, F7 and FF stay, C0, D6, D8 and DE are folded; none is with flag 0
+pub accent-borders : (folded 1 (0xBF ∷ 0xC0 ∷ 0xD6 ∷ 0xD7 ∷ 0xD8 ∷ 0xDE ∷ 0xDF ∷ 0xF7 ∷ 0xFF ∷ [])
+    ≡ 0xBF ∷ 0xE0 ∷ 0xF6 ∷ 0xD7 ∷ 0xF8 ∷ 0xFE ∷ 0xDF ∷ 0xF7 ∷ 0xFF ∷ [])
+    × (folded 0 (0x41 ∷ 0xC0 ∷ 0xDE ∷ []) ≡ 0x41 ∷ 0xC0 ∷ 0xDE ∷ [])
+unfolding folded foldByte isUpper
+accent-borders = (refl, refl)
 
 -- kinds 1, 2 and 3
 pub kind-borders : (kindOf 1 ≡ 1) × (kindOf 2 ≡ 2) × (kindOf 254 ≡ 2) × (kindOf 255 ≡ 3)

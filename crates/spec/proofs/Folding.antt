@@ -1,7 +1,7 @@
 -- Laws of folding, and of a comparison that folds byte by byte. Assumes nothing.
 use mathlib.Core.Path.{_≡_, refl, sym, ap, ap₂, _∙_, subst}
-use mathlib.Core.Logic.{_≢_, _⊎_, inl, inr}
-use mathlib.Core.Bool.{Bool, true, false, _&&_, cond, and-false}
+use mathlib.Core.Logic.{_≢_, _⊎_, inl, inr, ⊎-elim}
+use mathlib.Core.Bool.{Bool, true, false, _&&_, _||_, not, cond, and-false, false≢true}
 use mathlib.Core.List.{List, [], _∷_, _++_, map}
 use Prim.Native.Nat.{ℕ, zero, suc, _+_, _-_, _≤_, _<_}
 use native.Mathlib.Omega.{arith}
@@ -12,7 +12,7 @@ use lib.Dec.{eqb, leb}
 use Rattle.spec.specs.Bytes.{begins, occursAt, largest, same}
 use Rattle.spec.specs.Keywords.{isUpper, foldByte, folded, foldedAll}
 use Rattle.spec.specs.Records.{reach, endsWith, startsWith, prefixOf, suffixOf}
-use Rattle.spec.proofs.Tests.{eqb-ne, eqb-same, leb-true, leb-false}
+use Rattle.spec.proofs.Tests.{eqb-ne, eqb-same, leb-true, leb-false, le-or-lt}
 use Rattle.spec.proofs.Begins.{begins-short}
 use Rattle.spec.proofs.Same.{same-lengths, same-turn, same-end}
 
@@ -20,17 +20,39 @@ pub fold-other : (flag b : ℕ) → flag ≢ 1 → b ≡ foldByte flag b
 unfolding foldByte
 fold-other flag b h = rw (eqb-ne flag 1 h)
 
-pub fold-low : (flag b : ℕ) → b < 0x41 → b ≡ foldByte flag b
-unfolding foldByte isUpper
-fold-low flag b h = rw (leb-false 0x41 b h, and-false)
+pub fold-plain : (flag b : ℕ) → isUpper b ≡ false → b ≡ foldByte flag b
+unfolding foldByte
+fold-plain flag b h = rw (h, and-false)
 
-pub fold-high : (flag b : ℕ) → 0x5A < b → b ≡ foldByte flag b
-unfolding foldByte isUpper
-fold-high flag b h = rw (leb-false b 0x5A h, and-false, and-false)
+pub fold-upper : (flag b : ℕ) → flag ≡ 1 → isUpper b ≡ true → b + 0x20 ≡ foldByte flag b
+unfolding foldByte
+fold-upper flag b e h = rw (e, h)
 
-pub fold-upper : (flag b : ℕ) → flag ≡ 1 → 0x41 ≤ b → b ≤ 0x5A → b + 0x20 ≡ foldByte flag b
-unfolding foldByte isUpper
-fold-upper flag b e l h = rw (e, leb-true 0x41 b l, leb-true b 0x5A h)
+-- ---- capitals: 41 to 5A, C0 to DE, and not D7
+
+pub upper-low : (b : ℕ) → b < 0x41 → false ≡ isUpper b
+unfolding isUpper
+upper-low b h = rw (leb-false 0x41 b h, leb-false 0xC0 b (omega arith))
+
+pub upper-ascii : (b : ℕ) → 0x41 ≤ b → b ≤ 0x5A → true ≡ isUpper b
+unfolding isUpper
+upper-ascii b l h = rw (leb-true 0x41 b l, leb-true b 0x5A h)
+
+pub upper-between : (b : ℕ) → 0x5A < b → b < 0xC0 → false ≡ isUpper b
+unfolding isUpper
+upper-between b l h = rw (leb-false b 0x5A l, and-false, leb-false 0xC0 b h)
+
+pub upper-high : (b : ℕ) → 0xDE < b → false ≡ isUpper b
+unfolding isUpper
+upper-high b h = rw (leb-false b 0x5A (omega arith), and-false, leb-false b 0xDE h, and-false)
+
+pub upper-accented : (b : ℕ) → 0xC0 ≤ b → b ≤ 0xDE → not (eqb b 0xD7) ≡ isUpper b
+unfolding isUpper
+upper-accented b l h = rw (leb-false b 0x5A (omega arith), and-false, leb-true 0xC0 b l, leb-true b 0xDE h)
+
+-- the byte 20 higher is a byte
+pub upper-most : (b : ℕ) → isUpper b ≡ true → b ≤ 0xDE
+upper-most b e = ⊎-elim (λ h. h) (λ h. absurd (false≢true (upper-high b h ∙ e))) (le-or-lt b 0xDE)
 
 module _ (flag : ℕ) where
   pub folded-length : (l : List ℕ) → length (folded flag l) ≡ length l

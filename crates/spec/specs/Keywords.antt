@@ -9,9 +9,9 @@ use Rattle.spec.specs.Outcome.{Test, firstOf, whole, keywordsCut, keywor
 
 -- ---- comparison
 
--- The bytes 41 to 5A.
+-- The capitals: the bytes 41 to 5A, and those of Latin-1 (request #104), C0 to DE except D7.
 unfoldable pub isUpper : ℕ → Bool
-isUpper b = leb 0x41 b && leb b 0x5A
+isUpper b = (leb 0x41 b && leb b 0x5A) || (leb 0xC0 b && leb b 0xDE && not (eqb b 0xD7))
 
 -- With flag 1 those compare as the byte 20 (hexadecimal) higher; with flag 0 bytes compare as they are.
 unfoldable pub foldByte : ℕ → ℕ → ℕ

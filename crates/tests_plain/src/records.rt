@@ -15,12 +15,27 @@ use crate::model::keywords;
 use crate::model::mark_at;
 use crate::model::partial_at;
 
+// The letters of Latin-1 that have a small one 20 (hexadecimal) higher, by rows of 16: bit i for the i-th of the row.
+fn capitals(row: u8) -> usize {
+    if row == 0x4 {
+        return 0xFFFE;
+    }
+    if row == 0x5 {
+        return 0x07FF;
+    }
+    if row == 0xC {
+        return 0xFFFF;
+    }
+    if row == 0xD {
+        return 0x7F7F;
+    }
+    0
+}
+
 pub(crate) fn folded(flag: usize, b: u8) -> u8 {
     if flag == 1 {
-        if 0x41 <= b {
-            if b <= 0x5A {
-                return b + 0x20;
-            }
+        if capitals(b / 16) >> (b % 16) as u32 & 1 == 1 {
+            return (plus(b as usize, 0x20) % 256) as u8;
         }
     }
     b

@@ -24,7 +24,7 @@ use tests_plain::records::alike;
 use tests_plain::records::count_of;
 use tests_plain::records::stands;
 
-pub(crate) const ALL: usize = 24;
+pub(crate) const ALL: usize = 30;
 
 // Those of cases with long chunks have numbers from here on.
 pub(crate) const LANES: usize = 64;
@@ -32,7 +32,7 @@ pub(crate) const LANES: usize = 64;
 pub(crate) const ALL_LANES: usize = 17;
 
 // For each kind, how many witnesses there are to try, in units of 64.
-const WITNESSES: [u8; 24] = [
+const WITNESSES: [u8; 30] = [
     1,
     1,
     1,
@@ -57,6 +57,12 @@ const WITNESSES: [u8; 24] = [
     112,
     112,
     112,
+    60,
+    60,
+    60,
+    60,
+    4,
+    24,
 ];
 
 const LANE_WITNESSES: [u8; 17] = [1, 1, 1, 1, 1, 1, 1, 64, 2, 2, 8, 4, 4, 1, 1, 1, 1];
@@ -99,8 +105,8 @@ pub(crate) fn is_chunk_of(m: &[u8], c: usize, size: usize) -> bool {
     false
 }
 
-// One of the bytes beside the letters is in a chunk.
-fn is_border(m: &[u8], c: usize, p: usize, fold: usize) -> bool {
+// A chunk has at a place one of six bytes, under a fold flag.
+fn is_border(m: &[u8], c: usize, p: usize, fold: usize, bytes: &[u8]) -> bool {
     if flag(m) != fold {
         return false;
     }
@@ -110,20 +116,44 @@ fn is_border(m: &[u8], c: usize, p: usize, fold: usize) -> bool {
     if chunk_size(m, c) <= p {
         return false;
     }
-    is_border_byte(get(m, plus(chunk_at(c), p)))
+    is_one_of(get(m, plus(chunk_at(c), p)), bytes)
 }
 
-fn is_border_byte(b: u8) -> bool {
-    if b == 0x40 {
+fn is_one_of(b: u8, bytes: &[u8]) -> bool {
+    if get(bytes, 0) == b {
         return true;
     }
-    if b == 0x5B {
+    if get(bytes, 1) == b {
         return true;
     }
-    if b == 0x60 {
+    if get(bytes, 2) == b {
         return true;
     }
-    b == 0x7B
+    if get(bytes, 3) == b {
+        return true;
+    }
+    if get(bytes, 4) == b {
+        return true;
+    }
+    get(bytes, 5) == b
+}
+
+// An accented keyword occurs where the chunk's first letter of it is another.
+fn is_accented(m: &[u8], c: usize, k: usize, p: usize) -> bool {
+    if chunks(m) <= c {
+        return false;
+    }
+    if keywords(m) <= k {
+        return false;
+    }
+    let first = get(m, plus(keyword_at(k), 1));
+    if first < 0xC0 {
+        return false;
+    }
+    if get(m, plus(chunk_at(c), p)) == first {
+        return false;
+    }
+    stands(m, k, m, chunk_at(c), chunk_size(m, c), p)
 }
 
 fn has_occurrences(m: &[u8], c: usize, k: usize, n: usize) -> bool {
@@ -146,6 +176,27 @@ fn is_keyword_of(m: &[u8], k: usize, size: usize) -> bool {
         return keyword_size(m, k) == size;
     }
     false
+}
+
+// Keywords j and k, j before k, are alike and begin with different accented letters.
+fn is_alike_by_accent(m: &[u8], j: usize, k: usize) -> bool {
+    if k <= j {
+        return false;
+    }
+    if keywords(m) <= k {
+        return false;
+    }
+    let first = get(m, plus(keyword_at(j), 1));
+    if first < 0xC0 {
+        return false;
+    }
+    if get(m, plus(keyword_at(k), 1)) == first {
+        return false;
+    }
+    if keyword_size(m, j) != keyword_size(m, k) {
+        return false;
+    }
+    stands(m, j, m, plus(keyword_at(k), 1), keyword_size(m, k), 0)
 }
 
 // A keyword's first j bytes are its last, and it is longer.
@@ -287,7 +338,7 @@ fn of_chunks(m: &[u8], kind: usize, t: usize) -> bool {
         return flag(m) == less(kind, 10);
     }
     if kind < 14 {
-        return is_border(m, t / 320, t % 320, less(kind, 12));
+        return is_border(m, t / 320, t % 320, less(kind, 12), b"@[`{@[");
     }
     if kind == 14 {
         return is_chunk_of(m, t, 1);
@@ -311,6 +362,32 @@ fn of_rows(m: &[u8], f: &[u8], kind: usize, t: usize) -> bool {
     is_between(m, f, t)
 }
 
+// The accented capitals at the borders; the bytes beside them, and those that compare as themselves.
+fn of_accents(m: &[u8], kind: usize, t: usize) -> bool {
+    if kind < 26 {
+        return is_border(
+            m,
+            t / 320,
+            t % 320,
+            less(kind, 24),
+            b"\xC0\xD6\xD8\xDE\xC0\xD6",
+        );
+    }
+    if kind < 28 {
+        return is_border(
+            m,
+            t / 320,
+            t % 320,
+            less(kind, 26),
+            b"\xBF\xD7\xDF\xF7\xFF\xBF",
+        );
+    }
+    if kind == 28 {
+        return is_alike_by_accent(m, t / 16, t % 16);
+    }
+    is_accented(m, t / 160, t / 40 % 4, t % 40)
+}
+
 // Whether t is a witness that the case is of the kind.
 fn shows(m: &[u8], f: &[u8], kind: usize, t: usize) -> bool {
     if kind < 4 {
@@ -322,8 +399,11 @@ fn shows(m: &[u8], f: &[u8], kind: usize, t: usize) -> bool {
     if kind < 21 {
         return of_chunks(m, kind, t);
     }
-    if kind < LANES {
+    if kind < 24 {
         return of_rows(m, f, kind, t);
+    }
+    if kind < LANES {
+        return of_accents(m, kind, t);
     }
     lanes::shows(m, f, less(kind, LANES), t)
 }

@@ -43,7 +43,7 @@ pub fn report_kinds(counts: &mut [u64]) {
 }
 
 // Names, 40 bytes each.
-const KIND_NAMES: [u8; 960] = *b"\
+const KIND_NAMES: [u8; 1200] = *b"\
     - without chunks                        \
     - without files                         \
     - with an empty file                    \
@@ -67,7 +67,13 @@ const KIND_NAMES: [u8; 960] = *b"\
     - with 257 occurrences in a chunk       \
     - with a tie of keywords at an offset   \
     - with an occurrence across a cut       \
-    - with one between own ones of another  ";
+    - with one between own ones of another  \
+    - with flag 0 and one of C0 D6 D8 DE    \
+    - with flag 1 and one of C0 D6 D8 DE    \
+    - with flag 0 and one of BF D7 DF F7 FF \
+    - with flag 1 and one of BF D7 DF F7 FF \
+    - with keywords alike by an accent      \
+    - with an occurrence by an accent       ";
 
 const OPERATION_NAMES: [u8; 400] = *b"\
     keyword checks                          \

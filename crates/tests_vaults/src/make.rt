@@ -21,7 +21,11 @@ use tests_plain::model::size_at;
 
 // ---- from a seed
 
-// The n-th letter of an alphabet: two letters; one letter; the bytes at the fold's borders; four letters.
+// Bytes at the borders of the accented capitals, in three alphabets of six: pairs that compare alike and pairs that seem to.
+const ACCENTED: [u8; 18] =
+    *b"\xC0\xE0\xBF\xDF\xD7\xF7\xDE\xFE\xDF\xFF\xC9\xE9\xD6\xF6\xD8\xF8\xD7\xF7";
+
+// The n-th letter of an alphabet: two letters; one letter; the bytes at the fold's borders; four letters; three of accented ones.
 fn letter(alphabet: usize, n: usize) -> u8 {
     if alphabet == 0 {
         return get(b"AB", n % 2);
@@ -32,7 +36,10 @@ fn letter(alphabet: usize, n: usize) -> u8 {
     if alphabet == 2 {
         return get(b"@AZ[`az{", n % 8);
     }
-    get(b"aABb", n % 4)
+    if alphabet == 3 {
+        return get(b"aABb", n % 4);
+    }
+    get(&ACCENTED, plus(6 * (alphabet % 3), n % 6))
 }
 
 // Fills n bytes with letters.
@@ -45,10 +52,13 @@ pub(crate) fn spell(m: &mut [u8], at: usize, n: usize, alphabet: usize, seed: u6
     s
 }
 
-// A keyword's length: 1 to 4; in some vaults 2 only, 31 or 32, 3 to 5, or its number and one.
+// A keyword's length: 1 to 4; in some vaults 1 or 2, 2 only, 31 or 32, 3 to 5, or its number and one.
 fn keyword_length(kind: usize, k: usize, seed: u64) -> usize {
     if kind % 6 == 1 {
         return k % 16 + 1;
+    }
+    if kind == 2 {
+        return plus(pick(seed, 2), 1);
     }
     if kind == 3 {
         return less(32, pick(seed, 2));
@@ -149,7 +159,7 @@ fn alphabet_of(kind: usize, seed: u64) -> usize {
         return 1;
     }
     if kind == 2 {
-        return 2;
+        return get(b"\x02\x04\x05\x06", pick(seed, 4)) as usize;
     }
     if kind == 4 {
         return 3;

@@ -85,5 +85,11 @@ cases =
       foldedMoves = (refl, refl, refl);
       bMatchesB = (refl, refl);
       braceAndBracket = refl;
+      accents = (refl, refl);
+      accentsFound = (refl, refl, refl);
+      accentsAlike = (refl, refl, refl, refl);
+      accentCell = (refl, refl);
+      accentsJoined = refl;
+      accentMoves = refl;
       alike = (refl, refl);
     }

@@ -2,14 +2,14 @@
 -- cases of the requests.
 use mathlib.Core.Path.{_≡_}
 use mathlib.Core.List.{List, [], _∷_, _++_, map}
-use Prim.Native.Nat.{ℕ, suc}
+use Prim.Native.Nat.{ℕ, suc, _+_}
 use lib.ListN.{replicate, length}
 use lib.Dec.{ltb}
 use Rattle.spec.specs.declared.Outcome.{Outcome}
 use Rattle.spec.specs.declared.Outcome.the-variants.{Done, Refused}
 use Rattle.spec.specs.declared.Scanned.the-variants as Scanned
 use Rattle.spec.specs.Bytes.{leBytes, fieldsBytes, each, keep}
-use Rattle.spec.specs.Keywords.{keywordListBytes, keywordCode}
+use Rattle.spec.specs.Keywords.{folded, keywordListBytes, keywordCode}
 use Rattle.spec.specs.Store.{storeMark, Chunk, storeBytes}
 use Rattle.spec.specs.Directory.{offsetAt}
 use Rattle.spec.specs.Form.{form1, newest, formOf}
@@ -98,6 +98,22 @@ numbered n (chunk ∷ chunks) = record { key = fingerprint n; bytes = chunk } �
 abbrev pub movesFor : ℕ → List (List ℕ) → List (List ℕ) → ℕ
 movesFor flag words chunks = toldMoves (scanAnswer newest (keywordListBytes flag words) (storeBytes (numbered 1 chunks)) 65536) 0
 
+-- Request #104's bytes: those at the borders of the accented capitals, and the last two that compare as themselves.
+abbrev pub accentBorders : List ℕ
+accentBorders = 0xBF ∷ 0xC0 ∷ 0xD6 ∷ 0xD7 ∷ 0xD8 ∷ 0xDE ∷ 0xDF ∷ 0xF7 ∷ 0xFF ∷ []
+
+-- Keywords É and é in Latin-1, with a flag; an index under document 01's mark that has them and no chunk.
+abbrev pub accented : ℕ → List ℕ
+accented flag = keywordListBytes flag ((0xC9 ∷ []) ∷ (0xE9 ∷ []) ∷ [])
+
+abbrev pub olderIndex : ℕ → List ℕ
+olderIndex flag = 0x44 ∷ 0x4D ∷ 0x31 ∷ 0x0A ∷ 0 ∷ 0 ∷ 0 ∷ 0 ∷ accented flag
+
+-- Keyword éÉ over the chunks É and é, one after the other in a file.
+abbrev pub accentedIndex : ℕ → List ℕ
+accentedIndex flag =
+    scanIndex newest (oneKeyword flag (0xE9 ∷ 0xC9 ∷ [])) (storeBytes (numbered 1 ((0xC9 ∷ []) ∷ (0xE9 ∷ []) ∷ [])))
+
 -- The cells of a keyword's table that hold something, by i and then by j, each from 0 to n - 1.
 abbrev pub filledCells : List ℕ → List (ℕ × ℕ × List ℕ)
 filledCells keyword =
@@ -163,5 +179,21 @@ pub record Cases : Type 0 where
   -- * flag 1: b matches B (with flag 0 it does not), { does not match [
   pub bMatchesB : (countFor 1 (0x62 ∷ []) (0x42 ∷ []) ≡ Done 1) × (countFor 0 (0x62 ∷ []) (0x42 ∷ []) ≡ Done 0)
   pub braceAndBracket : countFor 1 (0x7B ∷ []) (0x5B ∷ []) ≡ Done 0
+  -- request #104: with flag 1 C0, D6, D8 and DE compare as the byte 20 (hexadecimal) higher, BF, D7, DF, F7 and FF as themselves; with flag 0 all do
+  pub accents : (folded 1 accentBorders ≡ 0xBF ∷ 0xE0 ∷ 0xF6 ∷ 0xD7 ∷ 0xF8 ∷ 0xFE ∷ 0xDF ∷ 0xF7 ∷ 0xFF ∷ []) × (folded 0 accentBorders ≡ accentBorders)
+  -- the byte 20 higher as a keyword: it occurs in C0, D6, D8, DE, and not in BF, D7, DF; with flag 0 in none. F7 and FF occur in themselves
+  pub accentsFound : (map (λ b. countFor 1 ((b + 0x20) ∷ []) (b ∷ [])) (0xBF ∷ 0xC0 ∷ 0xD6 ∷ 0xD7 ∷ 0xD8 ∷ 0xDE ∷ 0xDF ∷ [])
+      ≡ Done 0 ∷ Done 1 ∷ Done 1 ∷ Done 0 ∷ Done 1 ∷ Done 1 ∷ Done 0 ∷ [])
+      × (map (λ b. countFor 0 ((b + 0x20) ∷ []) (b ∷ [])) (0xC0 ∷ 0xD6 ∷ 0xD8 ∷ 0xDE ∷ []) ≡ replicate 4 (Done 0))
+      × (map (λ b. countFor 1 (b ∷ []) (b ∷ [])) (0xF7 ∷ 0xFF ∷ []) ≡ replicate 2 (Done 1))
+  -- keywords É and é: 4 with flag 1, accepted with 0; in the check of an index under document 01's mark too
+  pub accentsAlike : (keywordCode (accented 1) ≡ 4) × (keywordCode (accented 0) ≡ 0)
+      × (indexCode (formOf (olderIndex 1)) (olderIndex 1) ≡ 4) × (indexCode (formOf (olderIndex 0)) (olderIndex 0) ≡ 0)
+  -- ÉéÉ: its cell (2,2) holds 0 and 1 with flag 1, nothing with 0
+  pub accentCell : (cellOf (folded 1 (0xC9 ∷ 0xE9 ∷ 0xC9 ∷ [])) 2 2 ≡ 0 ∷ 1 ∷ []) × (cellOf (folded 0 (0xC9 ∷ 0xE9 ∷ 0xC9 ∷ [])) 2 2 ≡ [])
+  -- éÉ occurs across the chunks É and é with flag 1, not with 0; the moves of ÉÈX for éè are those of éèX, with flag 0 one a byte
+  pub accentsJoined : map (λ flag. joinOutcome (formOf (accentedIndex flag)) (accentedIndex flag) (recipesOf ((1 ∷ 2 ∷ []) ∷ [])) 9) (1 ∷ 0 ∷ [])
+      ≡ Done 1 ∷ Done 0 ∷ []
+  pub accentMoves : map (λ flag. movesFor flag ((0xE9 ∷ 0xE8 ∷ []) ∷ []) ((0xC9 ∷ 0xC8 ∷ 0x58 ∷ []) ∷ [])) (1 ∷ 0 ∷ []) ≡ 4 ∷ 3 ∷ []
   -- * keywords Ab and aB: 4 with flag 1, accepted with 0
   pub alike : (keywordCode (2 ∷ 1 ∷ 2 ∷ 0x41 ∷ 0x62 ∷ 2 ∷ 0x61 ∷ 0x42 ∷ []) ≡ 4) × (keywordCode (2 ∷ 0 ∷ 2 ∷ 0x41 ∷ 0x62 ∷ 2 ∷ 0x61 ∷ 0x42 ∷ []) ≡ 0)

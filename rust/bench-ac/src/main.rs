@@ -11,6 +11,7 @@ use bench::scan::{self, Counter, Peer};
 
 fn dfa(keywords: &[&[u8]], fold: bool, kind: MatchKind) -> AhoCorasick<u32> {
     let mut builder = AhoCorasickBuilder::new();
+    // The crate folds ASCII only. That is the same here: the keywords are letters and digits of ASCII.
     builder.dfa(true).ascii_case_insensitive(fold).match_kind(kind);
     builder.build_with_size(keywords).expect("few keywords")
 }

@@ -62,9 +62,10 @@ pub struct Automaton {
 const CELLS: usize = 1 << 18;
 
 impl Automaton {
-    /// With the fold flag, A to Z match a to z.
+    /// With the fold flag, A to Z and the accented capitals of Latin-1 match their small letters, as in the library.
     pub fn new(keywords: &[&[u8]], fold: bool) -> Automaton {
-        let compared = |b: u8| usize::from(if fold { b.to_ascii_lowercase() } else { b });
+        let capital = |b: u8| b.is_ascii_uppercase() || (0xC0..=0xDE).contains(&b) && b != 0xD7;
+        let compared = |b: u8| usize::from(if fold && capital(b) { b + 0x20 } else { b });
         let mut children: Vec<[usize; 256]> = vec![[0; 256]];
         let mut ends: Vec<Vec<(u8, u32)>> = vec![vec![]];
         for (k, keyword) in keywords.iter().enumerate() {
@@ -153,6 +154,15 @@ mod tests {
             assert_eq!(one, other);
             assert_eq!([automaton.count(&data), folded.count(&data.to_ascii_lowercase())], [one.len() as u64; 2]);
             assert_eq!(automaton.count(&data.to_ascii_lowercase()), 0);
+        }
+    }
+
+    #[test]
+    fn the_fold_of_accented_capitals() {
+        let all: Vec<u8> = (0..=255).collect();
+        for (keyword, with) in [(0xC9, 2), (0xE9, 2), (0xDE, 2), (0xD7, 1), (0xDF, 1), (0xFF, 1), (0xBF, 1), (b'a', 2)] {
+            let count = |fold| Automaton::new(&[&[keyword]], fold).count(&all);
+            assert_eq!((count(true), count(false)), (with, 1), "{keyword:02X}");
         }
     }
 }

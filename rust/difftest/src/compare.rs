@@ -1,10 +1,11 @@
 //! One case: every call of the library beside the oracle, with every byte of every buffer.
 
+use crate::folds::Meetings;
 use crate::inputs::Case;
 use crate::rng::Rng;
 use oracle::join::{self, Joined};
 use oracle::{calls, direct, index, keywords, moves, recipes, store, U32};
-use std::collections::BTreeMap;
+use std::collections::{BTreeMap, HashMap};
 use vault::raw;
 
 /// What was run.
@@ -25,6 +26,8 @@ pub struct Tally {
     pub bytes: u64,
     /// Answers on a store compared with those on another order of its chunks.
     pub orders: u64,
+    /// Bytes at the fold's borders.
+    pub meetings: Meetings,
 }
 
 /// How a case is run.
@@ -39,9 +42,12 @@ pub struct Limits {
     pub bound: u64,
     /// Bytes of chunks above which the moves aren't counted by strings.
     pub strings: u64,
+    /// Bytes of restored files above which it isn't counted how bytes at the fold's borders meet.
+    pub meetings: usize,
 }
 
-pub const USUAL: Limits = Limits { buffer: 1 << 30, direct: 1 << 30, large: 1 << 20, bound: 1 << 28, strings: 1 << 13 };
+pub const USUAL: Limits =
+    Limits { buffer: 1 << 30, direct: 1 << 30, large: 1 << 20, bound: 1 << 28, strings: 1 << 13, meetings: 1 << 11 };
 
 pub struct Comparison<'a> {
     pub tally: &'a mut Tally,
@@ -244,6 +250,7 @@ impl Comparison<'_> {
     /// Keyword check, store check, the scan's length, and scans. Gives the index.
     fn scans(&mut self, list: &[u8], bytes: &[u8]) -> Result<Result<Vec<u8>, u8>, String> {
         self.code("check_keywords", raw::check_keywords(list), calls::check_keywords(list))?;
+        self.listed(list, calls::check_keywords(list));
         self.code("check_store", raw::check_store(bytes), calls::check_store(bytes))?;
         let want = calls::index_of(list, bytes);
         let mut size = Number::new(self.rng);
@@ -273,6 +280,7 @@ impl Comparison<'_> {
     fn joins(&mut self, bytes: &[u8], recipes: &[u8]) -> Verdict {
         let index = index::read(bytes);
         self.code("check_index", raw::check_index(bytes), index.as_ref().err().copied().unwrap_or(0))?;
+        self.listed(vault::keywords_in_index(bytes), index.as_ref().err().copied().unwrap_or(0));
         let joined = index.as_ref().map_err(|code| *code).and_then(|index| Joined::new(index, recipes));
         let count = joined.as_ref().map(Joined::count).map_err(|code| *code);
         let mut counted = Number::new(self.rng);
@@ -372,7 +380,24 @@ impl Comparison<'_> {
             return Err("the oracle's join and the direct search of the restored files differ (a fault of the oracle)".into());
         }
         self.tally.direct += 1;
+        if restored.iter().map(Vec::len).sum::<usize>() <= self.limits.meetings {
+            let length_of: HashMap<_, usize> = chunks.iter().map(|c| (c.key, c.place.len())).collect();
+            for (data, file) in restored.iter().zip(&files) {
+                let ends = file.iter().scan(0, |end, key| {
+                    *end += length_of[key];
+                    Some(*end)
+                });
+                self.tally.meetings.in_file(keywords.fold, &keywords.words, data, &ends.collect::<Vec<_>>());
+            }
+        }
         Ok(())
+    }
+
+    /// How bytes at the fold's borders meet in a list that has this code: accepted, or refused for two keywords alike.
+    fn listed(&mut self, list: &[u8], code: u8) {
+        if code == 0 || code == 4 {
+            self.tally.meetings.in_list(list[1] == 1, &vault::keywords_of(list));
+        }
     }
 }
 

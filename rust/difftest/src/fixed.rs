@@ -1,20 +1,20 @@
 //! Cases that are not random: the paper's, the corners of each format, and the large ones.
 
 use crate::inputs::{list, Case};
-use crate::lanes;
 use crate::rng::Rng;
+use crate::{folds, lanes};
 use oracle::records::Record;
 use oracle::{index, recipes, store, Fingerprint};
 
-type Chunks = Vec<(Fingerprint, Vec<u8>)>;
+pub type Chunks = Vec<(Fingerprint, Vec<u8>)>;
 
-fn case(kind: &'static str, list: Vec<u8>, chunks: &Chunks, files: &[Vec<Fingerprint>]) -> Case {
+pub fn case(kind: &'static str, list: Vec<u8>, chunks: &Chunks, files: &[Vec<Fingerprint>]) -> Case {
     let mut keys: Vec<Vec<u8>> = chunks.iter().take(2).chain(chunks.last()).map(|(key, _)| key.to_vec()).collect();
     keys.extend([vec![0x77; 20], vec![], vec![1; 19], vec![1; 21]]);
     Case { kind, list, store: store::encode(chunks), index: None, recipes: recipes::encode(files), keys }
 }
 
-fn key(k: usize) -> Fingerprint {
+pub fn key(k: usize) -> Fingerprint {
     let mut key = [0; 20];
     key[..8].copy_from_slice(&(k as u64 + 1).to_le_bytes());
     key
@@ -73,6 +73,7 @@ pub fn small() -> Vec<Case> {
     cases.extend(moves());
     cases.extend([255, 256, 259].map(|length| around_borders(&sixteen()[..1], length, b'.')));
     cases.extend(keyword_lists());
+    cases.extend(folds::by_hand());
     cases.extend(indexes());
     cases.extend(all_recipes());
     cases
@@ -168,7 +169,10 @@ fn keyword_lists() -> Vec<Case> {
         &[2, 1, 1, 0x40, 1, 0x60],
         &[2, 1, 1, 0x5B, 1, 0x7B],
         &[2, 1, 1, 0x5A, 1, 0x7A],
-        &[2, 1, 1, 0xC0, 1, 0xE0],
+        &[2, 1, 1, 0xC9, 1, 0xE9],
+        &[2, 1, 1, 0xC9, 1, 0xE9, 0],
+        &[2, 1, 1, 0xC3, 1, 0xE3],
+        &[2, 1, 2, 0xC3, 0x89, 2, 0xC3, 0xA9],
     ];
     let mut cases: Vec<Case> =
         lists.iter().map(|l| case("keyword lists", l.to_vec(), &small_chunks(), &[vec![[1; 20]]])).collect();
@@ -349,6 +353,7 @@ pub fn large() -> Vec<(&'static str, fn(&mut Rng) -> Vec<Case>)> {
         ("megabytes", megabytes),
         ("keywords around the quarters", quarters),
         ("moves of the longest chunks", longest_walks),
+        ("every two bytes", folds::every_byte),
     ]
 }
 

@@ -1,5 +1,6 @@
 //! Random inputs: keywords that overlap and nest, chunks made of their pieces, recipes, made-up records.
 
+use crate::folds::beside;
 use crate::rng::Rng;
 use oracle::keywords::{alike, Keywords};
 use oracle::records::{encode_body, reach, Record};
@@ -55,7 +56,7 @@ impl Words {
     }
 }
 
-/// Small alphabets, the fold's borders, Latin-1 capitals (which do not fold), the ends of a byte, and all bytes.
+/// Small alphabets, the fold's borders (`folds.rs` has vaults of these alone), the ends of a byte, and all bytes.
 fn letters(rng: &mut Rng) -> Vec<u8> {
     let sets: [&[u8]; 10] = [
         b"A",
@@ -93,7 +94,7 @@ fn word_length(rng: &mut Rng) -> usize {
 fn flip_case(rng: &mut Rng, bytes: &mut [u8]) {
     for b in bytes {
         if rng.percent(40) {
-            *b ^= 0x20;
+            *b = beside(rng, *b);
         }
     }
 }
@@ -132,6 +133,11 @@ fn word(rng: &mut Rng, letters: &[u8], earlier: &[Vec<u8>]) -> Vec<u8> {
 
 pub fn words(rng: &mut Rng) -> Words {
     let letters = letters(rng);
+    words_of(rng, letters)
+}
+
+/// Keywords of these letters.
+pub fn words_of(rng: &mut Rng, letters: Vec<u8>) -> Words {
     let fold = rng.percent(45);
     let count = match rng.below(10) {
         0..=2 => 1,
@@ -164,7 +170,7 @@ pub fn chunk(rng: &mut Rng, words: &Words, length: usize) -> Vec<u8> {
             3 => word.clone(),
             _ => vec![word[0]; rng.range(1, 6)],
         };
-        if words.keywords.fold {
+        if words.keywords.fold || rng.percent(20) {
             flip_case(rng, &mut piece);
         }
         bytes.extend(piece);
@@ -264,6 +270,11 @@ pub fn lookups(rng: &mut Rng, keys: &[Fingerprint]) -> Vec<Vec<u8>> {
 /// A whole vault that every check accepts; its recipes may still be refused.
 pub fn vault(rng: &mut Rng, kind: &'static str) -> (Case, Words, Vec<Fingerprint>) {
     let words = words(rng);
+    vault_of(rng, kind, words)
+}
+
+/// The same for these keywords.
+pub fn vault_of(rng: &mut Rng, kind: &'static str, words: Words) -> (Case, Words, Vec<Fingerprint>) {
     let due = words.keywords.longest() - 1;
     let count = *rng.pick(&[0, 1, 2, 3, 4, 5, 6, 8, 12, 20]);
     let keys = keys(rng, count);

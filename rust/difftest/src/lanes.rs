@@ -4,7 +4,7 @@
 
 use crate::inputs::{self, Case, Words};
 use crate::rng::Rng;
-use oracle::keywords::{alike, Keywords};
+use oracle::keywords::{alike, compares_as, Keywords};
 use oracle::{recipes, store, Fingerprint};
 
 const PARTED: usize = 256;
@@ -148,7 +148,8 @@ fn chunk(rng: &mut Rng, words: &Words, length: usize) -> Vec<u8> {
         at_borders(rng, words, &mut data);
     }
     if words.keywords.fold {
-        data.iter_mut().filter(|b| b.is_ascii_alphabetic()).for_each(|b| *b ^= if rng.percent(40) { 0x20 } else { 0 });
+        let letter = |b: u8| compares_as(true, b) == compares_as(true, b ^ 0x20);
+        data.iter_mut().filter(|b| letter(**b)).for_each(|b| *b ^= if rng.percent(40) { 0x20 } else { 0 });
     }
     data
 }

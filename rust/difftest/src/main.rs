@@ -9,6 +9,7 @@
 mod compare;
 mod damage;
 mod fixed;
+mod folds;
 mod huge;
 mod inputs;
 mod lanes;
@@ -72,9 +73,9 @@ fn on_large_stack<T: Send>(work: impl FnOnce() -> T + Send) -> T {
     vault::on_large_stack(work).expect("a thread can be started")
 }
 
-/// A random case: sound, damaged in one input, in two, made up, noise, or for the walk.
+/// A random case: sound, damaged in one input, in two, made up, noise, for the walk, or for the fold.
 fn random(rng: &mut Rng) -> Case {
-    match rng.below(112) {
+    match rng.below(120) {
         0..=29 => inputs::vault(rng, "vaults").0,
         30..=36 => {
             let (mut case, _, _) = inputs::vault(rng, "damaged keywords");
@@ -103,7 +104,8 @@ fn random(rng: &mut Rng) -> Case {
         }
         96..=97 => long_chunks(rng),
         98..=99 => noise(rng),
-        _ => lanes::vault(rng),
+        100..=111 => lanes::vault(rng),
+        _ => folds::vault(rng),
     }
 }
 
@@ -235,6 +237,11 @@ fn run(arguments: &Arguments) -> ExitCode {
         println!("FAILED: codes that no case reached: {}", missing.join(", "));
         return ExitCode::FAILURE;
     }
+    let unmet = run.tally.meetings.missing();
+    if !unmet.is_empty() {
+        println!("FAILED: bytes at the fold's borders that no case brought together: {}", unmet.join(", "));
+        return ExitCode::FAILURE;
+    }
     ExitCode::SUCCESS
 }
 
@@ -313,6 +320,7 @@ fn report(tally: &Tally, time: Duration) {
             tally.codes.iter().filter(|((c, _), _)| *c == call).map(|((_, code), count)| format!("{code}:{count}")).collect();
         println!("  {call:<15} {}", reached.join(" "));
     }
+    tally.meetings.report();
     let calls: u64 = tally.codes.values().sum();
     println!(
         "\n{} cases, {calls} answers compared, {} bytes of buffers, {} occurrences listed,",

@@ -243,11 +243,9 @@ mod tests {
         assert_eq!(body(&index, &[]), Err(19));
     }
 
-    #[test]
-    fn the_join_is_the_direct_search() {
-        let words: &[&[u8]] = &[b"ABA", b"AA", b"A", b"BAAB"];
-        let list = list_of(true, words);
-        let pieces: &[&[u8]] = &[b"XAB", b"abaX", b"AAA", b"bab", b"aAaAa", b"Baa"];
+    /// The occurrences in every file of three of these pieces: the join's, and the direct search's.
+    fn joined_and_searched(fold: bool, words: &[&[u8]], pieces: [&[u8]; 6]) -> usize {
+        let list = list_of(fold, words);
         let chunks: Vec<_> = pieces.iter().enumerate().map(|(k, p)| ([k as u8; 20], *p)).collect();
         let store = store::encode(&chunks);
         let mut files = vec![];
@@ -262,6 +260,22 @@ mod tests {
         let joined = Joined::new(&index, &recipes::encode(&files)).unwrap().list();
         let restored = direct::restore(&store, &store::read(&store).unwrap(), &files).unwrap();
         assert_eq!(joined, direct::search(&keywords::read(&list).unwrap(), &restored));
-        assert!(joined.len() > 500);
+        joined.len()
+    }
+
+    #[test]
+    fn the_join_is_the_direct_search() {
+        let words: &[&[u8]] = &[b"ABA", b"AA", b"A", b"BAAB"];
+        assert!(joined_and_searched(true, words, [b"XAB", b"abaX", b"AAA", b"bab", b"aAaAa", b"Baa"]) > 500);
+    }
+
+    /// Request 104, inside chunks and across: the same pieces with and without the flag.
+    #[test]
+    fn the_join_is_the_direct_search_of_accented_letters() {
+        let words: &[&[u8]] = &[b"\xC9\xE9\xC9", b"\xE9\xDE", b"\xD7\xC9", b"\xDF\xDF", b"\xF8"];
+        let pieces: [&[u8]; 6] =
+            [b"\xC9\xE9", b"\xE9\xC9", b"\xFE\xF7\xE9\xC9", b"\xDF\xFF\xD7", b"\xD8\xE9", b"\xDF\xBF\xC9\xC9"];
+        let (with, without) = (joined_and_searched(true, words, pieces), joined_and_searched(false, words, pieces));
+        assert!(with > 300 && 3 * without < with && without > 0, "{with} {without}");
     }
 }

@@ -174,6 +174,25 @@ mod tests {
         assert_eq!(code(&none), 10);
     }
 
+    /// Request 104 in an index, which no call can tell from an older one: 4 is judged by the wider map, before 11; and the records
+    /// may be those of the narrower one.
+    #[test]
+    fn accented_capitals_inside() {
+        for (a, b, with) in [(0xC9, 0xE9, 4), (0xDE, 0xFE, 4), (0xD7, 0xF7, 0), (0xDF, 0xFF, 0)] {
+            for (flag, want) in [(true, with), (false, 0)] {
+                let mut index = encode(&list_of(flag, &[&[a], &[b]]), &[([1; 20], 1, &b""[..])]);
+                assert_eq!(code(&index), want, "{a:02X} {b:02X}");
+                index.pop();
+                assert_eq!(code(&index), if want == 4 { 4 } else { 11 });
+            }
+        }
+        let list = list_of(true, &[b"\xC9t"]);
+        let narrow = encode(&list, &[([1; 20], 2, &b""[..])]);
+        let store = store::encode(&[([1; 20], b"\xE9t")]);
+        let wide = of_scan(&list, &crate::keywords::read(&list).unwrap(), &store, &store::read(&store).unwrap());
+        assert_eq!((code(&narrow), code(&wide), wide.len() - narrow.len()), (0, 0, 7));
+    }
+
     #[test]
     fn sums_do_not_wrap() {
         let mut index = encode(&[1, 0, 1, 0x41], &[([1; 20], 1, &b""[..]), ([2; 20], 1, b"")]);

@@ -142,6 +142,17 @@ mod tests {
         assert_eq!(cell(true, b"aA", 1, 1), [0]);
     }
 
+    /// Request 104: a capital, a small letter, a capital.
+    #[test]
+    fn cells_of_accented_capitals() {
+        assert_eq!(cell(true, b"\xC9\xE9\xC9", 2, 2), [0, 1]);
+        assert_eq!(cell(false, b"\xC9\xE9\xC9", 2, 2), [0; 0]);
+        assert_eq!(cell(true, b"\xE9\xC9", 1, 1), [0]);
+        for b in [0xBF, 0xD7, 0xDF] {
+            assert_eq!(cell(true, &[b, b + 0x20, b], 2, 2), [0; 0]);
+        }
+    }
+
     fn record(prefix: usize, suffix: usize, offsets: &[usize]) -> Record {
         Record { prefix, suffix, offsets: offsets.to_vec() }
     }

@@ -1,4 +1,4 @@
-//! Document 01, "Words": keyword lists, the fold flag, and the word check (1 to 4).
+//! Document 01, "Words", and request 104, "Accented capitals": keyword lists, the fold flag, and the word check (1 to 4).
 
 use crate::Code;
 
@@ -12,9 +12,12 @@ pub struct Keywords {
     pub size: usize,
 }
 
-/// The byte that `b` compares as: with the flag, 41 to 5A compare as the byte 20 (hexadecimal) higher.
+/// The byte that `b` compares as: with the flag, 41 to 5A compare as the byte 20 (hexadecimal) higher, and so do, by request 104,
+/// C0 to DE except D7.
 pub fn compares_as(fold: bool, b: u8) -> u8 {
-    if fold && (0x41..=0x5A).contains(&b) {
+    let letter = (0x41..=0x5A).contains(&b);
+    let accented = (0xC0..=0xDE).contains(&b) && b != 0xD7;
+    if fold && (letter || accented) {
         b + 0x20
     } else {
         b
@@ -141,6 +144,62 @@ mod tests {
         assert_eq!(code(&list_of(true, &[b"Ab", b"aB"])), 4);
         assert_eq!(code(&list_of(false, &[b"Ab", b"aB"])), 0);
         assert_eq!(code(&list_of(true, &[b"[", b"{"])), 0);
+    }
+
+    /// Request 104: every byte, and the borders by name.
+    #[test]
+    fn accented_capitals() {
+        for b in 0..=255u8 {
+            let higher = matches!(b, 0x41..=0x5A | 0xC0..=0xD6 | 0xD8..=0xDE);
+            assert_eq!(compares_as(true, b), if higher { b + 0x20 } else { b }, "{b:02X}");
+            assert_eq!(compares_as(false, b), b);
+        }
+        for b in [0xC0, 0xD6, 0xD8, 0xDE] {
+            assert!(alike(true, &[b], &[b + 0x20]) && !alike(false, &[b], &[b + 0x20]), "{b:02X}");
+        }
+        for b in [0xBF, 0xD7, 0xDF, 0xF7, 0xFF] {
+            for flag in [false, true] {
+                assert_eq!(compares_as(flag, b), b);
+                for other in (0..=255).filter(|other| *other != b) {
+                    assert!(!alike(flag, &[b], &[other]), "{b:02X} {other:02X}");
+                }
+            }
+        }
+    }
+
+    #[test]
+    fn accented_capitals_in_refusal_4() {
+        for (a, b, with) in [
+            (0xC9, 0xE9, 4),
+            (0xC0, 0xE0, 4),
+            (0xD6, 0xF6, 4),
+            (0xD8, 0xF8, 4),
+            (0xDE, 0xFE, 4),
+            (0xBF, 0xDF, 0),
+            (0xD7, 0xF7, 0),
+            (0xDF, 0xFF, 0),
+            (0x9F, 0xBF, 0),
+        ] {
+            for (flag, want) in [(true, with), (false, 0)] {
+                let list = list_of(flag, &[b"x", &[b'c', a, b'f'], &[b'c', b, b'f']]);
+                assert_eq!((code(&list), read_front(&list).err().unwrap_or(0)), (want, want), "{a:02X} {b:02X}");
+                assert_eq!(code(&list_of(flag, &[&[a], &[b]])), want);
+            }
+        }
+        // Read from a front too, and compared in all bytes.
+        assert_eq!(read_front(&[2, 1, 1, 0xC9, 1, 0xE9, 7]), Err(4));
+        assert_eq!(code(&list_of(true, &[b"\xC9t\xC9", b"\xE9T\xE9"])), 4);
+        assert_eq!(code(&list_of(true, &[b"\xC9t\xD7", b"\xE9T\xF7"])), 0);
+    }
+
+    /// In UTF-8 capital and small letter differ in a byte that doesn't fold; C3 and E3 are alike.
+    #[test]
+    fn accented_letters_of_two_bytes() {
+        assert!(!alike(true, "\u{C9}".as_bytes(), "\u{E9}".as_bytes()));
+        for second in (0x80..=0x9E).chain(0xA0..=0xBE) {
+            assert_eq!(compares_as(true, second), second);
+            assert!(alike(true, &[0xC3, second], &[0xE3, second]));
+        }
     }
 
     #[test]

@@ -3,7 +3,7 @@
 //! It is here to be compared with: nothing is clever, every test stands in the paper's order, every sum is
 //! taken in 64 bits, and every function answers for all inputs. Each module is one section of the paper:
 //!
-//! * [`keywords`]: "Words", with the word check;
+//! * [`keywords`]: "Words" with request 104's accented capitals, and the word check;
 //! * [`store`]: "Store", with the store check;
 //! * [`records`]: "Notes on one chunk and one word", and their written form;
 //! * [`moves`]: request 103, what a scan's walk of the trie counts;

@@ -154,9 +154,15 @@ mod tests {
         // A node for Ab and aC's first byte: one under the flag, two without.
         assert_eq!(moves(true, &[b"Ab", b"aC"], b"aAc"), 4);
         assert_eq!(moves(false, &[b"Ab", b"aC"], b"aAc"), 5);
-        // 5B and 7B are not alike, and C9 does not fold.
-        assert_eq!(moves(true, &[b"[["], b"[{"), 3);
-        assert_eq!(moves(true, &[b"\xC9\xC9"], b"\xC9\xE9"), 3);
+        // 5B and 7B are not alike, nor D7 and F7, DF and FF, BF and DF.
+        for (a, b) in [(0x5B, 0x7B), (0xD7, 0xF7), (0xDF, 0xFF), (0xBF, 0xDF)] {
+            assert_eq!(moves(true, &[&[a, a]], &[a, b]), 3);
+        }
+        // Request 104: C9 and E9 are, with the flag.
+        assert_eq!(moves(true, &[b"\xC9\xC9"], b"\xC9\xE9"), 2);
+        assert_eq!(moves(false, &[b"\xC9\xC9"], b"\xC9\xE9"), 3);
+        assert_eq!(moves(true, &[b"\xC9b", b"\xE9C"], b"\xE9\xC9c"), 4);
+        assert_eq!(moves(false, &[b"\xC9b", b"\xE9C"], b"\xE9\xC9c"), 5);
     }
 
     #[test]

@@ -187,6 +187,19 @@ mod tests {
     }
 
     #[test]
+    fn accented_capitals() {
+        assert_eq!(record_of(true, b"\xC9t\xE9", b"\xE9T\xC9T\xE9"), record(1, 1, &[0, 2]));
+        assert_eq!(record_of(false, b"\xC9t\xE9", b"\xE9T\xC9T\xE9"), record(0, 1, &[]));
+        assert_eq!(record_of(true, b"\xDE\xD8x", b"x\xFE\xF8"), record(2, 1, &[]));
+        assert_eq!(record_of(true, b"x\xC0\xD6", b"\xE0\xF6x"), record(1, 2, &[]));
+        // D7, DF and BF by themselves.
+        for b in [0xD7, 0xDF, 0xBF] {
+            assert_eq!(record_of(true, &[b], &[b, b + 0x20, b ^ 0x20, b]), record(0, 0, &[0, 3]));
+            assert_eq!(record_of(true, &[b, b], &[b + 0x20, b, b + 0x20]), Record::default());
+        }
+    }
+
+    #[test]
     fn kinds_by_count() {
         for (count, kind, byte, size) in
             [(1, 1, 1, 7), (2, 2, 2, 11), (254, 2, 254, 515), (255, 3, 255, 519), (256, 3, 255, 521), (65_535, 3, 255, 131_079)]

@@ -5,6 +5,12 @@
 //! * [`join`] takes the index and recipes, and no chunk, and lists every [`Occurrence`] in the restored files: by file,
 //!   then offset, then keyword, each exactly once, also those that cross from one chunk into the next.
 //!
+//! Bytes compare by the keyword list's **fold flag**. With 0 they compare as they are. With 1, capitals compare as small letters: 41 to
+//! 5A (ASCII) and C0 to DE except D7 (Latin-1, ISO/IEC 8859-1) as the byte 20 (hexadecimal) higher, all others, DF, F7 and FF among
+//! them, as themselves. This goes by bytes: the UTF-8 forms of two such letters (C3 89 and C3 A9, say) differ in a byte that doesn't
+//! fold. An index that an earlier version, which folded 41 to 5A only, wrote with flag 1 has to be scanned anew: no call can tell or
+//! refuses it, and its join may lack occurrences.
+//!
 //! Every function takes every input: what isn't a good file is refused with an [`Error`], and a refused call changes no
 //! buffer. What is proved is the library behind; this crate checks nothing again and only names things. Functions that make
 //! their own buffer give a [`Failure`]: a refusal, or memory that can't be had.
@@ -128,7 +134,8 @@ fn buffer(bytes: u64) -> Result<Vec<u8>, Failure> {
     Ok(buffer)
 }
 
-/// The bytes of a keyword list, checked.
+/// The bytes of a keyword list with this fold flag, checked: refusals 2 to 4. With the flag, two keywords that differ only in case (of
+/// ASCII or of Latin-1's accented letters) are refused with 4.
 pub fn keyword_list(fold: bool, keywords: &[&[u8]]) -> Result<Vec<u8>, Error> {
     let byte = |n: usize| u8::try_from(n).unwrap_or(u8::MAX);
     let mut list = vec![byte(keywords.len()), fold as u8];
@@ -406,11 +413,66 @@ mod tests {
             assert_eq!(moves(false, &[b"AAAA"], &[b"A", b"AAAX", b"AAAAAA"]), 8 + 7 + 1);
             assert_eq!(moves(true, &[b"dedup", b"Up"], &[b"DeDe", b"dEDUPx"]), 5 + 8);
             assert_eq!(moves(false, &[b"dedup", b"Up"], &[b"DeDe", b"dEDUPx"]), 4 + 8);
+            assert_eq!(moves(true, &[b"\xC9\xC9"], &[b"\xC9\xE9", b"\xE9\xD7"]), 2 + 3);
+            assert_eq!(moves(false, &[b"\xC9\xC9"], &[b"\xC9\xE9", b"\xE9\xD7"]), 3 + 2);
+            assert_eq!(moves(true, &[b"\xDF\xDF"], &[b"\xDF\xFF"]), 3);
             // Two a byte but for the first 31, in chunks that are walked in one part and in four.
             let word = [&[b'a'; 31][..], b"b"].concat();
             for length in [33, 255, 256, 257, 1023, 1024, 1025, 65_535] {
                 assert_eq!(moves(false, &[&word], &[&vec![b'a'; length]]), 2 * length as u64 - 31);
             }
+        });
+    }
+
+    /// The byte that another compares as: document 01 with request 104, by a table.
+    fn compares_as(fold: bool, b: u8) -> u8 {
+        let capitals = [0x41..=0x5A, 0xC0..=0xD6, 0xD8..=0xDE];
+        b + if fold && capitals.iter().any(|stretch| stretch.contains(&b)) { 0x20 } else { 0 }
+    }
+
+    #[test]
+    fn refusal_4_of_every_two_bytes() {
+        with_stack(|| {
+            for (fold, a, b) in [false, true].iter().flat_map(|f| (0..=255).flat_map(move |a| (0..=255).map(move |b| (*f, a, b))))
+            {
+                let want = if compares_as(fold, a) == compares_as(fold, b) { 4 } else { 0 };
+                assert_eq!(raw::check_keywords(&[2, fold as u8, 1, a, 1, b]), want, "{fold} {a:02X} {b:02X}");
+            }
+        });
+    }
+
+    #[test]
+    fn occurrences_of_every_byte() {
+        with_stack(|| {
+            let all: Vec<u8> = (0..=255).collect();
+            let (store, recipes) = (store_of(&[&all]), [&[1, 0, 0, 0, 1, 0, 0, 0][..], &[0; 20]].concat());
+            for (fold, first) in [false, true].iter().flat_map(|fold| (0..16).map(move |k| (*fold, 16 * k))) {
+                let words: Vec<[u8; 1]> = (first..=first + 15).map(|b| [b]).collect();
+                let list = keyword_list(fold, &words.iter().map(|word| &word[..]).collect::<Vec<_>>()).unwrap();
+                let met = |b: u8| words.iter().position(|word| compares_as(fold, word[0]) == compares_as(fold, b));
+                let want: Vec<(u32, u8)> = all.iter().filter_map(|b| Some((u32::from(*b), met(*b)? as u8))).collect();
+                let found = search(&list, &store, &recipes).unwrap();
+                assert_eq!(found.iter().map(|o| (o.offset, o.keyword)).collect::<Vec<_>>(), want);
+            }
+        });
+    }
+
+    /// A capital, a small letter, a capital: over two chunks with flag 1 it stands at 0 and 1.
+    #[test]
+    fn accented_capitals_across_chunks() {
+        with_stack(|| {
+            let store = store_of(&[b"\xC9\xE9", b"\xE9\xC9"]);
+            let recipes = [&[1, 0, 0, 0, 2, 0, 0, 0][..], &[0; 20], &[1; 20]].concat();
+            for (fold, want) in [(true, vec![0, 1]), (false, vec![])] {
+                let list = keyword_list(fold, &[b"\xC9\xE9\xC9"]).unwrap();
+                let found = search(&list, &store, &recipes).unwrap();
+                assert_eq!(found.iter().map(|o| o.offset).collect::<Vec<_>>(), want);
+            }
+            // An index of an earlier version, whose keywords are alike now: refused for that and not for its age.
+            let older = [&b"DM1\n\0\0\0\0"[..], &[2, 1, 1, 0xC9, 1, 0xE9]].concat();
+            assert_eq!(check_index(&older).unwrap_err().code, 4);
+            assert_eq!(keyword_list(true, &[b"\xC9", b"\xE9"]).unwrap_err().code, 4);
+            assert!(keyword_list(true, &[b"\xD7", b"\xF7", b"\xDF", b"\xFF"]).is_ok());
         });
     }
 

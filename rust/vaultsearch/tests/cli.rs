@@ -39,6 +39,68 @@ fn keywords_in_three_ways() {
     assert_eq!(folder.run("search store.bin recipes.bin --words words.bin --fold").0, 64);
 }
 
+/// A store and recipes of one file of these chunks.
+fn vault_of(folder: &Folder, chunks: &[&[u8]]) {
+    let mut store = [&b"DV1\n"[..], &(chunks.len() as u32).to_le_bytes()].concat();
+    let mut offset = 8 + 28 * chunks.len();
+    for (k, chunk) in chunks.iter().enumerate() {
+        store.extend_from_slice(&[k as u8; 20]);
+        [offset, chunk.len()].iter().for_each(|field| store.extend_from_slice(&(*field as u32).to_le_bytes()));
+        offset += chunk.len();
+    }
+    folder.write("store.bin", &[store, chunks.concat()].concat());
+    folder.write("recipes.bin", &recipes(&[&(0..chunks.len() as u8).collect::<Vec<_>>()]));
+}
+
+/// What the help says of --fold, on Latin-1 data and on UTF-8 data.
+#[test]
+fn accented_capitals() {
+    let folder = Folder::new("accents");
+    let plain = |words: &str, want: &str| {
+        let (status, out, err) = folder.shell(&format!("$V search store.bin recipes.bin --format plain {words}"));
+        assert_eq!((status, out.as_str()), (0, want), "{words}: {err}");
+    };
+    // caf\xE9, CAF | \xC9, \xD7 \xF7 \xDF \xFF.
+    vault_of(&folder, &[b"caf\xE9 CAF", b"\xC9 \xD7\xF7\xDF\xFF"]);
+    plain("--fold --word $'caf\\xe9'", "finds 2\n0 0 0\n0 5 0\n");
+    plain("--fold --word $'Caf\\xc9'", "finds 2\n0 0 0\n0 5 0\n");
+    plain("--word $'caf\\xe9'", "finds 1\n0 0 0\n");
+    plain("--fold --word $'\\xd7' --word $'\\xff'", "finds 2\n0 10 0\n0 13 1\n");
+    folder.write("latin1.txt", b"\xC9\n");
+    plain("--fold --list latin1.txt", "finds 2\n0 3 0\n0 8 0\n");
+    folder.write("alike.txt", b"\xC9t\xE9\n\xE9T\xC9\n");
+    folder.refuses("check --list alike.txt --fold", 4, "alike");
+    folder.prints("check --list alike.txt", "keywords: good, 2 of them\n");
+    folder.write("words.bin", &[2, 1, 1, 0xDE, 1, 0xFE]);
+    folder.refuses("scan store.bin --words words.bin -o index.bin", 4, "alike");
+    let (status, _, err) = folder.shell("$V make-vault -o v --fold --word $'\\xc9' --word $'\\xe9' store.bin");
+    assert!(status == 4 && !folder.0.join("v").exists(), "{err}");
+    // A UTF-8 keyword in Latin-1 data, and in UTF-8 data: capital, small letter, and E3 89.
+    plain("--fold --word $'\\xc3\\xa9'", "finds 0\n");
+    vault_of(&folder, &["\u{C9} \u{E9} \u{3240}".as_bytes()]);
+    plain("--fold --word $'\\xc3\\xa9'", "finds 1\n0 3 0\n");
+    plain("--fold --word $'\\xc3\\x89' --word $'\\xc3\\xa9'", "finds 3\n0 0 0\n0 3 1\n0 6 0\n");
+    plain("--word $'\\xc3\\x89'", "finds 1\n0 0 0\n");
+}
+
+#[test]
+fn the_help_says_what_folds() {
+    let (status, help, _) = Folder::new("help").run("--help");
+    let words = help.split_whitespace().collect::<Vec<_>>().join(" ");
+    for said in [
+        "A to Z, and the accented capitals of Latin-1 (ISO/IEC 8859-1), bytes C0 to DE except D7 (the multiplication sign)",
+        "DF, F7 and FF match only themselves",
+        "UTF-8 has two bytes for such a letter",
+        "capital and small letter do not match there, so give each as a keyword by its own bytes",
+        "C3 and E3 match each other, so C3 89 also matches E3 89",
+        "An index that was written with the fold flag before accented capitals folded (see --fold) has to be scanned anew",
+        "No command can tell it from a new one, and none refuses it for its age",
+    ] {
+        assert!(status == 0 && words.contains(said), "{said}");
+    }
+    assert!(help.is_ascii() && help.lines().all(|line| line.len() <= 122), "it fits a terminal");
+}
+
 #[test]
 fn an_index_is_kept_and_joined() {
     let folder = Folder::new("index");
