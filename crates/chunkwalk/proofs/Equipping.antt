@@ -1,6 +1,6 @@
 -- The arrays that `automaton_table::build` fills are what the walks ask for. Assumes nothing.
-use mathlib.Core.Path.{_≡_, refl, sym, ap, ap₂, _∙_}
-use mathlib.Core.List.{List, []}
+use mathlib.Core.Path.{_≡_, sym, ap, ap₂, _∙_}
+use mathlib.Core.List.{List}
 use Prim.Native.Nat.{ℕ, _+_, _*_, _/_, _%_, _≤_, _<_}
 use native.Mathlib.Nat.{zero-add}
 use native.Mathlib.Omega.{arith}
@@ -9,11 +9,10 @@ use Rattle.spec.specs.Bytes.{splice, written}
 use Rattle.spec.specs.Join.{keywordAt}
 use Rattle.spec.specs.Keywords.{flagOf, foldedKeywords}
 use Rattle.spec.proofs.KeywordLaws.{accepted, folded-count}
-use Rattle.spec.proofs.Splices.{length-splice, splice-read}
+use Rattle.spec.proofs.Splices.{length-splice}
 use Rattle.spec.proofs.Tabulated.{tabulated, length-tabulated, tabulated-at}
 use Rattle.keywords.specs.declared.Keywords.{Keywords}
 use Rattle.keywords.specs.Parsed.{Reads}
-use Rattle.spec.specs.Trie.{isNode}
 use Rattle.trie.specs.Endings.{prefixAt}
 use Rattle.trie.specs.Numbers.{nodeCount, nodeNumber, nodeAt}
 use Rattle.trie.proofs.Numbering.{accepted-count, number-below, node-of-number}
@@ -92,7 +91,7 @@ module _ (list : List ℕ) (words : Keywords) (r : Reads list words) where
 
   pub equip : (l table m ends o tails log run1 run2 run3 : List ℕ) → 131328 ≤ length l → 513 ≤ length m → 8208 ≤ length o
       → table ≡ written l (tableOf (flagOf list) keywords) → ends ≡ written m (setsOf keywords) → tails ≡ written o (prefixesOf keywords)
-      → 65535 ≤ length log → 16384 ≤ length run1 → 16384 ≤ length run2 → 16384 ≤ length run3
+      → 65536 ≤ length log → 16384 ≤ length run1 → 16384 ≤ length run2 → 16384 ≤ length run3
       → Equipped list words table ends tails log run1 run2 run3
   equip l table m ends o tails log run1 run2 run3 h i j e f g k k1 k2 k3 = record {
     reads = r;

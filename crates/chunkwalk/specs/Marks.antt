@@ -3,7 +3,7 @@ use mathlib.Core.Path.{_≡_}
 use mathlib.Core.Bool.{cond}
 use mathlib.Core.List.{List}
 use Prim.Native.Nat.{ℕ, _+_, _*_, _%_, _≤_}
-use lib.ListN.{length}
+use lib.ListN.{length, replicate}
 use lib.Dec.{eqb}
 use Rattle.spec.specs.Keywords.{flagOf, folded, foldedKeywords}
 use Rattle.spec.specs.Form.{newest}
@@ -13,6 +13,7 @@ use Rattle.keywords.specs.declared.Keywords.{Keywords}
 use Rattle.keywords.specs.Parsed.{Reads}
 use Rattle.automaton.specs.Walking.{numberAfter, Rows}
 use Rattle.records.specs.Log.{logOf, Tabled}
+use Rattle.records.specs.declared.Tally.{Tally}
 use Rattle.chunkwalk.specs.declared.Measured.{Measured}
 use Rattle.chunkwalk.specs.declared.Written.{Written}
 
@@ -43,12 +44,16 @@ walkedMoves list chunk mark = cond (eqb (mark % 2) 0) 0 (chunkMoves list chunk)
 unfoldable pub writtenOf : List ℕ → List ℕ → ℕ → Written
 writtenOf list chunk mark = record { size = length (scanBody newest list chunk); moves = walkedMoves list chunk mark }
 
--- The list is read, the arrays are its automaton's, and the logs have room for the longest chunk and for its quarters.
+-- The tally of a chunk in which no keyword occurs.
+abbrev pub nothing : Tally
+nothing = record { counts = replicate 16 0; firsts = replicate 16 0 }
+
+-- The list is read, the arrays are its automaton's, and the logs have room for a window and for its quarters.
 pub record Equipped (list : List ℕ) (words : Keywords) (table ends tails log run1 run2 run3 : List ℕ) : Type 0 where
   pub reads : Reads list words
   pub rows : Rows list table 33
   pub tabled : Tabled (foldedKeywords list) ends tails
-  pub room : 65535 ≤ length log
+  pub room : 65536 ≤ length log
   pub room1 : 16384 ≤ length run1
   pub room2 : 16384 ≤ length run2
   pub room3 : 16384 ≤ length run3

@@ -1,5 +1,5 @@
-// One chunk of the scan: it is walked over the automaton in four lanes and its body measured, or written. A chunk in which no keyword occurs
-// is walked once only: its mark has the walk's last node, and its log is empty.
+// One chunk of the scan: it is walked over the automaton, window by window, and its body measured, or written. A chunk that was measured and in
+// which no keyword occurs is not walked again: its mark has the walk's last node, and its log is empty.
 ghost use mathlib.Core.Path.{_≡_};
 ghost use mathlib.Core.Bool.{cond};
 ghost use Prim.Native.Nat.{_+_, _*_, _≤_, _<_};
@@ -8,7 +8,8 @@ ghost use lib.Dec.{eqb};
 ghost use Rattle.spec.specs.Bytes.{written};
 ghost use Rattle.spec.specs.Form.{newest};
 ghost use Rattle.spec.specs.Scan.{scanBody};
-ghost use Rattle.chunkwalk.specs.Marks.{measuredOf, writtenOf, Usable, Equipped};
+ghost use Rattle.records.specs.Bodies.{Tells};
+ghost use Rattle.chunkwalk.specs.Marks.{measuredOf, writtenOf, nothing, Usable, Equipped};
 
 // What measuring a chunk gives: the length of its body, the moves of its walk, and its mark.
 pub struct Measured {
@@ -47,15 +48,110 @@ pub fn measure(
     run2: &mut [u32],
     run3: &mut [u32],
 ) -> Measured
-    requires { ⌜ Equipped (now list) words (now table) (now ends) (now tails) (now log) (now run1) (now run2) (now run3) × (length (now chunk) ≤ 65535) ⌝ }
+    requires { ⌜ Equipped (now list) words (now table) (now ends) (now tails) (now log) (now run1) (now run2) (now run3)
+        × (length (now chunk) ≤ newest .longestChunk) ⌝ }
     ensures { λ r. ⌜ r ≡ measuredOf (now (list .entry)) (now (chunk .entry)) ⌝ }
 {
-    let w = automaton_lanes::walk_lanes(list, table, 0, chunk, 0, log, run1, run2, run3);
-    let size = records::body_size(list, words, chunk, &log[..w.logged], ends, tails, w.node);
+    let w = windows::count(list, words, chunk, table, ends, log, run1, run2, run3);
+    let size = records::body_size(list, words, chunk, tails, w.node, w.tally);
     Measured {
         size: size,
         moves: w.moves,
         mark: mark_of(w.node, w.logged),
+    }
+}
+
+// Writes the body of a chunk in which no keyword occurs at the buffer's start: its length. `node` is the last of its walk.
+fn put_unwalked(
+    out: &mut [u8],
+    list: &[u8],
+    words: keywords::Keywords,
+    chunk: &[u8],
+    tails: &[u8],
+    node: usize,
+) -> usize
+    requires { ⌜ Tells (now list) words (now chunk) (now tails) node nothing × (length (scanBody newest (now list) (now chunk)) ≤ length (now out)) ⌝ }
+    ensures { λ r. ⌜ (now (out .exit) ≡ written (now (out .entry)) (scanBody newest (now (list .entry)) (now (chunk .entry))))
+        × (r ≡ length (scanBody newest (now (list .entry)) (now (chunk .entry)))) ⌝ }
+{
+    let none = records::Tally {
+        counts: [0usize; 16],
+        firsts: [0usize; 16],
+    };
+    let started = records::put_starts(out, list, words, chunk, tails, node, none);
+    started.size
+}
+
+// Walks a chunk of one window and writes its body at the buffer's start: the lists are filled from the log that the walk left.
+fn put_short(
+    out: &mut [u8],
+    list: &[u8],
+    words: keywords::Keywords,
+    chunk: &[u8],
+    table: &[u32],
+    ends: &[u32],
+    tails: &[u8],
+    log: &mut [u32],
+    run1: &mut [u32],
+    run2: &mut [u32],
+    run3: &mut [u32],
+) -> Written
+    requires { ⌜ Equipped (now list) words (now table) (now ends) (now tails) (now log) (now run1) (now run2) (now run3)
+        × (length (now chunk) ≤ newest .longestChunk) × (length (now chunk) ≤ 65536)
+        × (length (scanBody newest (now list) (now chunk)) ≤ length (now out)) ⌝ }
+    ensures { λ r. ⌜ (now (out .exit) ≡ written (now (out .entry)) (scanBody newest (now (list .entry)) (now (chunk .entry))))
+        × (r ≡ writtenOf (now (list .entry)) (now (chunk .entry)) 1) ⌝ }
+{
+    let w = windows::count_window(list, words, 0, chunk, 0, table, ends, log, run1, run2, run3);
+    let tally = w.tally;
+    let started = records::put_starts(out, list, words, chunk, tails, w.node, tally);
+    let counts = tally.counts;
+    let mut cursors = started.cursors;
+    records::put_log(out, &mut cursors, words, &counts, ends, &log[..w.logged]);
+    Written {
+        size: started.size,
+        moves: w.moves,
+    }
+}
+
+// Walks a chunk of several windows, begins its body at the buffer's start, and walks it again to fill the lists.
+fn put_long(
+    out: &mut [u8],
+    list: &[u8],
+    words: keywords::Keywords,
+    chunk: &[u8],
+    table: &[u32],
+    ends: &[u32],
+    tails: &[u8],
+    log: &mut [u32],
+    run1: &mut [u32],
+    run2: &mut [u32],
+    run3: &mut [u32],
+) -> Written
+    requires { ⌜ Equipped (now list) words (now table) (now ends) (now tails) (now log) (now run1) (now run2) (now run3)
+        × (length (now chunk) ≤ newest .longestChunk) × (length (scanBody newest (now list) (now chunk)) ≤ length (now out)) ⌝ }
+    ensures { λ r. ⌜ (now (out .exit) ≡ written (now (out .entry)) (scanBody newest (now (list .entry)) (now (chunk .entry))))
+        × (r ≡ writtenOf (now (list .entry)) (now (chunk .entry)) 1) ⌝ }
+{
+    let w = windows::count(list, words, chunk, table, ends, log, run1, run2, run3);
+    let started = records::put_starts(out, list, words, chunk, tails, w.node, w.tally);
+    windows::fill(
+        out,
+        list,
+        words,
+        chunk,
+        table,
+        ends,
+        log,
+        run1,
+        run2,
+        run3,
+        w.tally,
+        started,
+    );
+    Written {
+        size: started.size,
+        moves: w.moves,
     }
 }
 
@@ -75,32 +171,46 @@ pub fn put(
     run3: &mut [u32],
     mark: u32,
 ) -> Written
-    requires { ⌜ Equipped (now list) words (now table) (now ends) (now tails) (now log) (now run1) (now run2) (now run3) × (length (now chunk) ≤ 65535)
-        × Usable (now list) (now chunk) mark × (length (scanBody newest (now list) (now chunk)) ≤ length (now out)) ⌝ }
+    requires { ⌜ Equipped (now list) words (now table) (now ends) (now tails) (now log) (now run1) (now run2) (now run3)
+        × (length (now chunk) ≤ newest .longestChunk) × Usable (now list) (now chunk) mark
+        × (length (scanBody newest (now list) (now chunk)) ≤ length (now out)) ⌝ }
     ensures { λ r. ⌜ (now (out .exit) ≡ written (now (out .entry)) (scanBody newest (now (list .entry)) (now (chunk .entry))))
         × (r ≡ writtenOf (now (list .entry)) (now (chunk .entry)) mark) ⌝ }
 {
     if mark % 2 == 0 {
         let node = (mark / 2) as usize;
-        let none = records::put_body(out, list, words, chunk, &log[..0], ends, tails, node);
+        let size = put_unwalked(out, list, words, chunk, tails, node);
         return Written {
-            size: none,
+            size: size,
             moves: 0,
         };
     }
-    let w = automaton_lanes::walk_lanes(list, table, 0, chunk, 0, log, run1, run2, run3);
-    let size = records::put_body(
+    if chunk.len() <= windows::WINDOW {
+        return put_short(
+            out,
+            list,
+            words,
+            chunk,
+            table,
+            ends,
+            tails,
+            log,
+            run1,
+            run2,
+            run3,
+        );
+    }
+    put_long(
         out,
         list,
         words,
         chunk,
-        &log[..w.logged],
+        table,
         ends,
         tails,
-        w.node,
-    );
-    Written {
-        size: size,
-        moves: w.moves,
-    }
+        log,
+        run1,
+        run2,
+        run3,
+    )
 }

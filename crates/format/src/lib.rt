@@ -13,11 +13,15 @@ fn first() -> spec::Format
     }
 }
 
-// The format that a scan writes.
+// The format that a scan writes, request #105's: mark 44 4D 32 0A, fields of 3 bytes, chunks of at most 1,048,576 bytes.
 fn latest() -> spec::Format
     ensures { λ r. ⌜ r ≡ formatOf newest ⌝ }
 {
-    first()
+    spec::Format {
+        number: 2,
+        width: 3,
+        longest: 1048576,
+    }
 }
 
 // The format that the index's mark names. With a mark that names none it is the newest, by which the index check then refuses.

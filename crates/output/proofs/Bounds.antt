@@ -51,17 +51,17 @@ occurrences-length (o ∷ os) h =
 
 -- ---- a refusal
 
--- every number of a list is at most 18
-most : (x : ℕ) (numbers : List ℕ) → every (λ y. leb y 18) numbers ≡ true → member x numbers ≡ true → x ≤ 18
+-- every number of a list is at most 99
+most : (x : ℕ) (numbers : List ℕ) → every (λ y. leb y 99) numbers ≡ true → member x numbers ≡ true → x ≤ 99
 most x [] e m = absurd (false≢true m)
-most x (y ∷ ys) e m = go (bool-cases (eqb x y)) (λ q. most x ys (and-right (leb y 18) (every (λ z. leb z 18) ys) e) q)
+most x (y ∷ ys) e m = go (bool-cases (eqb x y)) (λ q. most x ys (and-right (leb y 99) (every (λ z. leb z 99) ys) e) q)
   where
-    go : (eqb x y ≡ true) ⊎ (eqb x y ≡ false) → (member x ys ≡ true → x ≤ 18) → x ≤ 18
-    go (inl t) ih = omega (arith, eqb-true x y t, leb-true y 18 (and-left (leb y 18) (every (λ z. leb z 18) ys) e))
+    go : (eqb x y ≡ true) ⊎ (eqb x y ≡ false) → (member x ys ≡ true → x ≤ 99) → x ≤ 99
+    go (inl t) ih = omega (arith, eqb-true x y t, leb-true y 99 (and-left (leb y 99) (every (λ z. leb z 99) ys) e))
     go (inr f) ih = ih (sym (ap (λ (b : Bool). b || member x ys) f) ∙ m)
 
--- a search answers no number above 18
-search-le : (words store recipes : List ℕ) (indexRoom room : ℕ) → searchCode newest words store recipes indexRoom room ≤ 18
+-- a search answers no number of more than two digits
+search-le : (words store recipes : List ℕ) (indexRoom room : ℕ) → searchCode newest words store recipes indexRoom room ≤ 99
 search-le words store recipes indexRoom room =
     most (searchCode newest words store recipes indexRoom room) ofSearch refl (numbers .search words store recipes indexRoom room)
 
@@ -74,7 +74,7 @@ list-length os h m =
     let n = length-append (decimal (length os) ++ (0x0A ∷ [])) (occurrencesText os) in
     omega (arith, a, m, n, ended (decimal (length os)) 0x0A, occurrences-length os h)
 
-refused-length : (code : ℕ) → code ≤ 18 → length (refusedText code) ≤ longestText
+refused-length : (code : ℕ) → code ≤ 99 → length (refusedText code) ≤ longestText
 unfolding refusedText
 refused-length code l =
     let a : length (decimal code) ≤ 2 = decimal-length 1 code (omega (arith, l)) in

@@ -1,146 +1,207 @@
--- A body begun: the records of the keywords below k stand without their lists of offsets, and with the lists and what is left it is as promised.
--- Assumes nothing.
+-- A body begun: the records of the keywords below k stand without their lists of offsets; with the lists of all, each at its place, it is the body.
+-- By induction on k: what is left of the body is written behind them. Assumes nothing.
 use mathlib.Core.Path.{_≡_, refl, sym, ap, ap₂, _∙_}
-use mathlib.Core.Logic.{_≢_, _⊎_, inl, inr, ⊎-elim}
-use mathlib.Core.List.{List, [], _∷_, _++_}
-use Prim.Native.Nat.{ℕ, zero, suc, _+_, _*_, _-_, _≤_, _<_}
-use native.Mathlib.Nat.{zero-add, le-refl}
+use mathlib.Core.Logic.{⊎-elim}
+use mathlib.Core.List.{List, _++_}
+use Prim.Native.Nat.{ℕ, zero, suc, _+_, _-_, _≤_, _<_}
+use native.Mathlib.Nat.{zero-add}
 use native.Mathlib.Numerals.{add-one}
 use native.Mathlib.Omega.{arith}
-use borrow.Rule.Slice.PartMut.{midOf, putMid, same-len-mid}
-use lib.ListN.{length, getD, set, replicate, length-replicate, length-set, length-append, length-take, length-drop}
-use lib.Seq.{getD-set-same, getD-set-other}
+use borrow.Rule.Slice.PartMut.{midOf, putMid}
+use borrow.Author.Tests.{lt-ltb, le-ltb}
+use lib.ListN.{length, set, replicate, length-replicate, length-set, length-append, length-take, length-drop}
+use lib.Seq.{getD-set-same, getD-set-other, ext-getD}
 use Rattle.spec.specs.Bytes.{splice, written}
 use Rattle.spec.specs.Form.{newest}
+use Rattle.spec.specs.Keywords.{foldedKeywords}
 use Rattle.spec.specs.Scan.{scanBody}
 use Rattle.spec.proofs.Tests.{le-or-lt}
 use Rattle.spec.proofs.Splices.{splice-nil, splice-splice, splice-tail, length-splice}
+use Rattle.spec.proofs.Tabulated.{tabulated, length-tabulated, tabulated-at}
 use Rattle.keywords.specs.declared.Keywords.{Keywords}
 use Rattle.keywords.specs.Parsed.{Reads}
-use Rattle.records.specs.Bodies.{foundAt, listOf, Begun}
-use Rattle.records.specs.Patches.{patched, Apart}
+use Rattle.records.specs.Bodies.{startOf, listOf, placeOf, listPlace, startedOf}
+use Rattle.records.specs.Patches.{patched}
 use Rattle.records.specs.Runs.{cursor}
-use Rattle.records.proofs.BodyLaws.{bodyRest, startOf, rest-start, rest-step, rest-lengths, rest-none, keywords-count}
-use Rattle.records.proofs.Patching.{patched-same, patched-length, patched-behind}
+use Rattle.records.specs.declared.Started.{Started}
+use Rattle.records.proofs.BodyLaws.{bodyRest, rest-start, rest-step, rest-lengths, rest-none, keywords-count, keywords-few}
+use Rattle.records.proofs.Patching.{patched-length, patched-behind}
 use Rattle.records.proofs.Tallying.{zeros}
 
 pub part-room : (out : List ℕ) (at n : ℕ) → at + n ≤ length out → n ≤ length (midOf at (length out - at) out)
 part-room out at n h = simp (length-take, length-drop) (omega arith)
 
-module _ (list chunk : List ℕ) where
-  pub record Begins (k : ℕ) (before out cursors : List ℕ) (size : ℕ) : Type 0 where
-    pub room : length out ≡ length before
-    pub placed : length cursors ≡ 16
-    pub sized : size + length (bodyRest list chunk k) ≡ length (scanBody newest list chunk)
-    pub apart : Apart k (cursor cursors) (listOf list chunk) size
-    pub none : (j : ℕ) → k ≤ j → cursor cursors j ≡ 0
-    pub kept : splice (patched k (cursor cursors) (listOf list chunk) out) size (bodyRest list chunk k) ≡ written before (scanBody newest list chunk)
+-- three runs, one behind the other
+three : (l : List ℕ) (at : ℕ) (u v w : List ℕ) → at + length u + length v ≤ length l
+    → splice (splice (splice l at u) (at + length u) v) (at + length u + length v) w ≡ splice l at (u ++ v ++ w)
+three l at u v w h =
+    let e : length (splice l at u) ≡ length l = length-splice l at u (omega arith) in
+    let n : at + length u + length v ≡ at + length (u ++ v) = omega (arith, length-append u v) in
+    ap (λ (x : List ℕ). splice x (at + length u + length v) w) (splice-splice l at u v (omega arith))
+    ∙ ap (λ (x : ℕ). splice (splice l at (u ++ v)) x w) n
+    ∙ splice-splice l at (u ++ v) w (omega arith)
 
-  pub begins-start : (before : List ℕ) → Begins 0 before before (replicate 16 0) 0
-  unfolding patched
-  begins-start before = record {
-    room = refl;
+module _ (list chunk : List ℕ) where
+  -- the cursors of the keywords below k are set
+  pub record Cursors (k : ℕ) (cursors : List ℕ) : Type 0 where
+    pub placed : length cursors ≡ 16
+    pub set-below : (j : ℕ) → j < k → cursor cursors j ≡ listPlace list chunk j
+    pub none : (j : ℕ) → k ≤ j → cursor cursors j ≡ 0
+
+  pub cursors-start : Cursors 0 (replicate 16 0)
+  cursors-start = record {
     placed = length-replicate {A = ℕ} 16 0;
-    sized = zero-add _ ∙ ap length (rest-start list chunk);
-    apart = record {
-      order = λ j k i o. let z : ⊥ = omega arith in absurd z;
-      room = λ k i. let z : ⊥ = omega arith in absurd z;
-    };
+    set-below = λ j h. let z : ⊥ = omega arith in absurd z;
     none = λ j h. zeros 16 j;
-    kept = ap (splice before 0) (rest-start list chunk);
   }
 
-  -- three runs, one behind the other
-  three : (l : List ℕ) (at : ℕ) (u v w : List ℕ) → at + length u + length v ≤ length l
-      → splice (splice (splice l at u) (at + length u) v) (at + length u + length v) w ≡ splice l at (u ++ v ++ w)
-  three l at u v w h =
-      let e : length (splice l at u) ≡ length l = length-splice l at u (omega arith) in
-      let n : at + length u + length v ≡ at + length (u ++ v) = omega (arith, length-append u v) in
-      ap (λ (x : List ℕ). splice x (at + length u + length v) w) (splice-splice l at u v (omega arith))
-      ∙ ap (λ (x : ℕ). splice (splice l at (u ++ v)) x w) n
-      ∙ splice-splice l at (u ++ v) w (omega arith)
+module _ (list : List ℕ) (words : Keywords) (r : Reads list words) (chunk : List ℕ) where
+  abbrev place : ℕ → ℕ
+  place = placeOf list chunk
 
-  module _ (words : Keywords) (r : Reads list words) (k : ℕ) (h : k < words .count) (before out cursors : List ℕ) (size : ℕ)
-      (b : Begins k before out cursors size) (fits : length (scanBody newest list chunk) ≤ length before) where
-    abbrev v : List ℕ
-    v = startOf list chunk k
+  abbrev start : ℕ → List ℕ
+  start = startOf list chunk
 
-    abbrev w : List ℕ
-    w = listOf list chunk k
+  abbrev lists : ℕ → List ℕ
+  lists = listOf list chunk
 
-    lengths : length (bodyRest list chunk k) ≡ length v + length w + length (bodyRest list chunk (k + 1))
-    lengths = rest-lengths list chunk k (omega (arith, keywords-count list words r))
+  -- where a list goes
+  abbrev behind : ℕ → ℕ
+  behind k = place k + length (start k)
 
-    -- room for the record
-    pub begins-room : size + length v + length w ≤ length out
-    begins-room = omega (arith, lengths, b .sized, b .room)
+  known : (k : ℕ) → k < words .count → k < length (foldedKeywords list)
+  known k h = omega (arith, keywords-count list words r)
 
-    pub begins-turn : (last : List ℕ) (end size′ : ℕ) → last ≡ splice (midOf size (length out - size) out) 0 v → length last ≡ length (midOf size
-        (length out - size) out)
-        → end ≡ size + length v → size′ ≡ end + length w → k < 16
-        → Begins (k + 1) before (putMid size (length out - size) out last) (set cursors k end) size′
+  pub place-start : place 0 ≡ 0
+  unfolding placeOf
+  place-start = refl
+
+  pub place-next : (k : ℕ) → place (k + 1) ≡ place k + length (start k) + length (lists k)
+  unfolding placeOf
+  place-next k = rw (add-one k)
+
+  -- what stands before a record and what is left are the body
+  pub place-left : (k : ℕ) → k ≤ words .count → place k + length (bodyRest list chunk k) ≡ length (scanBody newest list chunk)
+  unfolding placeOf
+  place-left zero h = zero-add _ ∙ ap length (rest-start list chunk)
+  place-left (suc k) h =
+      let e : bodyRest list chunk (k + 1) ≡ bodyRest list chunk (suc k) = ap (bodyRest list chunk) (add-one k) in
+      omega (arith, place-left k (omega arith), rest-lengths list chunk k (known k (omega arith)), ap length e)
+
+  -- a record ends inside the body
+  pub place-most : (k : ℕ) → k < words .count → place k + length (start k) + length (lists k) ≤ length (scanBody newest list chunk)
+  place-most k h = omega (arith, place-left (k + 1) (omega arith), place-next k)
+
+  pub place-all : place (words .count) ≡ length (scanBody newest list chunk)
+  place-all = omega (arith, place-left (words .count) (omega arith), ap length (rest-none list words r chunk (words .count) (omega arith)))
+
+  -- a record starts behind those before it
+  place-order : (n j : ℕ) → place (j + 1) ≤ place (j + 1 + n)
+  unfolding placeOf
+  place-order zero j = let e : j + 1 + 0 ≡ j + 1 = omega arith in rw e (omega arith)
+  place-order (suc n) j =
+      let e : j + 1 + suc n ≡ j + 1 + n + 1 = omega arith in
+      rw e (omega (arith, place-order n j, place-next (j + 1 + n)))
+
+  pub place-behind : (j k : ℕ) → j < k → place j + length (start j) + length (lists j) ≤ place k
+  place-behind j k h =
+      let e : j + 1 + (k - (j + 1)) ≡ k = omega arith in
+      omega (arith, place-next j, place-order (k - (j + 1)) j, ap place e)
+
+  -- ---- the starts, then the lists
+
+  module _ (before : List ℕ) (fits : length (scanBody newest list chunk) ≤ length before) where
+    -- the starts of the keywords below k
+    abbrev pub begun : ℕ → List ℕ
+    begun k = patched k place start before
+
+    pub begun-length : (k : ℕ) → k ≤ words .count → length (begun k) ≡ length before
+    begun-length k h = patched-length k place start before (λ j i. omega (arith, place-most j (omega arith)))
+
+    pub begun-start : before ≡ begun 0
     unfolding patched
-    begins-turn last end size′ e s p q few = record {
-      room = same-len-mid size (length out - size) out last s ∙ b .room;
-      placed = length-set cursors k end ∙ b .placed;
-      sized = omega (arith, lengths, b .sized, p, q);
-      apart = record { order = order; room = room };
-      none = λ j i. getD-set-other cursors k j end 0 (omega arith) ∙ b .none j (omega arith);
-      kept = rw (add-one k) (kept ∙ b .kept);
-    }
-      where
-        here : cursor (set cursors k end) k ≡ end
-        here = getD-set-same cursors k end 0 (omega (arith, b .placed))
+    begun-start = refl
 
-        same : (j : ℕ) → j < k → cursor (set cursors k end) j ≡ cursor cursors j
-        same j i = getD-set-other cursors k j end 0 (omega arith)
+    pub begun-turn : (k : ℕ) (out last : List ℕ) (size : ℕ) → k < words .count → out ≡ begun k → size ≡ place k
+        → last ≡ splice (midOf size (length out - size) out) 0 (start k) → putMid size (length out - size) out last ≡ begun (k + 1)
+    unfolding patched
+    begun-turn k out last size h e p w =
+        splice-tail size out last (start k) (omega (arith, ap length e, begun-length k (omega arith), place-most k h)) w
+        ∙ ap₂ {C = List ℕ} (λ x n. splice x n (start k)) e p ∙ rw (add-one k) refl
 
-        room : (j : ℕ) → j < k + 1 → cursor (set cursors k end) j + length (listOf list chunk j) ≤ size′
-        room j i = ⊎-elim
-            (λ (l : k ≤ j). let z : j ≡ k = omega arith in rw (z, here) (omega arith))
-            (λ (l : j < k). omega (arith, same j l, b .apart .room j l))
-            (le-or-lt k j)
+    filled-length : (k : ℕ) → k ≤ words .count → length (patched k behind lists (begun k)) ≡ length before
+    filled-length k h =
+        patched-length k behind lists (begun k) (λ j i. omega (arith, place-most j (omega arith), begun-length k h)) ∙ begun-length k h
 
-        order : (i j : ℕ) → i < j → j < k + 1 → cursor (set cursors k end) i + length (listOf list chunk i) ≤ cursor (set cursors k end) j
-        order i j l m = ⊎-elim
-            (λ (o : k ≤ j). let z : j ≡ k = omega arith in rw (z, here) (omega (arith, same i (omega arith), b .apart .room i (omega arith))))
-            (λ (o : j < k). omega (arith, same i (omega arith), same j o, b .apart .order i j l o))
-            (le-or-lt k j)
+    -- with the lists of the keywords below k and what is left behind them it is the body
+    filled-left : (k : ℕ) → k ≤ words .count
+        → splice (patched k behind lists (begun k)) (place k) (bodyRest list chunk k) ≡ written before (scanBody newest list chunk)
+    unfolding patched placeOf
+    filled-left zero h = ap (splice before 0) (rest-start list chunk)
+    filled-left (suc k) h =
+        let here : k < words .count = omega arith in
+        let w : length before ≡ length (begun k) = sym (begun-length k (omega arith)) in
+        let t : bodyRest list chunk k ≡ start k ++ lists k ++ bodyRest list chunk (suc k) = rw (← add-one k) (rest-step list chunk k (known k here)) in
+        ap (λ (x : List ℕ). splice (splice x (behind k) (lists k)) (behind k + length (lists k)) (bodyRest list chunk (suc k)))
+        (patched-behind k behind lists (begun k) (place k) (start k) (λ j i. place-behind j k i) (omega (arith, place-most k here)))
+        ∙ three (patched k behind lists (begun k)) (place k) (start k) (lists k) (bodyRest list chunk (suc k))
+        (omega (arith, filled-length k (omega arith), place-most k here))
+        ∙ ap (splice (patched k behind lists (begun k)) (place k)) (sym t)
+        ∙ filled-left k (omega arith)
 
-        long : length (patched k (cursor cursors) (listOf list chunk) out) ≡ length out
-        long = patched-length k (cursor cursors) (listOf list chunk) out (λ j i. omega (arith, b .apart .room j i, begins-room))
+    pub body-begun : patched (words .count) behind lists (begun (words .count)) ≡ written before (scanBody newest list chunk)
+    body-begun =
+        let n : ℕ = words .count in
+        sym (splice-nil (patched n behind lists (begun n)) (place n))
+        ∙ ap (splice (patched n behind lists (begun n)) (place n)) (sym (rest-none list words r chunk n (omega arith)))
+        ∙ filled-left n (omega arith)
 
-        below : patched k (cursor (set cursors k end)) (listOf list chunk) (putMid size (length out - size) out last)
-            ≡ splice (patched k (cursor cursors) (listOf list chunk) out) size v
-        below =
-            ap (patched k (cursor (set cursors k end)) (listOf list chunk)) (splice-tail size out last v (omega (arith, begins-room)) e)
-            ∙ patched-same k (cursor (set cursors k end)) (cursor cursors) (listOf list chunk) (listOf list chunk) (splice out size v) same (λ j i. refl)
-            ∙ patched-behind k (cursor cursors) (listOf list chunk) out size v (λ j i. b .apart .room j i) (omega (arith, begins-room))
+  -- ---- the cursors
 
-        kept : splice (splice (patched k (cursor (set cursors k end)) (listOf list chunk) (putMid size (length out - size) out last))
-            (cursor (set cursors k end) k) w)
-            size′ (bodyRest list chunk (suc k))
-            ≡ splice (patched k (cursor cursors) (listOf list chunk) out) size (bodyRest list chunk k)
-        kept =
-            let t : bodyRest list chunk k ≡ v ++ w ++ bodyRest list chunk (suc k) = rw (← add-one k) (rest-step list chunk k
-            (omega (arith, keywords-count list words r))) in
-            rw (below, here, q, p, t) (three (patched k (cursor cursors) (listOf list chunk) out) size v w (bodyRest list chunk (suc k))
-            (omega (arith, long, begins-room)))
+  pub list-place : (k : ℕ) → k < words .count → listPlace list chunk k ≡ place k + length (start k)
+  unfolding listPlace
+  list-place k h = rw (lt-ltb k (length (foldedKeywords list)) (known k h))
 
-  pub begins-end : (words : Keywords) → Reads list words → (k : ℕ) (before out cursors : List ℕ) (size : ℕ) → k ≤ words .count → words .count ≤ k
-      → length (scanBody newest list chunk) ≤ length before → Begins k before out cursors size
-      → Begun list words chunk before out (record { size = size; cursors = cursors })
-  begins-end words r k before out cursors size l m fits b =
-      let z : words .count ≡ k = omega arith in
-      let e : bodyRest list chunk k ≡ [] = rest-none list words r chunk k m in
-      record {
-        size = omega (arith, b .sized, ap length e);
-        placed = b .placed;
-        apart = record {
-          order = λ i j x y. b .apart .order i j x (omega arith);
-          room = λ j y. omega (arith, b .apart .room j (omega arith), b .sized, fits);
-        };
-        none = λ j x. b .none j (omega arith);
-        bytes = rw z (sym (splice-nil (patched k (cursor cursors) (listOf list chunk) out) size)
-            ∙ ap (splice (patched k (cursor cursors) (listOf list chunk) out) size) (sym e) ∙ b .kept);
-      }
+  pub no-list-place : (k : ℕ) → words .count ≤ k → listPlace list chunk k ≡ 0
+  unfolding listPlace
+  no-list-place k h = rw (le-ltb k (length (foldedKeywords list)) (omega (arith, keywords-count list words r)))
+
+  pub cursors-turn : (k : ℕ) (cursors : List ℕ) (end : ℕ) → k < words .count → end ≡ place k + length (start k) → Cursors list chunk k cursors
+      → Cursors list chunk (k + 1) (set cursors k end)
+  cursors-turn k cursors end h e c = record {
+    placed = length-set cursors k end ∙ c .placed;
+    set-below = λ j i. ⊎-elim
+        (λ (l : k ≤ j). let z : j ≡ k = omega arith in
+        rw (z, getD-set-same cursors k end 0 (omega (arith, c .placed, keywords-few list words r))) (e ∙ sym (list-place k h)))
+        (λ (l : j < k). getD-set-other cursors k j end 0 (omega arith) ∙ c .set-below j l)
+        (le-or-lt k j);
+    none = λ j i. getD-set-other cursors k j end 0 (omega arith) ∙ c .none j (omega arith);
+  }
+
+  -- where each list goes, once all are set
+  pub started-is : (k size : ℕ) (cursors : List ℕ) → k ≤ words .count → words .count ≤ k → size ≡ place k → Cursors list chunk k cursors
+      → record { size = size; cursors = cursors } ≡ startedOf list chunk
+  unfolding startedOf
+  started-is k size cursors l m e c =
+      let z : k ≡ words .count = omega arith in
+      let s : size ≡ length (scanBody newest list chunk) = e ∙ ap place z ∙ place-all in
+      let f : ℕ → ℕ = listPlace list chunk in
+      let at : (j : ℕ) → cursor cursors j ≡ listPlace list chunk j = λ j. ⊎-elim
+      (λ (h : k ≤ j). c .none j h ∙ sym (no-list-place j (omega arith))) (λ (h : j < k). c .set-below j h) (le-or-lt k j) in
+      let same : cursors ≡ tabulated f 0 16 = ext-getD 0 cursors (tabulated f 0 16) (c .placed ∙ sym (length-tabulated f 0 16))
+      (λ j h. at j ∙ sym (tabulated-at f 0 16 j 0 (omega (arith, c .placed)) ∙ ap f (zero-add j))) in
+      λ i. record { size = s i; cursors = same i }
+
+-- what is known of a body begun, number by number
+module _ (list chunk : List ℕ) (s : Started) (e : s ≡ startedOf list chunk) where
+  pub started-size : s .size ≡ length (scanBody newest list chunk)
+  unfolding startedOf
+  started-size = ap (λ (x : Started). x .size) e
+
+  pub started-length : length (s .cursors) ≡ 16
+  unfolding startedOf
+  started-length = ap (λ (x : Started). length (x .cursors)) e ∙ length-tabulated (listPlace list chunk) 0 16
+
+  pub started-at : (k : ℕ) → k < 16 → cursor (s .cursors) k ≡ listPlace list chunk k
+  unfolding startedOf
+  started-at k h = ap (λ (x : Started). cursor (x .cursors) k) e ∙ tabulated-at (listPlace list chunk) 0 16 k 0 h ∙ ap (listPlace list chunk) (zero-add k)

@@ -1,25 +1,25 @@
 -- Laws of bodies: a record is what stands before its list and the list; what is left of a body from keyword k on; how long it can be. Assumes nothing.
-use mathlib.Core.Path.{_≡_, refl, sym, ap, ap₂, _∙_}
-use mathlib.Core.Logic.{_≢_, _⊎_, inl, inr, ⊎-elim}
+use mathlib.Core.Path.{_≡_, refl, sym, ap, _∙_}
+use mathlib.Core.Logic.{⊎-elim}
 use mathlib.Core.Bool.{Bool, true, false, cond, not, _&&_}
 use mathlib.Core.List.{List, [], _∷_, _++_, map, append-assoc, append-nil}
 use Prim.Native.Nat.{ℕ, zero, suc, _+_, _*_, _-_, _≤_, _<_}
-use native.Mathlib.Nat.{add-sub-cancel-left, add-assoc, suc-mul, mul-le-mul-right}
+use native.Mathlib.Nat.{add-sub-cancel-left, suc-mul, mul-le-mul-right}
 use native.Mathlib.Numerals.{add-one}
 use native.Mathlib.Omega.{arith}
 use lib.ListN.{length, take, drop, getD, length-append, length-take, length-drop, drop-of-length-le}
 use lib.Seq.{drop-cons}
 use lib.Dec.{eqb, leb}
-use Rattle.spec.specs.Bytes.{splice, leBytes, fieldsBytes}
+use Rattle.spec.specs.Bytes.{leBytes}
 use Rattle.spec.specs.Join.{keywordAt}
-use Rattle.spec.specs.Keywords.{folded, foldedKeywords, keywordsOf, flagOf, countOf, keywordFrontCode}
+use Rattle.spec.specs.Keywords.{folded, foldedKeywords, keywordsOf, flagOf, keywordFrontCode}
 use Rattle.spec.specs.Form.{Form, newest}
 use Rattle.spec.specs.Records.{MatchRecord, recordOf, recordsOf, isEmpty, isTiny, headBytes, fullBytes, offsetsBytes, recordBytes, bodyFrom, reach}
 use Rattle.spec.specs.Scan.{scanRecords, scanBody}
-use Rattle.spec.proofs.Tests.{bool-cases, le-or-lt, leb-true, leb-false, and-left, and-right}
+use Rattle.spec.proofs.Tests.{le-or-lt, leb-true, leb-false, and-left, and-right}
 use Rattle.spec.proofs.Folding.{folded-length}
 use Rattle.spec.proofs.FieldLists.{length-fieldsBytes}
-use Rattle.spec.proofs.RecordLaws.{eq-of, no-offsets, written-empty, written-tiny, written-full, prefix-in, suffix-in, offsets-rise, offsets-in, offsets-count}
+use Rattle.spec.proofs.RecordLaws.{eq-of, prefix-in, suffix-in, offsets-rise, offsets-in, offsets-count}
 use Rattle.spec.proofs.RecordRanges.{record-in-range}
 use Rattle.spec.proofs.KeywordLaws.{accepted, folded-count, folded-keyword}
 use Rattle.keywords.specs.declared.Keywords.{Keywords}
@@ -27,8 +27,8 @@ use Rattle.keywords.specs.Parsed.{parsedOf, Reads, Placed, Parsed}
 use Rattle.keywords.proofs.Reading.{parsed}
 use Rattle.records.specs.declared.Summary.{Summary}
 use Rattle.records.specs.Summaries.{summaryOf, emptyIn, tinyIn, tinyPart, headPart, startBytes, listBytes, listed}
-use Rattle.records.specs.Bodies.{foundAt, listOf}
-use Rattle.records.proofs.Starts.{start-most, any-length}
+use Rattle.records.specs.Bodies.{foundAt, startOf, listOf}
+use Rattle.records.proofs.Starts.{startMost, start-most, any-length}
 
 -- ---- a record in two parts
 
@@ -92,10 +92,6 @@ module _ (list chunk : List ℕ) where
       bodyFrom newest k (map length (drop k (foldedKeywords list)))
       (map (λ keyword. recordOf keyword (folded (flagOf list) chunk)) (drop k (foldedKeywords list)))
 
-  -- keyword k's record before its list
-  abbrev pub startOf : ℕ → List ℕ
-  startOf k = startBytes newest (length (keywordAt (foldedKeywords list) k)) k (summaryOf (foundAt list chunk k))
-
   pub rest-start : bodyRest 0 ≡ scanBody newest list chunk
   unfolding scanBody scanRecords recordsOf
   rest-start = refl
@@ -105,17 +101,17 @@ module _ (list chunk : List ℕ) where
   unfolding bodyFrom foundAt
   rest-record k h = rw (add-one, drop-cons (foldedKeywords list) k [] h)
 
-  pub rest-step : (k : ℕ) → k < length (foldedKeywords list) → bodyRest k ≡ startOf k ++ listOf list chunk k ++ bodyRest (k + 1)
+  pub rest-step : (k : ℕ) → k < length (foldedKeywords list) → bodyRest k ≡ startOf list chunk k ++ listOf list chunk k ++ bodyRest (k + 1)
   rest-step k h =
       rest-record k h
       ∙ ap (λ (x : List ℕ). x ++ bodyRest (k + 1)) (record-split newest (length (keywordAt (foldedKeywords list) k)) k (foundAt list chunk k))
 
   pub rest-lengths : (k : ℕ) → k < length (foldedKeywords list)
-      → length (bodyRest k) ≡ length (startOf k) + length (listOf list chunk k) + length (bodyRest (k + 1))
+      → length (bodyRest k) ≡ length (startOf list chunk k) + length (listOf list chunk k) + length (bodyRest (k + 1))
   rest-lengths k h =
       ap length (rest-step k h)
-      ∙ length-append (startOf k ++ listOf list chunk k) (bodyRest (k + 1))
-      ∙ ap (λ (n : ℕ). n + length (bodyRest (k + 1))) (length-append (startOf k) (listOf list chunk k))
+      ∙ length-append (startOf list chunk k ++ listOf list chunk k) (bodyRest (k + 1))
+      ∙ ap (λ (n : ℕ). n + length (bodyRest (k + 1))) (length-append (startOf list chunk k) (listOf list chunk k))
 
   pub rest-end : (k : ℕ) → length (foldedKeywords list) ≤ k → bodyRest k ≡ []
   unfolding bodyFrom
@@ -205,13 +201,17 @@ module _ (list : List ℕ) (words : Keywords) (r : Reads list words) where
           let c : List ℕ = folded (flagOf list) chunk in
           omega (arith, length-most, suffix-in (length w) (length c) (recordOf w c) (record-in-range w c))
 
-      pub list-is : length (listOf list chunk k) ≡ 2 * listed (length (foundAt list chunk k .offsets))
+      pub list-is : length (listOf list chunk k) ≡ newest .width * listed (length (foundAt list chunk k .offsets))
       list-is = list-length newest (foundAt list chunk k .offsets)
 
-      pub list-most : length (listOf list chunk k) ≤ 2 * length chunk
+      pub list-most : length (listOf list chunk k) ≤ newest .width * length chunk
       list-most = omega (arith, list-is, listed-most (length (foundAt list chunk k .offsets)), found-count)
 
 -- ---- one record measured
+
+-- the most bytes of a record: what stands before its list, and an offset for each byte of the longest chunk
+abbrev pub recordMost : ℕ
+recordMost = startMost + newest .width * newest .longestChunk
 
 module _ (list : List ℕ) (words : Keywords) (r : Reads list words) (chunk : List ℕ) (k : ℕ) (h : k < words .count)
     (s : Summary) (e : s ≡ summaryOf (foundAt list chunk k)) where
@@ -222,11 +222,11 @@ module _ (list : List ℕ) (words : Keywords) (r : Reads list words) (chunk : Li
   pub start-is : (n : ℕ) → startBytes newest n k s ≡ startOf list chunk k
   start-is n = ap (startBytes newest n k) e ∙ any-length (length (keywordAt (foldedKeywords list) k)) k (summaryOf (foundAt list chunk k)) n
 
-  pub lists-is : (b : ℕ) → b ≡ listed (s .count) → 2 * b ≡ length (listOf list chunk k)
-  lists-is b p = ap (λ (x : ℕ). 2 * x) (p ∙ ap listed counts-is) ∙ sym (list-is list words r k h chunk)
+  pub lists-is : (b : ℕ) → b ≡ listed (s .count) → newest .width * b ≡ length (listOf list chunk k)
+  lists-is b p = ap (λ (x : ℕ). newest .width * x) (p ∙ ap listed counts-is) ∙ sym (list-is list words r k h chunk)
 
   pub record-step : (a b : ℕ) → ((n j : ℕ) → a ≡ length (startBytes newest n j s)) → b ≡ listed (s .count)
-      → length (bodyRest list chunk k) ≡ a + 2 * b + length (bodyRest list chunk (k + 1))
+      → length (bodyRest list chunk k) ≡ a + newest .width * b + length (bodyRest list chunk (k + 1))
   record-step a b p q =
       omega (
         arith,
@@ -236,17 +236,17 @@ module _ (list : List ℕ) (words : Keywords) (r : Reads list words) (chunk : Li
         lists-is b q,
       )
 
-  pub record-most : (a b : ℕ) → length chunk ≤ 65535 → ((n j : ℕ) → a ≡ length (startBytes newest n j s)) → b ≡ listed (s .count) → a + 2 * b ≤ 131079
+  pub record-most : (a b : ℕ) → length chunk ≤ newest .longestChunk → ((n j : ℕ) → a ≡ length (startBytes newest n j s)) → b ≡ listed (s .count) → a + newest .width * b ≤ recordMost
   record-most a b l p q = omega (arith, p 0 k, start-most 0 k s, lists-is b q, list-most list words r k h chunk)
 
 -- behind the last keyword nothing is left
 pub rest-none : (list : List ℕ) (words : Keywords) → Reads list words → (chunk : List ℕ) (k : ℕ) → words .count ≤ k → bodyRest list chunk k ≡ []
 rest-none list words r chunk k h = rest-end list chunk k (omega (arith, keywords-count list words r))
 
--- ---- a record has at most 9 bytes and 2 for each byte of its chunk
+-- ---- a record has at most so many bytes before its list, and an offset for each byte of its chunk
 
 rest-most : (list : List ℕ) (words : Keywords) → Reads list words → (chunk : List ℕ) → (n k : ℕ) → n + k ≡ words .count
-    → length (bodyRest list chunk k) ≤ n * (9 + 2 * length chunk)
+    → length (bodyRest list chunk k) ≤ n * (startMost + newest .width * length chunk)
 rest-most list words r chunk zero k e = omega (arith, ap length (rest-none list words r chunk k (omega arith)))
 rest-most list words r chunk (suc n) k e =
     let h : k < words .count = omega arith in
@@ -256,19 +256,19 @@ rest-most list words r chunk (suc n) k e =
       start-most (length (keywordAt (foldedKeywords list) k)) k (summaryOf (foundAt list chunk k)),
       list-most list words r k h chunk,
       rest-most list words r chunk n (k + 1) (omega arith),
-      suc-mul n (9 + 2 * length chunk),
+      suc-mul n (startMost + newest .width * length chunk),
     )
 
 -- so a body has at most as much for each keyword
 pub body-most : (list : List ℕ) (words : Keywords) → Reads list words → (chunk : List ℕ)
-    → length (scanBody newest list chunk) ≤ words .count * (9 + 2 * length chunk)
+    → length (scanBody newest list chunk) ≤ words .count * (startMost + newest .width * length chunk)
 body-most list words r chunk =
     omega (arith, ap length (rest-start list chunk), rest-most list words r chunk (words .count) 0 (omega arith))
 
 -- which is little
-pub body-few : (list chunk : List ℕ) → keywordFrontCode list ≡ 0 → length chunk ≤ 65535 → length (scanBody newest list chunk) ≤ 2097264
+pub body-few : (list chunk : List ℕ) → keywordFrontCode list ≡ 0 → length chunk ≤ newest .longestChunk → length (scanBody newest list chunk) ≤ 16 * recordMost
 body-few list chunk a h =
     let r : Reads list (parsedOf list) = record { accepted = a; parsed = refl } in
-    let few : parsedOf list .count * (9 + 2 * length chunk) ≤ 16 * (9 + 2 * length chunk) =
-    mul-le-mul-right (9 + 2 * length chunk) (keywords-few list (parsedOf list) r) in
+    let few : parsedOf list .count * (startMost + newest .width * length chunk) ≤ 16 * (startMost + newest .width * length chunk) =
+    mul-le-mul-right (startMost + newest .width * length chunk) (keywords-few list (parsedOf list) r) in
     omega (arith, body-most list (parsedOf list) r chunk, few)

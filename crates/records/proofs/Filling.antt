@@ -1,10 +1,10 @@
 -- Laws of filling runs from a log: a member's offset, an entry, the log. Assumes nothing.
-use mathlib.Core.Path.{_≡_, refl, sym, ap, ap₂, _∙_}
-use mathlib.Core.Logic.{_≢_, _⊎_, inl, inr, ⊎-elim}
-use mathlib.Core.Bool.{Bool, true, false, cond, _&&_, and-false}
-use mathlib.Core.List.{List, [], _∷_, _++_, append-assoc, append-nil}
-use Prim.Native.Nat.{ℕ, zero, suc, _+_, _-_, _*_, _/_, _^_, _≤_, _<_}
-use native.Mathlib.Nat.{add-zero, add-assoc}
+use mathlib.Core.Path.{_≡_, refl, sym, ap, _∙_}
+use mathlib.Core.Logic.{_≢_, ⊎-elim}
+use mathlib.Core.Bool.{Bool, true, false, cond}
+use mathlib.Core.List.{List, [], _∷_, _++_, append-nil}
+use Prim.Native.Nat.{ℕ, zero, suc, _+_, _-_, _/_, _^_, _≤_, _<_}
+use native.Mathlib.Nat.{add-zero}
 use native.Mathlib.Numerals.{add-one}
 use native.Mathlib.Omega.{arith}
 use lib.ListN.{length, drop, getD, set, length-append, drop-of-length-le}
@@ -12,15 +12,17 @@ use lib.Seq.{drop-cons, getD-set-same, getD-set-other}
 use lib.Dec.{leb, ltb}
 use borrow.Author.Tests.{lt-ltb, le-ltb}
 use Rattle.spec.specs.Bytes.{splice, leBytes, fieldsBytes, keep}
-use Rattle.spec.specs.Form.{Form, newest}
+use Rattle.spec.specs.Form.{newest}
 use Rattle.spec.proofs.Tests.{le-or-lt, leb-true, leb-false, bool-cases}
 use Rattle.spec.proofs.Fields.{length-leBytes}
 use Rattle.spec.proofs.Splices.{splice-splice, splice-nil}
 use Rattle.spec.proofs.RecordLaws.{no-offsets}
 use Rattle.records.specs.Log.{hasBit, setAt, placeIn, loggedOffsets}
 use Rattle.records.specs.Patches.{patched, Apart}
-use Rattle.records.specs.Runs.{pieceOf, entryRun, logRun, cursor, Filled}
-use Rattle.records.proofs.Bits.{Next, Changed, changed-start, changed-not, changed-turn, changed-end, no-member}
+use Rattle.keywords.specs.declared.Keywords.{Keywords}
+use Rattle.records.specs.Runs.{pieceOf, entryRun, logRun, cursor, movedBy, Filled, CanList}
+use Rattle.records.proofs.Bits.{Next, Changed, changed-not, no-member}
+use Rattle.records.proofs.Tallying.{sixteen}
 use Rattle.records.proofs.Patching.{patched-same, patched-none, patched-length, patched-behind, patched-turn}
 
 -- ---- runs in two parts
@@ -53,12 +55,12 @@ pub piece-none : (count offset : ℕ) → count ≤ 1 → pieceOf newest count o
 unfolding pieceOf
 piece-none count offset h = rw (leb-true count 1 h)
 
-pub piece-some : (count offset : ℕ) → 1 < count → pieceOf newest count offset ≡ leBytes 2 offset
+pub piece-some : (count offset : ℕ) → 1 < count → pieceOf newest count offset ≡ leBytes (newest .width) offset
 unfolding pieceOf
 piece-some count offset h = rw (leb-false count 1 h)
 
-pub piece-length : (count offset : ℕ) → 1 < count → length (pieceOf newest count offset) ≡ 2
-piece-length count offset h = ap length (piece-some count offset h) ∙ length-leBytes 2 offset
+pub piece-length : (count offset : ℕ) → 1 < count → length (pieceOf newest count offset) ≡ newest .width
+piece-length count offset h = ap length (piece-some count offset h) ∙ length-leBytes (newest .width) offset
 
 pub piece-put : (l : List ℕ) (at offset count : ℕ) → count ≤ 1 → (l ≡ splice l at (pieceOf newest count offset)) × (0 ≡ length (pieceOf newest count offset))
 piece-put l at offset count h = (rw (piece-none count offset h, splice-nil), rw (piece-none count offset h))
@@ -213,8 +215,8 @@ module _ (counts len ends : List ℕ) where
       offset = placeIn e + 1 - getD len k 0
 
       go : (few here : Bool)
-          → cond few [] (fieldsBytes 2 (keep here offset ++ loggedOffsets ends k (getD len k 0) log))
-          ≡ cond here (cond few [] (leBytes 2 offset)) [] ++ cond few [] (fieldsBytes 2 (loggedOffsets ends k (getD len k 0) log))
+          → cond few [] (fieldsBytes (newest .width) (keep here offset ++ loggedOffsets ends k (getD len k 0) log))
+          ≡ cond here (cond few [] (leBytes (newest .width) offset)) [] ++ cond few [] (fieldsBytes (newest .width) (loggedOffsets ends k (getD len k 0) log))
       go true true = refl
       go true false = refl
       go false true = refl
@@ -295,3 +297,15 @@ module _ (counts len ends : List ℕ) where
             ≡ patched n (cursor cursors) (lists (drop i log)) out
         split n a = patched-split n (cursor cursors) (cursor cursors′) (adds entry) (lists (drop (i + 1) log)) (lists (drop i log)) out
             (λ k m. here k) (λ k m. f .moved k) (rest n a)
+
+-- ---- the lists of a log, as they are asked and promised
+
+module _ (words : Keywords) (run : ℕ → List ℕ) (before cursors counts : List ℕ) (can : CanList words run before cursors counts) where
+  -- each has room
+  pub list-room : (k : ℕ) → cursor cursors k + length (run k) ≤ length before
+  list-room k = ⊎-elim (λ h. omega (arith, can .within k h, ap length (can .none k h))) (λ h. can .apart .room k h) (le-or-lt (words .count) k)
+
+  pub list-filled : (out cursors′ : List ℕ) → length cursors′ ≡ 16 → Filled run before cursors out cursors′
+      → (out ≡ patched (words .count) (cursor cursors) run before) × (cursors′ ≡ movedBy run cursors)
+  unfolding movedBy
+  list-filled out cursors′ n f = (f .bytes (words .count) (can .none) (can .apart), sixteen (λ k. cursor cursors k + length (run k)) cursors′ n (λ k h. f .moved k))

@@ -1,20 +1,19 @@
--- A log in parts, for lanes and for windows (request #105): parts are tallied and filled one after the other. Assumes nothing.
-use mathlib.Core.Path.{_≡_, refl, sym, ap, ap₂, _∙_}
-use mathlib.Core.Bool.{Bool, true, false, cond}
+-- A log in parts (request #105): the lists of offsets are filled one part after the other, each where the part before left the cursors. Assumes nothing.
+use mathlib.Core.Path.{_≡_, sym, ap, _∙_}
+use mathlib.Core.Logic.{⊎-elim}
 use mathlib.Core.List.{List, [], _∷_, _++_, append-assoc}
-use Prim.Native.Nat.{ℕ, zero, suc, _+_, _≤_, _<_}
+use Prim.Native.Nat.{ℕ, _+_, _≤_, _<_}
 use native.Mathlib.Omega.{arith}
-use lib.ListN.{length, getD, length-append}
-use lib.Dec.{eqb}
+use lib.ListN.{length, length-append, List·getD-eq-default}
 use Rattle.spec.specs.Form.{newest}
-use Rattle.spec.proofs.Tests.{eqb-ne}
+use Rattle.spec.proofs.Tests.{le-or-lt}
 use Rattle.spec.proofs.RecordLaws.{no-offsets}
-use Rattle.records.specs.declared.Tally.{Tally}
-use Rattle.records.specs.Log.{loggedOffsets}
-use Rattle.records.specs.Patches.{patched, Apart}
-use Rattle.records.specs.Runs.{logRun, cursor, Filled}
-use Rattle.records.specs.Tallies.{Tallied}
-use Rattle.records.proofs.LogLaws.{logged-append}
+use Rattle.spec.proofs.Tabulated.{length-tabulated}
+use Rattle.keywords.specs.declared.Keywords.{Keywords}
+use Rattle.records.specs.Patches.{patched}
+use Rattle.records.specs.Runs.{logRun, cursor, movedBy, CanList}
+use Rattle.records.proofs.Tallying.{sixteen, sixteenth}
+use Rattle.records.proofs.Patching.{patched-none, patched-length}
 use Rattle.records.proofs.Filling.{adds, lists-none, lists-more, patched-split}
 
 -- ---- lists of offsets
@@ -28,65 +27,78 @@ lists-append counts len ends (e ∷ x) y k =
     ∙ sym (append-assoc (adds counts len ends e k) (logRun newest counts len ends x k) (logRun newest counts len ends y k))
     ∙ ap (λ (r : List ℕ). r ++ logRun newest counts len ends y k) (sym (lists-more counts len ends e x k))
 
--- two fills one after the other are one
-module _ (f g : ℕ → List ℕ) (before c₀ mid c₁ after c₂ : List ℕ) (s : length mid ≡ length before) (p : Filled f before c₀ mid c₁)
-    (q : Filled g mid c₁ after c₂) where
-  abbrev both : ℕ → List ℕ
-  both k = f k ++ g k
+-- ---- cursors
 
-  both-length : (k : ℕ) → length (f k ++ g k) ≡ length (f k) + length (g k)
-  both-length k = length-append (f k) (g k)
+pub moved-length : (run : ℕ → List ℕ) (cursors : List ℕ) → length (movedBy run cursors) ≡ 16
+unfolding movedBy
+moved-length run cursors = length-tabulated (λ k. cursor cursors k + length (run k)) 0 16
 
-  apart-first : (n : ℕ) → Apart n (cursor c₀) both (length before) → Apart n (cursor c₀) f (length before)
-  apart-first n a = record {
-    order = λ j k i o. omega (arith, a .order j k i o, both-length j);
-    room = λ k i. omega (arith, a .room k i, both-length k);
+pub moved-at : (run : ℕ → List ℕ) (cursors : List ℕ) (k : ℕ) → k < 16 → cursor (movedBy run cursors) k ≡ cursor cursors k + length (run k)
+unfolding movedBy
+moved-at run cursors k h = sixteenth (λ j. cursor cursors j + length (run j)) k h
+
+-- ---- one part after the other
+
+-- the parts before the window are filled, the window and what is behind it are not
+module _ (words : Keywords) (run x y z : ℕ → List ℕ) (parts : (k : ℕ) → run k ≡ x k ++ y k ++ z k)
+    (before c₀ counts : List ℕ) (can : CanList words run before c₀ counts) (out c : List ℕ) (filled : out ≡ patched (words .count) (cursor c₀) x before)
+    (moved : c ≡ movedBy x c₀) where
+  lengths : (k : ℕ) → length (run k) ≡ length (x k) + length (y k) + length (z k)
+  lengths k = ap length (parts k) ∙ length-append (x k ++ y k) (z k) ∙ ap (λ (n : ℕ). n + length (z k)) (length-append (x k) (y k))
+
+  at : (k : ℕ) → k < words .count → cursor c k ≡ cursor c₀ k + length (x k)
+  at k h = ap (λ (l : List ℕ). cursor l k) moved ∙ moved-at x c₀ k (omega (arith, can .few))
+
+  same : length out ≡ length before
+  same = ap length filled ∙ patched-length (words .count) (cursor c₀) x before (λ k h. omega (arith, can .apart .room k h, lengths k))
+
+  gone : (k : ℕ) → words .count ≤ k → (length (x k) ≡ 0) × (length (y k) ≡ 0)
+  gone k h = (omega (arith, lengths k, ap length (can .none k h)), omega (arith, lengths k, ap length (can .none k h)))
+
+  -- the window's part can be filled
+  pub part-fills : CanList words y out c counts
+  part-fills = record {
+    placed = ap length moved ∙ moved-length x c₀;
+    counted = can .counted;
+    sizes = can .sizes;
+    few = can .few;
+    apart = record {
+      order = λ j k i o. omega (arith, at j (omega arith), at k o, can .apart .order j k i o, lengths j);
+      room = λ k o. omega (arith, at k o, can .apart .room k o, lengths k, same);
+    };
+    none = λ k h. no-offsets (y k) (gone k h .1);
+    within = λ k h. ⊎-elim
+        (λ (i : 16 ≤ k). omega (arith, List·getD-eq-default c 0 {n = k} (omega (arith, ap length moved, moved-length x c₀))))
+        (λ (i : k < 16). omega (arith, ap (λ (l : List ℕ). cursor l k) moved, moved-at x c₀ k i, gone k h .0, can .within k h, same))
+        (le-or-lt 16 k);
   }
 
-  apart-second : (n : ℕ) → Apart n (cursor c₀) both (length before) → Apart n (cursor c₁) g (length mid)
-  apart-second n a = record {
-    order = λ j k i o. omega (arith, a .order j k i o, both-length j, p .moved j, p .moved k);
-    room = λ k i. omega (arith, a .room k i, both-length k, p .moved k, s);
-  }
+  -- and then the parts up to its end are
+  pub part-filled : (w : ℕ → List ℕ) → ((k : ℕ) → w k ≡ x k ++ y k) → (out′ : List ℕ) → out′ ≡ patched (words .count) (cursor c) y out
+      → out′ ≡ patched (words .count) (cursor c₀) w before
+  part-filled w e out′ p =
+      p ∙ ap (patched (words .count) (cursor c) y) filled
+      ∙ patched-split (words .count) (cursor c₀) (cursor c) x y w before (λ k h. e k) at (record {
+        order = λ j k i o. omega (arith, can .apart .order j k i o, lengths j, ap length (e j), length-append (x j) (y j));
+        room = λ k o. omega (arith, can .apart .room k o, lengths k, ap length (e k), length-append (x k) (y k));
+      })
 
-  pub filled-then : Filled both before c₀ after c₂
-  filled-then = record {
-    bytes = λ n none a.
-        q .bytes n (λ k h. no-offsets (g k) (omega (arith, ap length (none k h), both-length k))) (apart-second n a)
-        ∙ ap (patched n (cursor c₁) g) (p .bytes n (λ k h. no-offsets (f k) (omega (arith, ap length (none k h), both-length k))) (apart-first n a))
-        ∙ patched-split n (cursor c₀) (cursor c₁) f g both before (λ k h. refl) (λ k h. p .moved k) a;
-    moved = λ k. omega (arith, p .moved k, q .moved k, both-length k);
-  }
+  pub part-moved : (w : ℕ → List ℕ) → ((k : ℕ) → w k ≡ x k ++ y k) → (c′ : List ℕ) → c′ ≡ movedBy y c → c′ ≡ movedBy w c₀
+  unfolding movedBy
+  part-moved w e c′ p = sixteen (λ k. cursor c₀ k + length (w k)) c′ (ap length p ∙ moved-length y c) (λ k h. omega (
+    arith,
+    ap (λ (l : List ℕ). cursor l k) p,
+    moved-at y c k h,
+    ap (λ (l : List ℕ). cursor l k) moved,
+    moved-at x c₀ k h,
+    ap length (e k),
+    length-append (x k) (y k),
+  ))
 
--- ---- tallies
+-- before the first part nothing is
+pub none-filled : (n : ℕ) (p : ℕ → ℕ) (run : ℕ → List ℕ) (before : List ℕ) → ((k : ℕ) → run k ≡ []) → before ≡ patched n p run before
+none-filled n p run before h = sym (patched-none n p run before (λ k i. h k))
 
-first-append : (x y : List ℕ) → cond (eqb (length x) 0) (getD y 0 0) (getD x 0 0) ≡ getD (x ++ y) 0 0
-first-append [] y = refl
-first-append (e ∷ x) y = rw (eqb-ne (suc (length x)) 0 (omega arith))
-
--- counts added up; the first offset of the first part that has one
-module _ (ends len x y : List ℕ) (a b r : Tally) (s : Tallied ends len x a) (t : Tallied ends len y b) where
-  pub tallied-then : length (r .counts) ≡ 16 → length (r .firsts) ≡ 16
-      → ((k : ℕ) → getD (r .counts) k 0 ≡ getD (a .counts) k 0 + getD (b .counts) k 0)
-      → ((k : ℕ) → getD (r .firsts) k 0 ≡ cond (eqb (getD (a .counts) k 0) 0) (getD (b .firsts) k 0) (getD (a .firsts) k 0))
-      → Tallied ends len (x ++ y) r
-  tallied-then i j c f = record {
-    counted = i;
-    kept = j;
-    count = λ k. omega (
-      arith,
-      c k,
-      s .count k,
-      t .count k,
-      ap length (logged-append ends k (getD len k 0) x y),
-      length-append (loggedOffsets ends k (getD len k 0) x) (loggedOffsets ends k (getD len k 0) y),
-    );
-    first = λ k.
-        let u : List ℕ = loggedOffsets ends k (getD len k 0) x in
-        let v : List ℕ = loggedOffsets ends k (getD len k 0) y in
-        f k
-        ∙ ap (λ (n : ℕ). cond (eqb n 0) (getD (b .firsts) k 0) (getD (a .firsts) k 0)) (s .count k)
-        ∙ ap₂ {C = ℕ} (λ p q. cond (eqb (length u) 0) p q) (t .first k) (s .first k)
-        ∙ first-append u v
-        ∙ ap (λ (l : List ℕ). getD l 0 0) (sym (logged-append ends k (getD len k 0) x y));
-  }
+pub none-moved : (run : ℕ → List ℕ) (cursors : List ℕ) → length cursors ≡ 16 → ((k : ℕ) → run k ≡ []) → cursors ≡ movedBy run cursors
+unfolding movedBy
+none-moved run cursors l h = sixteen (λ k. cursor cursors k + length (run k)) cursors l (λ k i. omega (arith, ap length (h k)))

@@ -1,22 +1,21 @@
 -- What stands before a record's list of offsets: its tests, its length, its stores; and that with the list it is the record. Assumes nothing.
-use mathlib.Core.Path.{_≡_, refl, sym, ap, _∙_}
-use mathlib.Core.Logic.{_⊎_, inl, inr, ⊎-elim}
-use mathlib.Core.Bool.{Bool, true, false, not, cond, _&&_}
-use mathlib.Core.List.{List, [], _∷_, _++_, append-assoc, append-nil}
-use Prim.Native.Nat.{ℕ, _+_, _*_, _-_, _≤_, _<_, min}
+use mathlib.Core.Path.{_≡_, refl, sym, ap}
+use mathlib.Core.Logic.{⊎-elim}
+use mathlib.Core.Bool.{Bool, true, false, not, _&&_}
+use mathlib.Core.List.{List, [], _∷_, _++_, append-nil}
+use Prim.Native.Nat.{ℕ, _+_, _*_, _≤_, _<_, min}
 use native.Mathlib.Omega.{arith}
-use lib.ListN.{length, getD, set, length-append}
+use lib.ListN.{length, set, length-append}
 use lib.Dec.{eqb, leb}
-use Rattle.spec.specs.Bytes.{leBytes, splice, fieldsBytes}
-use Rattle.spec.specs.Form.{Form, newest}
-use Rattle.spec.specs.Records.{MatchRecord, isEmpty, isTiny, kindOf, tinyBytes, fullBytes, offsetsBytes, recordBytes}
+use Rattle.spec.specs.Bytes.{leBytes, splice}
+use Rattle.spec.specs.Form.{newest}
+use Rattle.spec.specs.Records.{kindOf}
 use Rattle.spec.proofs.Tests.{eqb-ne, leb-true, leb-false, and-left, and-right, bool-cases, le-or-lt}
 use Rattle.spec.proofs.Fields.{length-leBytes}
-use Rattle.spec.proofs.FieldLists.{length-fieldsBytes}
 use Rattle.spec.proofs.Splices.{splice-nil, sets-splice, splice-then}
-use Rattle.spec.proofs.RecordLaws.{eq-of, le-of, written-empty, written-tiny, written-full, offsets-one, offsets-two, offsets-three}
+use Rattle.spec.proofs.RecordLaws.{le-of}
 use Rattle.records.specs.declared.Summary.{Summary}
-use Rattle.records.specs.Summaries.{summaryOf, emptyIn, tinyIn, tinyPart, headPart, startBytes, listBytes, listed, Wrote}
+use Rattle.records.specs.Summaries.{emptyIn, tinyIn, tinyPart, headPart, startBytes, listed, Wrote}
 
 -- ---- tests
 
@@ -86,6 +85,13 @@ listed-all count h = rw (leb-false count 1 h)
 
 -- ---- the three forms
 
+-- the bytes of a full record's head: number, kind, prefix, suffix, count byte, first offset; the most before a list: the exact count too
+abbrev pub headSize : ℕ
+headSize = 5 + newest .width
+
+abbrev pub startMost : ℕ
+startMost = headSize + newest .width
+
 module _ (n k : ℕ) (s : Summary) where
   pub start-empty : emptyIn s ≡ true → startBytes newest n k s ≡ []
   unfolding startBytes
@@ -99,7 +105,7 @@ module _ (n k : ℕ) (s : Summary) where
   unfolding startBytes
   start-few e t h = rw (e, t, leb-true (s .count) 254 h, append-nil)
 
-  pub start-many : emptyIn s ≡ false → tinyIn newest n s ≡ false → 254 < s .count → startBytes newest n k s ≡ headPart newest k s ++ leBytes 2 (s .count)
+  pub start-many : emptyIn s ≡ false → tinyIn newest n s ≡ false → 254 < s .count → startBytes newest n k s ≡ headPart newest k s ++ leBytes (newest .width) (s .count)
   unfolding startBytes
   start-many e t h = rw (e, t, leb-false (s .count) 254 h)
 
@@ -107,15 +113,15 @@ module _ (n k : ℕ) (s : Summary) where
   unfolding tinyPart
   length-tiny = refl
 
-  pub length-head : length (headPart newest k s) ≡ 7
+  pub length-head : length (headPart newest k s) ≡ headSize
   unfolding headPart
-  length-head = omega (arith, length-leBytes 2 (s .first))
+  length-head = omega (arith, length-leBytes (newest .width) (s .first))
 
-  pub length-many : emptyIn s ≡ false → tinyIn newest n s ≡ false → 254 < s .count → length (startBytes newest n k s) ≡ 9
+  pub length-many : emptyIn s ≡ false → tinyIn newest n s ≡ false → 254 < s .count → length (startBytes newest n k s) ≡ startMost
   length-many e t h =
-      omega (arith, ap length (start-many e t h), length-append (headPart newest k s) (leBytes 2 (s .count)), length-head, length-leBytes 2 (s .count))
+      omega (arith, ap length (start-many e t h), length-append (headPart newest k s) (leBytes (newest .width) (s .count)), length-head, length-leBytes (newest .width) (s .count))
 
-  pub start-most : length (startBytes newest n k s) ≤ 9
+  pub start-most : length (startBytes newest n k s) ≤ startMost
   start-most = ⊎-elim
       (λ e. omega (arith, ap length (start-empty e)))
       (λ e. ⊎-elim
@@ -128,7 +134,7 @@ module _ (n k : ℕ) (s : Summary) where
       (bool-cases (emptyIn s))
 
   -- a full record has a head
-  pub start-least : emptyIn s ≡ false → tinyIn newest n s ≡ false → 7 ≤ length (startBytes newest n k s)
+  pub start-least : emptyIn s ≡ false → tinyIn newest n s ≡ false → headSize ≤ length (startBytes newest n k s)
   start-least e t = ⊎-elim
       (λ h. omega (arith, ap length (start-few e t h), length-head))
       (λ h. omega (arith, length-many e t h))
@@ -150,16 +156,16 @@ module _ (l : List ℕ) (k : ℕ) (s : Summary) where
   unfolding tinyPart
   tiny-put h = record { written = sets-splice (k ∷ 0 ∷ (s .prefix + 2 * s .suffix) ∷ []) l 0 h; ends = refl }
 
-  pub head-put : (kind count : ℕ) (after : List ℕ) → kind ≡ kindOf (s .count) → count ≡ min (s .count) 255 → 7 ≤ length l
-      → after ≡ splice (set (set (set (set (set l 0 k) 1 kind) 2 (s .prefix)) 3 (s .suffix)) 4 count) 5 (leBytes 2 (s .first))
-      → Wrote l 0 (headPart newest k s) after 7
+  pub head-put : (kind count : ℕ) (after : List ℕ) → kind ≡ kindOf (s .count) → count ≡ min (s .count) 255 → headSize ≤ length l
+      → after ≡ splice (set (set (set (set (set l 0 k) 1 kind) 2 (s .prefix)) 3 (s .suffix)) 4 count) 5 (leBytes (newest .width) (s .first))
+      → Wrote l 0 (headPart newest k s) after headSize
   unfolding headPart
   head-put kind count after p q h w =
       let v : List ℕ = k ∷ kindOf (s .count) ∷ s .prefix ∷ s .suffix ∷ min (s .count) 255 ∷ [] in
-      let x : after ≡ splice (splice l 0 v) 5 (leBytes 2 (s .first)) = (rw (p, q, sets-splice v l 0 (omega arith)) at w) in
+      let x : after ≡ splice (splice l 0 v) 5 (leBytes (newest .width) (s .first)) = (rw (p, q, sets-splice v l 0 (omega arith)) at w) in
       record {
-        written = splice-then l 0 v (leBytes 2 (s .first)) (omega arith) refl refl x;
-        ends = omega (arith, length-leBytes 2 (s .first));
+        written = splice-then l 0 v (leBytes (newest .width) (s .first)) (omega arith) refl refl x;
+        ends = omega (arith, length-leBytes (newest .width) (s .first));
       }
 
   -- the forms as they are put
@@ -175,8 +181,8 @@ module _ (l : List ℕ) (k : ℕ) (s : Summary) where
   put-as-few n end after e t h w = rw (start-few n k s e t h) w
 
   pub put-as-many : (n head : ℕ) (l₁ after : List ℕ) → emptyIn s ≡ false → tinyIn newest n s ≡ false → 254 < s .count
-      → Wrote l 0 (headPart newest k s) l₁ head → after ≡ splice l₁ head (leBytes 2 (s .count)) → Wrote l 0 (startBytes newest n k s) after (head + 2)
+      → Wrote l 0 (headPart newest k s) l₁ head → after ≡ splice l₁ head (leBytes (newest .width) (s .count)) → Wrote l 0 (startBytes newest n k s) after (head + newest .width)
   put-as-many n head l₁ after e t h w x = rw (start-many n k s e t h) (record {
-    written = splice-then l 0 (headPart newest k s) (leBytes 2 (s .count)) (omega arith) (w .written) (w .ends) x;
-    ends = omega (arith, w .ends, length-append (headPart newest k s) (leBytes 2 (s .count)), length-leBytes 2 (s .count));
+    written = splice-then l 0 (headPart newest k s) (leBytes (newest .width) (s .count)) (omega arith) (w .written) (w .ends) x;
+    ends = omega (arith, w .ends, length-append (headPart newest k s) (leBytes (newest .width) (s .count)), length-leBytes (newest .width) (s .count));
   })

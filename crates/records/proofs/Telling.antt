@@ -1,27 +1,34 @@
 -- What a chunk's log, tally and last node say: its records, keyword by keyword. Assumes nothing.
-use mathlib.Core.Path.{_≡_, refl, sym, ap, ap₂, _∙_}
-use mathlib.Core.Bool.{cond}
+use mathlib.Core.Path.{_≡_, sym, ap, ap₂, _∙_}
+use mathlib.Core.Logic.{⊎-elim}
 use mathlib.Core.List.{List, []}
-use Prim.Native.Nat.{ℕ, _+_, _*_, _-_, _≤_, _<_}
+use Prim.Native.Nat.{ℕ, _+_, _*_, _≤_, _<_}
 use native.Mathlib.Omega.{arith}
-use lib.ListN.{length, getD}
-use lib.Dec.{leb}
-use Rattle.spec.specs.Bytes.{fieldsBytes}
+use lib.ListN.{length, getD, List·getD-eq-default}
 use Rattle.spec.specs.Join.{keywordAt}
 use Rattle.spec.specs.Keywords.{folded, foldedKeywords, flagOf}
 use Rattle.spec.specs.Form.{newest}
 use Rattle.spec.specs.Records.{recordOf, suffixOf}
-use Rattle.spec.proofs.Tests.{leb-true}
+use Rattle.spec.proofs.Tests.{leb-true, le-or-lt}
 use Rattle.spec.proofs.Folding.{folded-length}
 use Rattle.keywords.specs.declared.Keywords.{Keywords}
 use Rattle.records.specs.declared.Tally.{Tally}
 use Rattle.records.specs.Log.{loggedOffsets, AllFit, Tabled, Walked}
 use Rattle.records.specs.Runs.{logRun}
 use Rattle.records.specs.Summaries.{summaryOf, listBytes}
-use Rattle.records.specs.Tallies.{Tallied}
-use Rattle.records.specs.Bodies.{foundAt, listOf, Tells, Sources}
+use Rattle.records.specs.Tallies.{tallyOf}
+use Rattle.keywords.specs.Parsed.{Reads}
+use Rattle.records.specs.Bodies.{foundAt, listOf, Tells}
+use Rattle.records.proofs.Tallying.{tally-counts, tally-firsts, tally-count, tally-first}
 use Rattle.records.proofs.LogLaws.{logged-offsets, logged-prefix, logged-fits, logged-none, last-below}
-use Rattle.records.proofs.BodyLaws.{keywords-count, keywords-few, flag-is, within, slice, slice-is, length-is, length-some, found-count, found-prefix}
+use Rattle.records.proofs.BodyLaws.{keywords-count, keywords-few, flag-is, within, slice, slice-is, length-is, length-some, found-prefix}
+
+-- The list is read, the chunk is not longer than chunks are, the trie's arrays are its keywords', and its walk left this log and last node.
+pub record Sources (list : List ℕ) (words : Keywords) (chunk log ends tails : List ℕ) (last : ℕ) : Type 0 where
+  pub reads : Reads list words
+  pub short : length chunk ≤ newest .longestChunk
+  pub tabled : Tabled (foldedKeywords list) ends tails
+  pub walked : Walked (foldedKeywords list) (folded (flagOf list) chunk) log last
 
 module _ (list : List ℕ) (words : Keywords) (chunk log ends tails : List ℕ) (last : ℕ) (s : Sources list words chunk log ends tails last) where
   abbrev keywords : List (List ℕ)
@@ -50,32 +57,38 @@ module _ (list : List ℕ) (words : Keywords) (chunk log ends tails : List ℕ) 
       ∙ logged-offsets keywords ends tails (s .tabled) (folded (flagOf list) chunk) log last (s .walked) short k (known k h) (length-some list words
       (s .reads) k h)
 
-  module _ (tally : Tally) (t : Tallied ends (words .len) log tally) where
+  module _ (tally : Tally) (t : tally ≡ tallyOf ends (words .len) log) where
+    few : (k : ℕ) → k < words .count → k < 16
+    few k h = omega (arith, keywords-few list words (s .reads))
+
     pub sources-tell : Tells list words chunk tails last tally
     unfolding foundAt
     sources-tell = record {
       reads = s .reads;
       short = s .short;
-      counted = t .counted;
-      kept = t .kept;
+      counted = tally-counts ends (words .len) log tally t;
+      kept = tally-firsts ends (words .len) log tally t;
       inside = omega (arith, last-below keywords ends tails (s .tabled) (folded (flagOf list) chunk) log last (s .walked) short, s .tabled .long);
       prefix = λ k h. logged-prefix keywords ends tails (s .tabled) (folded (flagOf list) chunk) log last (s .walked) short k (known k h);
-      count = λ k h. t .count k ∙ ap length (said k h);
-      first = λ k h. t .first k ∙ ap (λ (l : List ℕ). getD l 0 0) (said k h);
+      count = λ k h. tally-count ends (words .len) log tally t k (few k h) ∙ ap length (said k h);
+      first = λ k h. tally-first ends (words .len) log tally t k (few k h) ∙ ap (λ (l : List ℕ). getD l 0 0) (said k h);
     }
 
     -- what the log lists of keyword k is its list
     pub sources-list : (k : ℕ) → k < words .count → logRun newest (tally .counts) (words .len) ends log k ≡ listOf list chunk k
     unfolding logRun listBytes
-    sources-list k h = rw (t .count k, said k h)
+    sources-list k h = rw (tally-count ends (words .len) log tally t k (few k h), said k h)
 
     pub sources-none : (k : ℕ) → words .count ≤ k → logRun newest (tally .counts) (words .len) ends log k ≡ []
     unfolding logRun
-    sources-none k h =
-        let e : getD (tally .counts) k 0 ≡ 0 = t .count k ∙ ap length (logged-none keywords ends tails (s .tabled) (folded (flagOf list) chunk) log last
-        (s .walked)
-        short k (getD (words .len) k 0) (omega (arith, keywords-count list words (s .reads)))) in
-        rw (leb-true (getD (tally .counts) k 0) 1 (omega arith))
+    sources-none k h = let e : getD (tally .counts) k 0 ≡ 0 = none in rw (leb-true (getD (tally .counts) k 0) 1 (omega arith))
+      where
+        none : getD (tally .counts) k 0 ≡ 0
+        none = ⊎-elim
+            (λ (i : 16 ≤ k). List·getD-eq-default (tally .counts) 0 {n = k} (omega (arith, tally-counts ends (words .len) log tally t)))
+            (λ (i : k < 16). tally-count ends (words .len) log tally t k i ∙ ap length (logged-none keywords ends tails (s .tabled)
+            (folded (flagOf list) chunk) log last (s .walked) short k (getD (words .len) k 0) (omega (arith, keywords-count list words (s .reads)))))
+            (le-or-lt 16 k)
 
 -- ---- the summary of a keyword's record, as the code puts it together
 
@@ -96,9 +109,6 @@ module _ (list : List ℕ) (words : Keywords) (chunk tails : List ℕ) (last : �
   pub tells-within : getD (words .start) k 0 + getD (words .len) k 0 ≤ length list
   tells-within = within list words (t .reads) k h
 
-  -- the counts are those of a chunk, and a prefix is a byte
-  pub tells-count : getD (tally .counts) k 0 ≤ 65535
-  tells-count = omega (arith, t .count k h, found-count list words (t .reads) k h chunk, t .short)
-
+  -- a prefix is a byte
   pub tells-prefix : getD tails (last * 16 + k) 0 < 256
   tells-prefix = omega (arith, t .prefix k h, found-prefix list words (t .reads) k h chunk)

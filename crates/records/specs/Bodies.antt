@@ -1,9 +1,11 @@
--- What measuring and writing a chunk's body from the log of its walk asks.
+-- What measuring and writing a chunk's body from the tally of its log asks, and what a body is that has no lists of offsets yet.
 use mathlib.Core.Path.{_≡_}
-use mathlib.Core.List.{List, []}
-use Prim.Native.Nat.{ℕ, _+_, _*_, _≤_, _<_}
+use mathlib.Core.Bool.{cond}
+use mathlib.Core.List.{List, [], _∷_}
+use Prim.Native.Nat.{ℕ, zero, suc, _+_, _*_, _≤_, _<_}
 use lib.ListN.{length, getD}
-use Rattle.spec.specs.Bytes.{written}
+use lib.Dec.{ltb}
+use Rattle.spec.specs.Bytes.{each}
 use Rattle.spec.specs.Join.{keywordAt}
 use Rattle.spec.specs.Keywords.{flagOf, folded, foldedKeywords}
 use Rattle.spec.specs.Form.{newest}
@@ -11,10 +13,7 @@ use Rattle.spec.specs.Records.{MatchRecord, recordOf}
 use Rattle.spec.specs.Scan.{scanBody}
 use Rattle.keywords.specs.declared.Keywords.{Keywords}
 use Rattle.keywords.specs.Parsed.{Reads}
-use Rattle.records.specs.Log.{Tabled, Walked}
-use Rattle.records.specs.Patches.{patched, Apart}
-use Rattle.records.specs.Runs.{cursor}
-use Rattle.records.specs.Summaries.{listBytes}
+use Rattle.records.specs.Summaries.{summaryOf, startBytes, listBytes}
 use Rattle.records.specs.declared.Tally.{Tally}
 use Rattle.records.specs.declared.Started.{Started}
 
@@ -33,21 +32,22 @@ pub record Tells (list : List ℕ) (words : Keywords) (chunk tails : List ℕ) (
   pub count : (k : ℕ) → k < words .count → getD (tally .counts) k 0 ≡ length (foundAt list chunk k .offsets)
   pub first : (k : ℕ) → k < words .count → getD (tally .firsts) k 0 ≡ getD (foundAt list chunk k .offsets) 0 0
 
--- The list is read, the chunk is not longer than chunks are, the trie's arrays are its keywords', and its walk left this log and last node.
-pub record Sources (list : List ℕ) (words : Keywords) (chunk log ends tails : List ℕ) (last : ℕ) : Type 0 where
-  pub reads : Reads list words
-  pub short : length chunk ≤ newest .longestChunk
-  pub tabled : Tabled (foldedKeywords list) ends tails
-  pub walked : Walked (foldedKeywords list) (folded (flagOf list) chunk) log last
+-- Keyword k's record before its list of offsets; the list.
+abbrev pub startOf : List ℕ → List ℕ → ℕ → List ℕ
+startOf list chunk k = startBytes newest (length (keywordAt (foldedKeywords list) k)) k (summaryOf (foundAt list chunk k))
 
--- The list of offsets of keyword k.
 abbrev pub listOf : List ℕ → List ℕ → ℕ → List ℕ
 listOf list chunk k = listBytes newest (foundAt list chunk k .offsets)
 
--- A body without its lists of offsets: with each list at its cursor it is the body.
-pub record Begun (list : List ℕ) (words : Keywords) (chunk before after : List ℕ) (started : Started) : Type 0 where
-  pub size : started .size ≡ length (scanBody newest list chunk)
-  pub placed : length (started .cursors) ≡ 16
-  pub apart : Apart (words .count) (cursor (started .cursors)) (listOf list chunk) (length before)
-  pub none : (k : ℕ) → words .count ≤ k → cursor (started .cursors) k ≡ 0
-  pub bytes : patched (words .count) (cursor (started .cursors)) (listOf list chunk) after ≡ written before (scanBody newest list chunk)
+-- Where keyword k's record stands in the body: behind those before it.
+unfoldable pub placeOf : List ℕ → List ℕ → ℕ → ℕ
+placeOf list chunk zero = 0
+placeOf list chunk (suc k) = placeOf list chunk k + length (startOf list chunk k) + length (listOf list chunk k)
+
+-- Where its list goes: behind its start; 0 behind the last keyword.
+unfoldable pub listPlace : List ℕ → List ℕ → ℕ → ℕ
+listPlace list chunk k = cond (ltb k (length (foldedKeywords list))) (placeOf list chunk k + length (startOf list chunk k)) 0
+
+-- A body that is begun: its length, and where the lists go.
+unfoldable pub startedOf : List ℕ → List ℕ → Started
+startedOf list chunk = record { size = length (scanBody newest list chunk); cursors = each (λ k. listPlace list chunk k ∷ []) 0 16 }

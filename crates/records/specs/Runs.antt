@@ -1,13 +1,14 @@
 -- The lists of offsets of a body, filled from a log: each keyword's list is a run of its own, and a cursor says where it goes on.
 use mathlib.Core.Path.{_≡_}
 use mathlib.Core.Bool.{true, cond}
-use mathlib.Core.List.{List, []}
+use mathlib.Core.List.{List, [], _∷_}
 use Prim.Native.Nat.{ℕ, _+_, _-_, _≤_, _<_}
 use lib.ListN.{length, getD}
 use lib.Dec.{leb}
-use Rattle.spec.specs.Bytes.{leBytes, fieldsBytes}
+use Rattle.spec.specs.Bytes.{each, leBytes, fieldsBytes}
 use Rattle.spec.specs.Form.{Form, newest}
-use Rattle.records.specs.Log.{hasBit, loggedOffsets, AllFit}
+use Rattle.keywords.specs.declared.Keywords.{Keywords}
+use Rattle.records.specs.Log.{hasBit, loggedOffsets}
 use Rattle.records.specs.Patches.{patched, Apart}
 
 -- An offset as it is listed: nothing where the keyword has at most one.
@@ -23,6 +24,10 @@ logRun f counts len ends log k = cond (leb (getD counts k 0) 1) [] (fieldsBytes 
 
 abbrev pub cursor : List ℕ → ℕ → ℕ
 cursor cursors k = getD cursors k 0
+
+-- The cursors behind the runs.
+unfoldable pub movedBy : (ℕ → List ℕ) → List ℕ → List ℕ
+movedBy run cursors = each (λ k. (cursor cursors k + length (run k)) ∷ []) 0 16
 
 -- What filling promises, of runs that lie apart: each stands at its cursor, and the cursors are behind them.
 pub record Filled (run : ℕ → List ℕ) (before cursors after cursors′ : List ℕ) : Type 0 where
@@ -41,3 +46,13 @@ pub record CanFillEntry (before cursors counts len : List ℕ) (members end : �
   pub fill : CanFill (entryRun newest counts len members end) before cursors counts len
   pub few : members < 65536
   pub back : (k : ℕ) → hasBit members k ≡ true → getD len k 0 ≤ end
+
+-- For the runs of a whole log that each keyword's has its place, and that there are no others.
+pub record CanList (words : Keywords) (run : ℕ → List ℕ) (before cursors counts : List ℕ) : Type 0 where
+  pub placed : length cursors ≡ 16
+  pub counted : length counts ≡ 16
+  pub sizes : length (words .len) ≡ 16
+  pub few : words .count ≤ 16
+  pub apart : Apart (words .count) (cursor cursors) run (length before)
+  pub none : (k : ℕ) → words .count ≤ k → run k ≡ []
+  pub within : (k : ℕ) → words .count ≤ k → cursor cursors k ≤ length before

@@ -1,9 +1,11 @@
 -- What the functions that go through a log count and keep.
 use mathlib.Core.Path.{_≡_}
 use mathlib.Core.Bool.{cond, true}
-use mathlib.Core.List.{List}
+use mathlib.Core.List.{List, [], _∷_}
 use Prim.Native.Nat.{ℕ, _+_, _-_, _≤_, _<_}
 use lib.ListN.{length, getD}
+use lib.Dec.{eqb}
+use Rattle.spec.specs.Bytes.{each}
 use Rattle.records.specs.Log.{hasBit, loggedOffsets}
 use Rattle.records.specs.declared.Tally.{Tally}
 
@@ -23,9 +25,24 @@ OneMore members before after = (k : ℕ) → getD after k 0 ≡ cond (hasBit mem
 abbrev pub Kept : ℕ → ℕ → List ℕ → List ℕ → List ℕ → Type 0
 Kept members end len before after = (k : ℕ) → getD after k 0 ≡ cond (hasBit members k) (end - getD len k 0) (getD before k 0)
 
--- How many offsets a log says of each keyword, and the first (0 where there is none).
-pub record Tallied (ends len log : List ℕ) (tally : Tally) : Type 0 where
-  pub counted : length (tally .counts) ≡ 16
-  pub kept : length (tally .firsts) ≡ 16
-  pub count : (k : ℕ) → getD (tally .counts) k 0 ≡ length (loggedOffsets ends k (getD len k 0) log)
-  pub first : (k : ℕ) → getD (tally .firsts) k 0 ≡ getD (loggedOffsets ends k (getD len k 0) log) 0 0
+-- The tally of a log: how many offsets it says of each of 16 keywords, and the first (0 where there is none).
+unfoldable pub tallyOf : List ℕ → List ℕ → List ℕ → Tally
+tallyOf ends len log = record {
+  counts = each (λ k. length (loggedOffsets ends k (getD len k 0) log) ∷ []) 0 16;
+  firsts = each (λ k. getD (loggedOffsets ends k (getD len k 0) log) 0 0 ∷ []) 0 16;
+}
+
+-- The tally of two logs, one after the other: counts added up, the first offset of the first log that has one.
+unfoldable pub tallyBoth : Tally → Tally → Tally
+tallyBoth before more = record {
+  counts = each (λ k. (getD (before .counts) k 0 + getD (more .counts) k 0) ∷ []) 0 16;
+  firsts = each (λ k. cond (eqb (getD (before .counts) k 0) 0) (getD (more .firsts) k 0) (getD (before .firsts) k 0) ∷ []) 0 16;
+}
+
+-- What joining asks: an element for each of 16 keywords, and room for the sums.
+pub record CanJoin (before more : Tally) : Type 0 where
+  pub counted : length (before .counts) ≡ 16
+  pub kept : length (before .firsts) ≡ 16
+  pub counted-more : length (more .counts) ≡ 16
+  pub kept-more : length (more .firsts) ≡ 16
+  pub room : (k : ℕ) → getD (before .counts) k 0 + getD (more .counts) k 0 < 18446744073709551616

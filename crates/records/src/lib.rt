@@ -1,22 +1,27 @@
-// The match records of a chunk, from the log that the walk over the trie leaves, and their written form.
+// The match records of a chunk, from the log that the walk over the trie leaves, and their written form. The log may come in parts, one after the
+// other: tallies are joined, and the lists of offsets go on where the part before left them.
 ghost use mathlib.Core.Path.{_≡_};
 ghost use Prim.Native.Nat.{ℕ, _+_, _≤_, _<_, min};
 ghost use lib.ListN.{length};
-ghost use Rattle.spec.specs.Bytes.{splice, written};
+ghost use Rattle.spec.specs.Bytes.{splice};
 ghost use Rattle.spec.specs.Scan.{scanBody};
 ghost use Rattle.spec.specs.Form.{newest};
 ghost use Rattle.spec.specs.Records.{kindOf};
 ghost use Rattle.records.specs.Log.{AllFit};
-ghost use Rattle.records.specs.Tallies.{CanCount, OneMore, Kept, Tallied};
-ghost use Rattle.records.specs.Bodies.{foundAt, Tells, Sources, Begun};
-ghost use Rattle.records.specs.Runs.{pieceOf, entryRun, logRun, CanFill, CanFillEntry, Filled};
+ghost use mathlib.Core.Bool.{cond};
+ghost use lib.Dec.{eqb};
+ghost use Rattle.records.specs.Tallies.{CanCount, OneMore, Kept, tallyOf, tallyBoth, CanJoin};
+ghost use Rattle.records.specs.Patches.{patched};
+ghost use Rattle.records.specs.Bodies.{foundAt, startOf, placeOf, startedOf, Tells};
+ghost use Rattle.records.specs.Runs.{pieceOf, entryRun, logRun, cursor, movedBy, CanList, CanFillEntry, Filled};
 ghost use Rattle.records.specs.Summaries.{summaryOf, emptyIn, tinyIn, tinyPart, headPart, startBytes, listed, Wrote, CanStart};
 
 // ---- the tally: how many offsets each keyword has, and the first
 
-struct Tally {
-    counts: [usize; 16],
-    firsts: [usize; 16],
+pub struct Tally {
+    pub counts: [usize; 16],
+    // 0 where there is none
+    pub firsts: [usize; 16],
 }
 
 // Counts the keywords that end at one place, and keeps their offsets: each starts its length before the end.
@@ -41,9 +46,9 @@ fn count_entry(counts: &mut [usize], firsts: &mut [usize], len: &[usize], member
 const PLACES: u32 = 1048576;
 
 // The tally of a log, from its last entry to its first, so that the first offset is the one kept.
-fn tally_of(log: &[u32], ends: &[u32], len: &[usize]) -> Tally
+pub fn tally_of(log: &[u32], ends: &[u32], len: &[usize]) -> Tally
     requires { ⌜ (length (now len) ≡ 16) × AllFit (now ends) (now len) (now log) ⌝ }
-    ensures { λ r. ⌜ Tallied (now (ends .entry)) (now (len .entry)) (now (log .entry)) r ⌝ }
+    ensures { λ r. ⌜ r ≡ tallyOf (now (ends .entry)) (now (len .entry)) (now (log .entry)) ⌝ }
 {
     let mut counts = [0usize; 16];
     let mut firsts = [0usize; 16];
@@ -54,6 +59,37 @@ fn tally_of(log: &[u32], ends: &[u32], len: &[usize]) -> Tally
         let node = (entry / PLACES) as usize;
         let end = (entry % PLACES) as usize + 1;
         count_entry(&mut counts, &mut firsts, len, ends[node], end);
+    }
+    Tally {
+        counts: counts,
+        firsts: firsts,
+    }
+}
+
+// The first offset of a log in two parts: the second part's where the first has none.
+fn first_of(count: usize, first: usize, other: usize) -> usize
+    ensures { λ r. ⌜ r ≡ cond (eqb count 0) other first ⌝ }
+{
+    if count == 0 {
+        return other;
+    }
+    first
+}
+
+// The tally of two logs, one after the other, from the tally of each.
+pub fn tally_with(before: Tally, more: Tally) -> Tally
+    requires { ⌜ CanJoin before more ⌝ }
+    ensures { λ r. ⌜ r ≡ tallyBoth before more ⌝ }
+{
+    let more_counts = more.counts;
+    let more_firsts = more.firsts;
+    let mut counts = before.counts;
+    let mut firsts = before.firsts;
+    let mut k: usize = 0;
+    while k < 16 {
+        firsts[k] = first_of(counts[k], firsts[k], more_firsts[k]);
+        counts[k] += more_counts[k];
+        k += 1;
     }
     Tally {
         counts: counts,
@@ -140,11 +176,11 @@ fn count_byte(count: usize) -> u8
 }
 
 // Bytes of an offset and of the exact count; of a tiny record; of a full record's head: number, kind, prefix, suffix, count byte, first offset.
-const WIDTH: usize = 2;
+const WIDTH: usize = 3;
 
 const TINY: usize = 3;
 
-const HEAD: usize = 7;
+const HEAD: usize = 8;
 
 // ---- lengths
 
@@ -189,7 +225,7 @@ fn put_tiny(out: &mut [u8], k: usize, s: Summary) -> usize
 
 // Writes the head of a full record at the buffer's start.
 fn put_head(out: &mut [u8], k: usize, s: Summary) -> usize
-    requires { ⌜ (7 ≤ length (now out)) × (k < 256) × (s .prefix < 256) × (s .suffix < 256) ⌝ }
+    requires { ⌜ (5 + newest .width ≤ length (now out)) × (k < 256) × (s .prefix < 256) × (s .suffix < 256) ⌝ }
     ensures { λ r. ⌜ Wrote (now (out .entry)) 0 (headPart newest k s) (now (out .exit)) r ⌝ }
 {
     let kind = kind_of(s.count);
@@ -260,26 +296,28 @@ fn put_entry(
     }
 }
 
-// Writes all offsets that a log says, each keyword's at its cursor.
-fn put_log(
+// Writes all offsets that a log says, each keyword's at its cursor, which goes on behind them. The counts are those of the chunk.
+pub fn put_log(
     out: &mut [u8],
     cursors: &mut [usize],
+    words: keywords::Keywords,
     counts: &[usize],
-    len: &[usize],
     ends: &[u32],
     log: &[u32],
 )
-    requires { ⌜ CanFill (logRun newest (now counts) (now len) (now ends) (now log)) (now out) (now cursors) (now counts) (now len) × AllFit (now ends)
-        (now len) (now log) ⌝ }
-    ensures { λ _. ⌜ Filled (logRun newest (now (counts .entry)) (now (len .entry)) (now (ends .entry)) (now (log .entry))) (now (out .entry))
-        (now (cursors .entry)) (now (out .exit)) (now (cursors .exit)) ⌝ }
+    requires { ⌜ CanList words (logRun newest (now counts) (words .len) (now ends) (now log)) (now out) (now cursors) (now counts) × AllFit (now ends)
+        (words .len) (now log) ⌝ }
+    ensures { λ _. ⌜ (now (out .exit) ≡ patched (words .count) (cursor (now (cursors .entry))) (logRun newest (now (counts .entry)) (words .len)
+        (now (ends .entry)) (now (log .entry))) (now (out .entry))) × (now (cursors .exit) ≡ movedBy (logRun newest (now (counts .entry)) (words .len)
+        (now (ends .entry)) (now (log .entry))) (now (cursors .entry))) ⌝ }
 {
+    let len = words.len;
     let mut i: usize = 0;
     while i < log.len() {
         let entry = log[i];
         let node = (entry / PLACES) as usize;
         let end = (entry % PLACES) as usize + 1;
-        put_entry(out, cursors, counts, len, ends[node], end);
+        put_entry(out, cursors, counts, &len, ends[node], end);
         i += 1;
     }
 }
@@ -322,17 +360,14 @@ pub fn body_size(
     list: &[u8],
     words: keywords::Keywords,
     chunk: &[u8],
-    log: &[u32],
-    ends: &[u32],
     tails: &[u8],
     last: usize,
+    tally: Tally,
 ) -> usize
-    requires { ⌜ Sources (now list) words (now chunk) (now log) (now ends) (now tails) last ⌝ }
+    requires { ⌜ Tells (now list) words (now chunk) (now tails) last tally ⌝ }
     ensures { λ r. ⌜ r ≡ length (scanBody newest (now (list .entry)) (now (chunk .entry))) ⌝ }
 {
-    let len = words.len;
     let count = words.count;
-    let tally = tally_of(log, ends, &len);
     let mut size: usize = 0;
     let mut k: usize = 0;
     while k < count {
@@ -344,13 +379,13 @@ pub fn body_size(
 }
 
 // A body that is begun: its length, and where the list of offsets of each keyword goes.
-struct Started {
-    size: usize,
-    cursors: [usize; 16],
+pub struct Started {
+    pub size: usize,
+    pub cursors: [usize; 16],
 }
 
 // Writes the chunk's body without the lists of offsets at the buffer's start.
-fn put_starts(
+pub fn put_starts(
     out: &mut [u8],
     list: &[u8],
     words: keywords::Keywords,
@@ -360,7 +395,8 @@ fn put_starts(
     tally: Tally,
 ) -> Started
     requires { ⌜ Tells (now list) words (now chunk) (now tails) last tally × (length (scanBody newest (now list) (now chunk)) ≤ length (now out)) ⌝ }
-    ensures { λ r. ⌜ Begun (now (list .entry)) words (now (chunk .entry)) (now (out .entry)) (now (out .exit)) r ⌝ }
+    ensures { λ r. ⌜ (now (out .exit) ≡ patched (words .count) (placeOf (now (list .entry)) (now (chunk .entry))) (startOf (now (list .entry))
+        (now (chunk .entry))) (now (out .entry))) × (r ≡ startedOf (now (list .entry)) (now (chunk .entry))) ⌝ }
 {
     let count = words.count;
     let mut cursors = [0usize; 16];
@@ -377,29 +413,4 @@ fn put_starts(
         size: size,
         cursors: cursors,
     }
-}
-
-// Writes the chunk's body at the buffer's start.
-pub fn put_body(
-    out: &mut [u8],
-    list: &[u8],
-    words: keywords::Keywords,
-    chunk: &[u8],
-    log: &[u32],
-    ends: &[u32],
-    tails: &[u8],
-    last: usize,
-) -> usize
-    requires { ⌜ Sources (now list) words (now chunk) (now log) (now ends) (now tails) last ×
-        (length (scanBody newest (now list) (now chunk)) ≤ length (now out)) ⌝ }
-    ensures { λ r. ⌜ (now (out .exit) ≡ written (now (out .entry)) (scanBody newest (now (list .entry)) (now (chunk .entry)))) ×
-        (r ≡ length (scanBody newest (now (list .entry)) (now (chunk .entry)))) ⌝ }
-{
-    let len = words.len;
-    let tally = tally_of(log, ends, &len);
-    let started = put_starts(out, list, words, chunk, tails, last, tally);
-    let counts = tally.counts;
-    let mut cursors = started.cursors;
-    put_log(out, &mut cursors, &counts, &len, ends, log);
-    started.size
 }

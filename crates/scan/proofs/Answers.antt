@@ -12,11 +12,10 @@ use Rattle.spec.specs.declared.Outcome.{Outcome}
 use Rattle.spec.specs.declared.Outcome.the-variants.{Done, Refused}
 use Rattle.spec.specs.declared.Scanned.{Scanned}
 use Rattle.spec.specs.declared.Scanned.the-variants as scanned
-use Rattle.spec.specs.Bytes.{leBytes, splice}
+use Rattle.spec.specs.Bytes.{largest32, leBytes, splice}
 use Rattle.spec.specs.Outcome.{answer}
 use Rattle.spec.specs.Store.{chunkCount}
 use Rattle.spec.specs.Form.{newest}
-use Rattle.spec.specs.Recipes.{largest32}
 use Rattle.spec.specs.Scan.{scanIndex, scannableCode, scanCode, scanOutcome, withMoves, scanAnswer, scanBuffer, sizeOutcome}
 use Rattle.spec.proofs.Codes.{refused-whole, next-whole, refused, next-test, answer-done, answer-refused, buffer-done, buffer-refused}
 use Rattle.spec.proofs.Fields.{length-leBytes}

@@ -3,54 +3,46 @@
 use mathlib.Core.Path.{_≡_, sym, ap₂, _∙_}
 use mathlib.Core.Bool.{Bool, true, false, _&&_}
 use mathlib.Core.List.{List}
-use Prim.Native.Nat.{ℕ, zero, suc, _+_, _*_, _≤_, _<_}
+use Prim.Native.Nat.{ℕ, _+_, _*_, _≤_, _<_}
 use native.Mathlib.Nat.{mul-le-mul-right}
 use native.Mathlib.Omega.{arith}
+use mir.Syntax.{w64}
+use mir.Val.{Fits}
 use lib.ListN.{length}
 use lib.Dec.{leb}
 use borrow.Author.Tests.{le-leb, lt-leb, leb-true}
-use Rattle.spec.specs.Bytes.{sum}
-use Rattle.spec.specs.Store.{storeLayout, chunkCount, storeCode}
+use Rattle.spec.specs.Store.{chunkCount}
 use Rattle.spec.specs.Form.{newest}
-use Rattle.spec.specs.Recipes.{largest32}
 use Rattle.spec.specs.Scan.{scanIndex}
-use Rattle.spec.proofs.EntryLaws.{lengthsFrom}
-use Rattle.spec.proofs.StoreLaws.{store-good, store-size-most}
+use Rattle.spec.proofs.StoreLaws.{store-good}
 use Rattle.spec.proofs.Tests.{le-of-and, and-right}
 use Rattle.keywords.specs.declared.Keywords.{Keywords}
 use Rattle.keywords.proofs.Reading.{parsed}
 use Rattle.scan.specs.Layout.{bodiesFrom, mostBytes, Walks}
 use Rattle.scan.proofs.Parts.{index-length, bodies-most, index-most}
 
--- a store that passed its check is short: each of its chunks is
-module _ (store : List ℕ) (good : storeCode store ≡ 0) where
-  sizes-most : (n k : ℕ) → n + k ≡ chunkCount store → sum (lengthsFrom storeLayout store k n) ≤ 65535 * n
-  sizes-most zero k e = omega arith
-  sizes-most (suc n) k e = omega (arith, store-size-most store (store-good store good) k (omega arith), sizes-most n (suc k) (omega arith))
-
-  pub store-short : length store ≤ largest32
-  store-short =
-      let g = store-good store good in
-      omega (arith, g .few, g .entries .ends, sizes-most (chunkCount store) 0 (omega arith))
-
 module _ {list : List ℕ} {words : Keywords} {store : List ℕ} {count : ℕ} (w : Walks list words store count) where
   pub count-few : count ≤ 65000
   count-few = omega (arith, w .counted, store-good store (w .checked) .few)
 
-  -- what one keyword can take of the bound, and all of them
-  pub share-few : 9 * count + 2 * length store ≤ 9 * 65000 + 2 * 4294967295
-  share-few = omega (arith, count-few, store-short store (w .checked))
+  -- a store that passed its check is short
+  pub store-few : length store ≤ 4294967295
+  store-few = store-good store (w .checked) .short
 
-  pub shares-few : words .count * (9 * count + 2 * length store) ≤ 16 * (9 * 65000 + 2 * 4294967295)
+  -- what one keyword can take of the bound, and all of them
+  pub share-few : 11 * count + 3 * length store ≤ 11 * 65000 + 3 * 4294967295
+  share-few = omega (arith, count-few, store-few)
+
+  pub shares-few : words .count * (11 * count + 3 * length store) ≤ 16 * (11 * 65000 + 3 * 4294967295)
   shares-few =
-      let few : words .count * (9 * count + 2 * length store) ≤ 16 * (9 * count + 2 * length store) =
-      mul-le-mul-right (9 * count + 2 * length store) (parsed list words (w .reads) .few) in
+      let few : words .count * (11 * count + 3 * length store) ≤ 16 * (11 * count + 3 * length store) =
+      mul-le-mul-right (11 * count + 3 * length store) (parsed list words (w .reads) .few) in
       omega (arith, few, share-few)
 
-  pub most-is : 8 + length list + 32 * count + words .count * (9 * count + 2 * length store) ≡ mostBytes list store
+  pub most-is : 8 + length list + 32 * count + words .count * (11 * count + 3 * length store) ≡ mostBytes list store
   unfolding mostBytes
   most-is =
-      ap₂ {C = ℕ} (λ n k. 8 + length list + 32 * n + k * (9 * n + 2 * length store)) (w .counted) (parsed list words (w .reads) .counts)
+      ap₂ {C = ℕ} (λ n k. 8 + length list + 32 * n + k * (11 * n + 3 * length store)) (w .counted) (parsed list words (w .reads) .counts)
 
   -- the comparison, by the way taken
   module _ (most room : ℕ) (e : most ≡ mostBytes list store) where
@@ -73,8 +65,21 @@ module _ {list : List ℕ} {words : Keywords} {store : List ℕ} {count : ℕ} (
   -- ---- what was measured
 
   module _ (size : ℕ) (e : size ≡ length (bodiesFrom newest list store 0)) where
-    pub size-few : size ≤ 2097264 * 65000
+    pub size-few : size ≤ 50331824 * 65000
     size-few = omega (arith, e, bodies-most list store (w .checked) (w .reads .accepted), store-good store (w .checked) .few)
+
+    -- the code's sum for the index's length is a number of 64 bits; so are its parts, below
+    pub whole-fits : length list * 1 < 9223372036854775808 → Fits w64 (8 + length list + 32 * count + size)
+    whole-fits short = omega (arith, count-few, size-few)
 
     pub len-is : 8 + length list + 32 * count + size ≡ length (scanIndex newest list store)
     len-is = omega (arith, e, w .counted, index-length list store (w .checked))
+
+  pub front-fits : length list * 1 < 9223372036854775808 → Fits w64 (8 + length list)
+  front-fits short = omega arith
+
+  pub entries-fit : Fits w64 (32 * count)
+  entries-fit = omega (arith, count-few)
+
+  pub directory-fits : length list * 1 < 9223372036854775808 → Fits w64 (8 + length list + 32 * count)
+  directory-fits short = omega (arith, count-few)

@@ -59,15 +59,15 @@ module _ (list store : List ℕ) where
   unfolding movesWritten
   written-all marks = rw sub-zero
 
-  pub moves-most : (chunk : List ℕ) → length chunk ≤ 65535 → chunkMoves list chunk ≤ 131070
+  pub moves-most : (chunk : List ℕ) → length chunk ≤ 1048576 → chunkMoves list chunk ≤ 2097152
   unfolding chunkMoves
   moves-most chunk h = omega (arith, walks.walk-moves (foldedKeywords list) (folded (flagOf list) chunk), folded-length (flagOf list) chunk)
 
-  pub written-most : (chunk : List ℕ) (mark : ℕ) → length chunk ≤ 65535 → walkedMoves list chunk mark ≤ 131070
+  pub written-most : (chunk : List ℕ) (mark : ℕ) → length chunk ≤ 1048576 → walkedMoves list chunk mark ≤ 2097152
   unfolding walkedMoves
   written-most chunk mark h = go (eqb (mark % 2) 0)
     where
-      go : (b : Bool) → cond b 0 (chunkMoves list chunk) ≤ 131070
+      go : (b : Bool) → cond b 0 (chunkMoves list chunk) ≤ 2097152
       go true = omega arith
       go false = moves-most chunk h
 

@@ -102,23 +102,23 @@ module _ (list store : List ℕ) (good : storeCode store ≡ 0) where
 
   -- each body is short
   module _ (accept : keywordFrontCode list ≡ 0) where
-    pub body-short : (k : ℕ) → k < chunkCount store → length (chunkAt store k) ≤ 65535
+    pub body-short : (k : ℕ) → k < chunkCount store → length (chunkAt store k) ≤ 1048576
     body-short k l = omega (arith, chunk-length store (store-good store good) k l, store-size-most store (store-good store good) k l)
 
-    bodies-short : (n k : ℕ) → n + k ≡ chunkCount store → length (bodiesFrom newest list store k) ≤ 2097264 * n
+    bodies-short : (n k : ℕ) → n + k ≡ chunkCount store → length (bodiesFrom newest list store k) ≤ 50331824 * n
     bodies-short zero k e = omega (arith, ap length (bodies-end newest list store k (omega arith)))
     bodies-short (suc n) k e =
         let one = body-few list (chunkAt store k) accept (body-short k (omega arith)) in
         omega (arith, bodies-length newest list store k (omega arith), one, bodies-short n (k + 1) (omega arith))
 
-    pub bodies-most : length (bodiesFrom newest list store 0) ≤ 2097264 * chunkCount store
+    pub bodies-most : length (bodiesFrom newest list store 0) ≤ 50331824 * chunkCount store
     bodies-most = bodies-short (chunkCount store) 0 (omega arith)
 
   -- and all of them are not longer than the bound: the chunks lie one after the other in the store, so their lengths together are at most its own
   module _ (words : Keywords) (reads : Reads list words) where
     -- what n chunks from place `at` on can take of it, for one keyword
     abbrev share : ℕ → ℕ → ℕ
-    share n at = 9 * n + 2 * (length store - at)
+    share n at = 11 * n + 3 * (length store - at)
 
     bodies-share : (n k at : ℕ) → n + k ≡ chunkCount store → (0 < n → offsetAt storeLayout store k ≡ at)
         → length (bodiesFrom newest list store k) ≤ words .count * share n at
@@ -132,14 +132,14 @@ module _ (list store : List ℕ) (good : storeCode store ≡ 0) where
         let one = body-most list words reads (chunkAt store k) in
         let long = chunk-length store g k l in
         let inside = g .entries .within k (omega arith) (omega arith) .1 in
-        let split : share (suc n) at ≡ (9 + 2 * length (chunkAt store k)) + share n (at + size) = omega (arith, long, inside, o (omega arith)) in
+        let split : share (suc n) at ≡ (11 + 3 * length (chunkAt store k)) + share n (at + size) = omega (arith, long, inside, o (omega arith)) in
         omega (
           arith,
           bodies-length newest list store k l,
           one,
           bodies-share n (k + 1) (at + size) (omega arith) next,
           ap (λ (x : ℕ). words .count * x) split,
-          mul-add (words .count) (9 + 2 * length (chunkAt store k)) (share n (at + size)),
+          mul-add (words .count) (11 + 3 * length (chunkAt store k)) (share n (at + size)),
         )
 
     pub index-most : words .count ≡ countOf list → length (scanIndex newest list store) ≤ mostBytes list store
@@ -147,9 +147,9 @@ module _ (list store : List ℕ) (good : storeCode store ≡ 0) where
     index-most c =
         let first = directoryEnd storeLayout (chunkCount store) in
         let b = bodies-share (chunkCount store) 0 first (omega arith) (store-good store good .entries .first) in
-        let more : words .count * share (chunkCount store) first ≤ words .count * (9 * chunkCount store + 2 * length store) =
+        let more : words .count * share (chunkCount store) first ≤ words .count * (11 * chunkCount store + 3 * length store) =
         mul-le-mul-left (words .count) (omega arith) in
-        omega (arith, index-length, b, more, ap (λ (x : ℕ). x * (9 * chunkCount store + 2 * length store)) c)
+        omega (arith, index-length, b, more, ap (λ (x : ℕ). x * (11 * chunkCount store + 3 * length store)) c)
 
 -- ---- the refusals before 9
 

@@ -30,7 +30,7 @@ tailBytes f list store =
 -- chunk has bytes.
 unfoldable pub mostBytes : List ℕ → List ℕ → ℕ
 mostBytes list store =
-    8 + length list + 32 * chunkCount store + countOf list * (9 * chunkCount store + newest .width * length store)
+    8 + length list + 32 * chunkCount store + countOf list * ((5 + 2 * newest .width) * chunkCount store + newest .width * length store)
 
 -- The moves of the chunks that are walked when the bodies are written, by their marks.
 unfoldable pub movesWritten : List ℕ → List ℕ → List ℕ → ℕ

@@ -1,6 +1,7 @@
 // The scan: it checks a keyword list and a store, and writes the store's match index (document 01, "Notes file" and "Refusals by
-// operation"; request #103). A refusal changes no byte: where the buffer has room whatever the chunks hold, each chunk is walked once and its
-// body written at once; else all are measured first, and those in which a keyword occurs are walked once more.
+// operation"; request #103). A refusal changes no byte: where the buffer has room whatever the chunks hold, each chunk's body is written
+// without being measured first; else all are measured, and only those in which a keyword occurs are walked for writing. Writing walks a chunk of
+// at most 65,536 bytes once and a longer one twice.
 ghost use mathlib.Core.Path.{_≡_};
 ghost use mathlib.Core.Bool.{_&&_};
 ghost use mathlib.Core.List.{[], _∷_};
@@ -19,7 +20,7 @@ ghost use Rattle.scan.specs.Layout.{bodiesFrom, tailBytes, mostBytes, mo
 ghost use Rattle.scan.specs.Layout.{CanPutEntry, CanPutEntries};
 
 // The mark of a match index.
-const MARK: [u8; 4] = [0x44, 0x4D, 0x31, 0x0A];
+const MARK: [u8; 4] = [0x44, 0x4D, 0x32, 0x0A];
 
 // The largest number of 32 bits: offsets in an index have 32.
 const LARGEST: usize = 4294967295;
@@ -262,7 +263,7 @@ fn always_fits(
     ensures { λ r. ⌜ r ≡ (leb (mostBytes (now (list .entry)) (now (store .entry))) room && leb
         (mostBytes (now (list .entry)) (now (store .entry))) 4294967295) ⌝ }
 {
-    let most = 8 + list.len() + 32 * count + words.count * (9 * count + 2 * store.len());
+    let most = 8 + list.len() + 32 * count + words.count * (11 * count + 3 * store.len());
     if room < most {
         return false;
     }
@@ -328,7 +329,7 @@ fn measured(
     spec::Scanned::Done(len, bodies.moves)
 }
 
-// Writes the index in one walk where it fits whatever the chunks hold; else it is measured first. Every mark is odd.
+// Writes the index at once where it fits whatever the chunks hold; else it is measured first. Every mark is odd.
 fn scanned(
     out: &mut [u8],
     list: &[u8],

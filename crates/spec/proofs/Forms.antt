@@ -8,7 +8,7 @@ use lib.ListN.{length, take, getD}
 use Rattle.spec.specs.Bytes.{same}
 use Rattle.spec.specs.Form.{Form, form1, newest, formOf, formatOf, formIn}
 use Rattle.spec.proofs.Same.{same-of}
-use Rattle.spec.proofs.RecordLaws.{FormGood, form1-good}
+use Rattle.spec.proofs.RecordLaws.{FormGood, form1-good, form2-good}
 
 -- ---- an index that has a form's mark is of that form
 
@@ -16,8 +16,10 @@ pub form1-of : (index : List ℕ) → take 4 index ≡ form1 .mark → formOf in
 unfolding formOf
 form1-of index e = rw (same-of (take 4 index) (form1 .mark) e)
 
+-- the newest one's mark is not an older one's
 pub newest-of : (index : List ℕ) → take 4 index ≡ newest .mark → formOf index ≡ newest
-newest-of = form1-of
+unfolding formOf
+newest-of index e = rw e
 
 -- ---- every form
 
@@ -47,7 +49,17 @@ form1-read =
     }
 
 pub newest-read : FormRead newest
-newest-read = form1-read
+newest-read =
+    record {
+      good = form2-good;
+      least = omega arith;
+      wide = omega arith;
+      longest = omega arith;
+      sets = refl;
+      said = refl;
+      digit = omega arith;
+      named = newest-of;
+    }
 
 pub form-read : (index : List ℕ) → FormRead (formOf index)
 unfolding formOf

@@ -11,7 +11,7 @@ use lib.Dec.{eqb, leb, ltb, eqb→eq, leb→le, ltb→lt, leb·zero, eqb·suc-ze
 use lib.ListN.{length, take, drop, getD, length-append, length-drop, take-append-drop}
 use lib.Seq.{take-at, drop-at, drop-drop}
 use Rattle.spec.specs.Bytes.{leValue, leBytes, fieldAt, fieldsOf, fieldsBytes, same, begins, rising, every}
-use Rattle.spec.specs.Form.{Form, form1}
+use Rattle.spec.specs.Form.{Form, form1, form2}
 use Rattle.spec.specs.Records.{MatchRecord, emptyRecord, isEmpty, isTiny, reach, inRange, kindOf, offsetsBytes, fullBytes}
 use Rattle.spec.specs.Records.{tinyBytes, recordBytes, bodyFrom, bodyBytes, readOffsets, readRecord, recordSize, readFrom, readBody, allInRange}
 use Rattle.spec.specs.Records.{goodBody, headBytes}
@@ -50,6 +50,9 @@ pub record FormGood (f : Form) : Type 0 where
 
 pub form1-good : FormGood form1
 form1-good = record { fits = omega arith; apart = λ n. omega arith }
+
+pub form2-good : FormGood form2
+form2-good = record { fits = omega arith; apart = λ n. omega arith }
 
 -- ---- records in range
 

@@ -9,14 +9,13 @@ use native.Mathlib.Omega.{arith}
 use borrow.Author.Tests.{lt-ltb, ltb-false}
 use lib.Dec.{ltb}
 use lib.ListN.{length, take, getD, length-map}
-use Rattle.spec.specs.Bytes.{twice}
+use Rattle.spec.specs.Bytes.{largest32, twice}
 use Rattle.spec.specs.Keywords.{flagOf, folded, foldedKeywords, listSize, keywordCode}
 use Rattle.spec.specs.Directory.{sizeAt}
 use Rattle.spec.specs.Store.{storeLayout, chunkCount, storeKeys, chunkAt, storeCode}
 use Rattle.spec.specs.Form.{Form, newest, formOf}
 use Rattle.spec.specs.Records.{recordOf, recordsOf, readBody, allInRange, goodBody}
 use Rattle.spec.specs.Index.{Entry, indexBytes, listIn, indexLayout, indexKeys, bodyAt, lengthsIn, indexRecords, goodAt, indexCode}
-use Rattle.spec.specs.Recipes.{largest32}
 use Rattle.spec.specs.Scan.{scanRecords, scanBody, scanEntry, scanIndex, scannableCode, scanCode}
 use Rattle.spec.proofs.Codes.{passed, passed-whole, or-left, or-right}
 use Rattle.spec.proofs.Folding.{folded-length}

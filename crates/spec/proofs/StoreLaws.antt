@@ -1,19 +1,112 @@
 -- What the store check's 0 gives: the header, the entries, and of each chunk that it has the length its entry says. Assumes nothing.
-use mathlib.Core.Path.{_≡_}
-use mathlib.Core.Bool.{false, _||_, not}
+use mathlib.Core.Path.{_≡_, refl, sym, ap, _∙_}
+use mathlib.Core.Logic.{⊎-elim}
+use mathlib.Core.Bool.{true, false, _||_, not, or-true}
 use mathlib.Core.List.{List, []}
-use Prim.Native.Nat.{ℕ, _-_, _≤_, _<_}
+use Prim.Native.Nat.{ℕ, zero, suc, _+_, _-_, _≤_, _<_}
 use native.Mathlib.Omega.{arith}
-use borrow.Author.Tests.{ltb-false, not-false}
-use lib.Dec.{ltb}
+use borrow.Author.Tests.{eq-eqb, ne-eqb, eqb-true, eqb-false, lt-ltb, le-ltb, ltb-false, not-false}
+use lib.Dec.{eqb, ltb}
 use lib.ListN.{length, take, getD, length-take, length-drop}
-use Rattle.spec.specs.Bytes.{same, twice}
-use Rattle.spec.specs.Directory.{directoryEnd, sizeAt, entriesCode}
-use Rattle.spec.specs.Store.{storeMark, storeLayout, chunkCount, mostChunks, storeKeys, chunkAt, storeCode}
+use Rattle.spec.specs.Bytes.{largest32, same, twice}
+use Rattle.spec.specs.Directory.{directoryEnd, sizeAt, offsetAt, entriesCode}
+use Rattle.spec.specs.Store.{storeMark, storeLayout, chunkCount, mostChunks, storeKeys, chunkAt, chunkEnd, chunksCode, storeCode}
 use Rattle.spec.specs.Form.{newest}
-use Rattle.spec.proofs.Codes.{passed, passed-whole, or-left, or-right}
-use Rattle.spec.proofs.EntryLaws.{Entries, entries-good, length-keysIn, keyIn-length}
+use Rattle.spec.proofs.Codes.{passed, passed-whole, last-whole, or-left, or-right}
+use Rattle.spec.proofs.EntryLaws.{Entries, entries-good, entries-more, length-keysIn, keyIn-length}
 use Rattle.spec.proofs.Same.{same-eq}
+use Rattle.spec.proofs.Tests.{le-or-lt}
+
+-- ---- the entries, test by test
+
+module _ (store : List ℕ) where
+  abbrev size : ℕ → ℕ
+  size k = sizeAt storeLayout store k
+
+  abbrev offset : ℕ → ℕ
+  offset k = offsetAt storeLayout store k
+
+  pub chunks-none : (n k at : ℕ) → size k ≡ 0 → chunksCode store (suc n) k at ≡ 7
+  chunks-none n k at e = rw (eq-eqb (size k) 0 e)
+
+  pub chunks-long : (n k at : ℕ) → newest .longestChunk < size k → chunksCode store (suc n) k at ≡ 7
+  chunks-long n k at h = rw (lt-ltb (newest .longestChunk) (size k) h, or-true)
+
+  module _ (n k at : ℕ) (low : 1 ≤ size k) (high : size k ≤ newest .longestChunk) where
+    pub chunks-gap : (offset k ≡ at → ⊥) → chunksCode store (suc n) k at ≡ 7
+    chunks-gap d = rw (ne-eqb (size k) 0 (λ z. omega arith), le-ltb (newest .longestChunk) (size k) high, ne-eqb (offset k) at d)
+
+    module _ (e : offset k ≡ at) where
+      pub chunks-beyond : largest32 < chunkEnd store k → chunksCode store (suc n) k at ≡ 20
+      chunks-beyond h =
+          rw (
+            ne-eqb (size k) 0 (λ z. omega arith),
+            le-ltb (newest .longestChunk) (size k) high,
+            eq-eqb (offset k) at e,
+            lt-ltb largest32 (chunkEnd store k) h,
+          )
+
+      pub chunks-more : chunkEnd store k ≤ largest32 → chunksCode store (suc n) k at ≡ chunksCode store n (suc k) (chunkEnd store k)
+      chunks-more h =
+          rw (
+            ne-eqb (size k) 0 (λ z. omega arith),
+            le-ltb (newest .longestChunk) (size k) high,
+            eq-eqb (offset k) at e,
+            le-ltb largest32 (chunkEnd store k) h,
+          )
+          (last-whole (chunksCode store n (suc k) (chunkEnd store k)))
+
+  pub chunks-short : (k at : ℕ) → (at ≡ length store → ⊥) → chunksCode store 0 k at ≡ 7
+  chunks-short k at d = rw (ne-eqb at (length store) d)
+
+  pub chunks-end : (k at : ℕ) → at ≡ length store → chunksCode store 0 k at ≡ 0
+  chunks-end k at e = rw (eq-eqb at (length store) e)
+
+  -- what an accepted entry is: its length in range, its offset the end before, its end within 32 bits; and the others are accepted
+  pub record Passed (n k at : ℕ) : Type 0 where
+    pub low : 1 ≤ size k
+    pub high : size k ≤ newest .longestChunk
+    pub place : offset k ≡ at
+    pub below : chunkEnd store k ≤ largest32
+    pub others : chunksCode store n (suc k) (chunkEnd store k) ≡ 0
+
+  pub chunks-step : (n k at : ℕ) → chunksCode store (suc n) k at ≡ 0 → Passed n k at
+  chunks-step n k at z =
+      let a = passed (eqb (size k) 0 || ltb (newest .longestChunk) (size k)) 7 _ (omega arith) z in
+      let b = passed (not (eqb (offset k) at)) 7 _ (omega arith) (a .1) in
+      let c = passed (ltb largest32 (chunkEnd store k)) 20 _ (omega arith) (b .1) in
+      record {
+        low = positive (size k) (eqb-false (size k) 0 (or-left (eqb (size k) 0) _ (a .0)));
+        high = ltb-false (newest .longestChunk) (size k) (or-right (eqb (size k) 0) _ (a .0));
+        place = eqb-true (offset k) at (not-false (eqb (offset k) at) (b .0));
+        below = ltb-false largest32 (chunkEnd store k) (c .0);
+        others = passed-whole (chunksCode store n (suc k) (chunkEnd store k)) 0 (c .1) .0;
+      }
+    where
+      positive : (m : ℕ) → (m ≡ 0 → ⊥) → 1 ≤ m
+      positive zero h = absurd (h refl)
+      positive (suc m) h = omega arith
+
+  pub chunks-last : (k at : ℕ) → chunksCode store 0 k at ≡ 0 → at ≡ length store
+  chunks-last k at z = eqb-true at (length store) (not-false (eqb at (length store)) (passed (not (eqb at (length store))) 7 0 (omega arith) z .0))
+
+  -- ---- all of them
+
+  -- they lie without gaps, as the entries of an index do
+  pub chunks-gapless : (n k at : ℕ) → chunksCode store n k at ≡ 0 → entriesCode storeLayout store (newest .longestChunk) 7 n k at ≡ 0
+  chunks-gapless zero k at z = z
+  chunks-gapless (suc n) k at z =
+      let s = chunks-step n k at z in
+      entries-more storeLayout store (newest .longestChunk) 7 n k at (s .low) (s .high) (s .place)
+      ∙ ap (λ (o : ℕ). entriesCode storeLayout store (newest .longestChunk) 7 n (suc k) (o + size k)) (sym (s .place))
+      ∙ chunks-gapless n (suc k) (chunkEnd store k) (s .others)
+
+  -- and end within 32 bits
+  pub chunks-below : (n k at : ℕ) → at ≤ largest32 → chunksCode store n k at ≡ 0 → length store ≤ largest32
+  chunks-below zero k at h z = omega (arith, chunks-last k at z)
+  chunks-below (suc n) k at h z = let s = chunks-step n k at z in chunks-below n (suc k) (chunkEnd store k) (s .below) (s .others)
+
+-- ---- the whole check
 
 pub record StoreGood (store : List ℕ) : Type 0 where
   pub header : 8 ≤ length store
@@ -21,6 +114,8 @@ pub record StoreGood (store : List ℕ) : Type 0 where
   pub few : chunkCount store ≤ mostChunks
   pub room : directoryEnd storeLayout (chunkCount store) ≤ length store
   pub entries : Entries storeLayout store (newest .longestChunk) (chunkCount store) 0 (directoryEnd storeLayout (chunkCount store))
+  -- no chunk, and so no store, ends beyond 32 bits
+  pub short : length store ≤ largest32
   pub differ : twice (storeKeys store) ≡ false
 
 pub store-good : (store : List ℕ) → storeCode store ≡ 0 → StoreGood store
@@ -28,14 +123,17 @@ unfolding storeCode
 store-good store e =
     let a = passed (ltb (length store) 8 || not (same (take 4 store) storeMark)) 5 _ (omega arith) e in
     let b = passed (ltb mostChunks (chunkCount store) || ltb (length store) (directoryEnd storeLayout (chunkCount store))) 6 _ (omega arith) (a .1) in
-    let c = passed-whole (entriesCode storeLayout store (newest .longestChunk) 7 (chunkCount store) 0 (directoryEnd storeLayout (chunkCount store))) _ (b .1) in
+    let c = passed-whole (chunksCode store (chunkCount store) 0 (directoryEnd storeLayout (chunkCount store))) _ (b .1) in
     let d = passed (twice (storeKeys store)) 8 _ (omega arith) (c .1) in
+    let few : chunkCount store ≤ mostChunks = ltb-false mostChunks (chunkCount store) (or-left (ltb mostChunks (chunkCount store)) _ (b .0)) in
     record {
       header = ltb-false (length store) 8 (or-left (ltb (length store) 8) _ (a .0));
       mark = same-eq (take 4 store) storeMark (not-false (same (take 4 store) storeMark) (or-right (ltb (length store) 8) _ (a .0)));
-      few = ltb-false mostChunks (chunkCount store) (or-left (ltb mostChunks (chunkCount store)) _ (b .0));
+      few = few;
       room = ltb-false (length store) (directoryEnd storeLayout (chunkCount store)) (or-right (ltb mostChunks (chunkCount store)) _ (b .0));
-      entries = entries-good storeLayout store (newest .longestChunk) 7 (omega arith) (chunkCount store) 0 (directoryEnd storeLayout (chunkCount store)) (c .0);
+      entries = entries-good storeLayout store (newest .longestChunk) 7 (omega arith) (chunkCount store) 0 (directoryEnd storeLayout (chunkCount store))
+          (chunks-gapless store (chunkCount store) 0 (directoryEnd storeLayout (chunkCount store)) (c .0));
+      short = chunks-below store (chunkCount store) 0 (directoryEnd storeLayout (chunkCount store)) (omega (arith, few)) (c .0);
       differ = d .0;
     }
 

@@ -26,6 +26,10 @@ unfoldable pub leBytes : ℕ → ℕ → List ℕ
 leBytes zero n = []
 leBytes (suc width) n = n % 256 ∷ leBytes width (n / 256)
 
+-- The largest number of 4 bytes: no file is longer, no index, and no chunk of a store ends behind it.
+abbrev pub largest32 : ℕ
+largest32 = 4294967295
+
 -- The field of `width` bytes at `at`.
 abbrev pub fieldAt : List ℕ → ℕ → ℕ → ℕ
 fieldAt bytes at width = leValue (part bytes at width)

@@ -25,9 +25,13 @@ pub record Form : Type 0 where
 abbrev pub form1 : Form
 form1 = record { mark = 0x44 ∷ 0x4D ∷ 0x31 ∷ 0x0A ∷ []; width = 2; longestChunk = 65535; tinyMost = λ n. 1; tinyStep = 2; sets = false }
 
+-- Request #105's form: mark 44 4D 32 0A, fields of 3 bytes, L at most 1,048,576.
+abbrev pub form2 : Form
+form2 = record { mark = 0x44 ∷ 0x4D ∷ 0x32 ∷ 0x0A ∷ []; width = 3; longestChunk = 1048576; tinyMost = λ n. 1; tinyStep = 2; sets = false }
+
 -- The form that a scan writes.
 abbrev pub newest : Form
-newest = form1
+newest = form2
 
 -- The form that an index's mark names. With a mark that names none it is the newest, by which the index check then refuses.
 unfoldable pub formOf : List ℕ → Form

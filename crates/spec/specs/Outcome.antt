@@ -82,6 +82,10 @@ listTooLong = 18
 abbrev pub fingerprintLength : ℕ
 fingerprintLength = 19
 
+-- An entry of the store ends beyond 4,294,967,295 (request #105).
+abbrev pub storeEntryBeyond : ℕ
+storeEntryBeyond = 20
+
 -- ---- tests in their order
 
 -- One test of an operation: a condition, and the number that refuses where it holds.

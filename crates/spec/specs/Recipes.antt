@@ -4,7 +4,7 @@ use mathlib.Core.List.{List, [], _∷_, _++_, map}
 use Prim.Native.Nat.{ℕ, zero, suc, _+_, _*_, _-_}
 use lib.ListN.{length, drop}
 use lib.Dec.{leb, ltb}
-use Rattle.spec.specs.Bytes.{leBytes, fieldAt, contains, positionOf, every, sum, joined, same}
+use Rattle.spec.specs.Bytes.{largest32, leBytes, fieldAt, contains, positionOf, every, sum, joined, same}
 use Rattle.spec.specs.Outcome.{firstOf, firstCode, recipesWrong, notFound, fileTooLong, innerChunkShort}
 use Rattle.spec.specs.Directory.{keysOf}
 
@@ -23,10 +23,6 @@ fileCount recipes = fieldAt recipes 0 4
 
 abbrev pub mostFiles : ℕ
 mostFiles = 65535
-
--- The largest number of 4 bytes: no file is longer, and no index.
-abbrev pub largest32 : ℕ
-largest32 = 4294967295
 
 -- For each file its chunk count (4) and that many fingerprints (20 each); nothing is cut short and nothing is left over.
 abbrev pub filesWhole : ℕ → List ℕ → Bool

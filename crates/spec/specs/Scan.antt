@@ -8,7 +8,7 @@ use Rattle.spec.specs.declared.Outcome.{Outcome}
 use Rattle.spec.specs.declared.Outcome.the-variants as outcome
 use Rattle.spec.specs.declared.Scanned.{Scanned}
 use Rattle.spec.specs.declared.Scanned.the-variants.{Done, Refused}
-use Rattle.spec.specs.Bytes.{written, each}
+use Rattle.spec.specs.Bytes.{largest32, written, each}
 use Rattle.spec.specs.Outcome.{firstOf, whole, answer, unlessRefused, indexTooLong}
 use Rattle.spec.specs.Keywords.{flagOf, folded, foldedKeywords, keywordCode}
 use Rattle.spec.specs.Directory.{sizeAt}
@@ -16,7 +16,6 @@ use Rattle.spec.specs.Store.{storeLayout, chunkCount, storeKeys, chunkAt
 use Rattle.spec.specs.Form.{Form}
 use Rattle.spec.specs.Records.{recordsOf, ChunkRecords, bodyBytes}
 use Rattle.spec.specs.Index.{Entry, indexBytes}
-use Rattle.spec.specs.Recipes.{largest32}
 use Rattle.spec.specs.Trie.{scanMoves}
 
 -- The records of a chunk, as keywords and chunk compare.

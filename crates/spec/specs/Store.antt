@@ -1,12 +1,12 @@
 -- Stores: document 01, "Store".
 use mathlib.Core.Bool.{Bool, true, false, _||_, not}
 use mathlib.Core.List.{List, [], _∷_, _++_, map}
-use Prim.Native.Nat.{ℕ, _+_, _*_}
+use Prim.Native.Nat.{ℕ, zero, suc, _+_, _*_}
 use lib.ListN.{length, take, drop}
-use lib.Dec.{ltb}
-use Rattle.spec.specs.Bytes.{leBytes, fieldAt, same, twice, each, joined}
-use Rattle.spec.specs.Outcome.{firstOf, whole, storeMarkWrong, storeDirectoryCut, storeEntryWrong, storeDuplicate}
-use Rattle.spec.specs.Directory.{Layout, directoryEnd, sizeAt, pointedAt, keysIn, entriesCode}
+use lib.Dec.{eqb, ltb}
+use Rattle.spec.specs.Bytes.{largest32, leBytes, fieldAt, same, twice, each, joined}
+use Rattle.spec.specs.Outcome.{firstOf, whole, storeMarkWrong, storeDirectoryCut, storeEntryWrong, storeDuplicate, storeEntryBeyond}
+use Rattle.spec.specs.Directory.{Layout, directoryEnd, sizeAt, offsetAt, pointedAt, keysIn}
 use Rattle.spec.specs.Form.{newest}
 
 -- 44 56 31 0A
@@ -58,11 +58,27 @@ chunksOf store = each (λ k. chunkAt store k ∷ []) 0 (chunkCount store)
 
 -- ---- the store check
 
+-- Where the chunk of entry k ends.
+abbrev pub chunkEnd : List ℕ → ℕ → ℕ
+chunkEnd store k = offsetAt storeLayout store k + sizeAt storeLayout store k
+
+-- Entry by entry, n of them from entry k on: a length L out of range, an offset that is not where the one before ended (`at`), an end beyond
+-- 4,294,967,295 (request #105); then a last end that is not the end of the store.
+abbrev pub chunksCode : List ℕ → ℕ → ℕ → ℕ → ℕ
+chunksCode store zero k at = firstOf ((not (eqb at (length store)), storeEntryWrong) ∷ [])
+chunksCode store (suc n) k at =
+    firstOf
+    ((eqb (sizeAt storeLayout store k) 0 || ltb (newest .longestChunk) (sizeAt storeLayout store k), storeEntryWrong)
+    ∷ (not (eqb (offsetAt storeLayout store k) at), storeEntryWrong)
+    ∷ (ltb largest32 (chunkEnd store k), storeEntryBeyond)
+    ∷ whole (chunksCode store n (suc k) (chunkEnd store k))
+    ∷ [])
+
 unfoldable pub storeCode : List ℕ → ℕ
 storeCode store =
     firstOf
     ((ltb (length store) 8 || not (same (take 4 store) storeMark), storeMarkWrong)
     ∷ (ltb mostChunks (chunkCount store) || ltb (length store) (directoryEnd storeLayout (chunkCount store)), storeDirectoryCut)
-    ∷ whole (entriesCode storeLayout store (newest .longestChunk) storeEntryWrong (chunkCount store) 0 (directoryEnd storeLayout (chunkCount store)))
+    ∷ whole (chunksCode store (chunkCount store) 0 (directoryEnd storeLayout (chunkCount store)))
     ∷ (twice (storeKeys store), storeDuplicate)
     ∷ [])

@@ -9,10 +9,11 @@ use native.Mathlib.Omega.{arith}
 use borrow.Author.Tests.{ne-eqb, lt-ltb, le-ltb}
 use lib.Dec.{eqb, ltb}
 use lib.ListN.{length, getD, take, drop}
-use Rattle.spec.specs.Bytes.{part, same, twice, positionOf, written}
+use Rattle.spec.specs.Bytes.{largest32, part, same, twice, positionOf, written}
 use Rattle.spec.specs.Outcome.{firstOf, whole}
-use Rattle.spec.specs.Directory.{Layout, entriesCode, sizeAt, offsetAt, lengthAt}
-use Rattle.spec.specs.Store.{storeMark, storeLayout, storeKeys, storeCode, chunkCount, chunkAt}
+use Rattle.spec.specs.Directory.{sizeAt, offsetAt, lengthAt}
+use Rattle.spec.specs.Store.{storeMark, storeLayout, storeKeys, chunksCode, storeCode, chunkCount, chunkAt, chunkEnd}
+use Rattle.spec.specs.Form.{newest}
 use Rattle.spec.specs.Lookup.{findChunk, chunkStart, chunkLength, chunkOf}
 use Rattle.spec.proofs.Codes.{refused-whole}
 use Rattle.spec.proofs.EntryLaws.{keyIn-at}
@@ -24,25 +25,24 @@ use Rattle.store.specs.Examined.{examinedChains, StoreEntry, Findable}
 
 -- ---- the numbers of the entries
 
-one-number : (a : Bool) (code : ℕ) → cond a code 0 ≢ 0 → cond a code 0 ≡ code
-one-number true code h = refl
-one-number false code h = absurd (h refl)
+last-not-8 : (a : Bool) → _≢_ {A = ℕ} (cond a 7 0) 8
+last-not-8 true e = omega arith
+last-not-8 false e = omega arith
 
-next-number : (a b : Bool) (code x : ℕ) → (x ≢ 0 → x ≡ code) → cond a code (cond b code (cond (ltb 0 x) x 0)) ≢ 0
-    → cond a code (cond b code (cond (ltb 0 x) x 0)) ≡ code
-next-number true b code x e h = refl
-next-number false true code x e h = refl
-next-number false false code zero e h = absurd (h refl)
-next-number false false code (suc x) e h = rw (lt-ltb 0 (suc x) (omega arith)) (e (λ z. omega arith))
+next-not-8 : (a b c : Bool) (x : ℕ) → x ≢ 8 → cond a 7 (cond b 7 (cond c 20 (cond (ltb 0 x) x 0))) ≢ 8
+next-not-8 true b c x h e = omega arith
+next-not-8 false true c x h e = omega arith
+next-not-8 false false true x h e = omega arith
+next-not-8 false false false zero h e = h e
+next-not-8 false false false (suc x) h e = h (rw (lt-ltb 0 (suc x) (omega arith)) at e)
 
--- the check of entries refuses with one number
-entries-number : (layout : Layout) (bytes : List ℕ) (most code n k at : ℕ) → entriesCode layout bytes most code n k at ≢ 0
-    → entriesCode layout bytes most code n k at ≡ code
-entries-number layout bytes most code zero k at h = one-number (not (eqb at (length bytes))) code h
-entries-number layout bytes most code (suc n) k at h =
-    next-number (eqb (sizeAt layout bytes k) 0 || ltb most (sizeAt layout bytes k)) (not (eqb (offsetAt layout bytes k) at)) code
-    (entriesCode layout bytes most code n (suc k) (at + lengthAt layout bytes k))
-    (entries-number layout bytes most code n (suc k) (at + lengthAt layout bytes k)) h
+-- none is that of a duplicate
+chunks-not-8 : (store : List ℕ) (n k at : ℕ) → chunksCode store n k at ≢ 8
+chunks-not-8 store zero k at = last-not-8 (not (eqb at (length store)))
+chunks-not-8 store (suc n) k at =
+    next-not-8 (eqb (sizeAt storeLayout store k) 0 || ltb (newest .longestChunk) (sizeAt storeLayout store k))
+    (not (eqb (offsetAt storeLayout store k) at)) (ltb largest32 (chunkEnd store k)) (chunksCode store n (suc k) (chunkEnd store k))
+    (chunks-not-8 store n (suc k) (chunkEnd store k))
 
 -- ---- the store check
 
@@ -50,10 +50,10 @@ entries-number layout bytes most code (suc n) k at h =
 abbrev pub Told : List ℕ → List ℕ → List ℕ → ℕ → Type 0
 Told store chains₀ chains code = (code ≡ storeCode store) × (chains ≡ examinedChains store chains₀)
 
--- refused before 8: the array is as it was
-pub refused-early : (store chains : List ℕ) (code : ℕ) → code ≡ storeCode store → 0 < code → code < 8 → Told store chains chains code
+-- refused before the fingerprints are compared: the array is as it was
+pub refused-early : (store chains : List ℕ) (code : ℕ) → code ≡ storeCode store → code ≢ 0 → code ≢ 8 → Told store chains chains code
 unfolding examinedChains
-refused-early store chains code e p q = (e, rw (← e, ne-eqb code 0 (λ z. omega arith), ne-eqb code 8 (λ z. omega arith)))
+refused-early store chains code e p q = (e, rw (← e, ne-eqb code 0 p, ne-eqb code 8 q))
 
 pub short : (store : List ℕ) → length store < 8 → 5 ≡ storeCode store
 unfolding storeCode
@@ -80,22 +80,20 @@ module _ (store : List ℕ) (a : 8 ≤ length store) (m : same (take 4 store) st
 
   -- the header is good: what is left are the entries and the fingerprints
   rest : c ≤ 65000 → 8 + 28 * c ≤ length store → storeCode store ≡ firstOf
-      (whole (entriesCode storeLayout store 65535 7 c 0 (8 + 28 * c)) ∷ (twice (keysFrom store 8 28 c), 8) ∷ [])
+      (whole (chunksCode store c 0 (8 + 28 * c)) ∷ (twice (keysFrom store 8 28 c), 8) ∷ [])
   unfolding storeCode storeKeys
   rest h l =
       rw (e, le-ltb (length store) 8 a, m, le-ltb 65000 (chunkCount store) (rw (← e) h), le-ltb (length store) (8 + 28 * chunkCount store) (rw (← e) l))
 
   -- a wrong entry
-  pub wrong : c ≤ 65000 → 8 + 28 * c ≤ length store → (chains : List ℕ) (code : ℕ) → code ≡ entriesCode storeLayout store 65535 7 c 0 (8 + 28 * c) → code ≢ 0
+  pub wrong : c ≤ 65000 → 8 + 28 * c ≤ length store → (chains : List ℕ) (code : ℕ) → code ≡ chunksCode store c 0 (8 + 28 * c) → code ≢ 0
       → Told store chains chains code
   wrong h l chains code q d =
-      let z : entriesCode storeLayout store 65535 7 c 0 (8 + 28 * c) ≢ 0 = λ z. d (q ∙ z) in
-      let n = entries-number storeLayout store 65535 7 c 0 (8 + 28 * c) z in
       refused-early store chains code
-      (q ∙ refused-whole (entriesCode storeLayout store 65535 7 c 0 (8 + 28 * c)) _ z ∙ sym (rest h l)) (omega arith) (omega arith)
+      (q ∙ refused-whole (chunksCode store c 0 (8 + 28 * c)) _ (λ z. d (q ∙ z)) ∙ sym (rest h l)) d (λ z. chunks-not-8 store c 0 (8 + 28 * c) (sym q ∙ z))
 
   -- the directory is whole, and the crate below built the chains
-  module _ (h : c ≤ 65000) (l : 8 + 28 * c ≤ length store) (n : ℕ) (q : n ≡ entriesCode storeLayout store 65535 7 c 0 (8 + 28 * c)) (z : n ≡ 0)
+  module _ (h : c ≤ 65000) (l : 8 + 28 * c ≤ length store) (n : ℕ) (q : n ≡ chunksCode store c 0 (8 + 28 * c)) (z : n ≡ 0)
       (chains₀ chains : List ℕ) (t : Bool) (b : Built (keysFrom store 8 28 c) chains₀ chains t) where
     number : storeCode store ≡ cond t 8 0
     number = rest h l ∙ rw (← q, z, ← b .0)

@@ -15,7 +15,9 @@ use tests_runs::runs::checks;
 use tests_runs::runs::join_runs;
 use tests_runs::runs::scan_runs;
 use tests_runs::runs::search_runs;
+use tests_vaults::encode::NEW;
 use tests_vaults::encode::encode;
+use tests_vaults::encode::put_index;
 use tests_vaults::fill::put_invented;
 use tests_vaults::fill::put_scanned;
 use tests_vaults::fill::put_torn;
@@ -23,6 +25,7 @@ use tests_vaults::lanes::make_long;
 use tests_vaults::make::make;
 use tests_vaults::small::told;
 use tests_vaults::small::told_moves;
+use tests_wide::marks::put_bordered;
 
 // Every operation on a case.
 fn run_all(counts: &mut [u64], f: &[u8], n: usize, buffer: &mut [u8]) {
@@ -82,11 +85,13 @@ fn run_index(counts: &mut [u64], f: &[u8], n: usize, buffer: &mut [u8]) {
     join_runs(counts, f, buffer);
 }
 
-// Vault number n with made-up records, joined; the plain join gives the list.
+// Vault number n with made-up records, joined under the old mark and under the new one; the plain join gives the list.
 pub(crate) fn invented(counts: &mut [u64], n: usize, f: &mut [u8], buffer: &mut [u8]) {
     let mut m = case::room();
     make(&mut m, n);
     put_invented(f, &mut m, n);
+    run_index(counts, f, n, buffer);
+    put_index(f, NEW, &m);
     run_index(counts, f, n, buffer);
     see(counts, &m, f);
     bump(counts, tally::CASES);
@@ -106,7 +111,20 @@ pub(crate) fn torn(counts: &mut [u64], n: usize, f: &mut [u8], buffer: &mut [u8]
     let mut m = case::room();
     make(&mut m, n);
     note_all(&mut m);
-    encode(f, &m);
+    encode(f, NEW, &m);
     put_torn(f, next((n % 1000000) as u64 + 5));
     run_torn(counts, f, n, buffer);
+}
+
+// Index number n at the borders of the marks; m is the small vault.
+pub(crate) fn bordered(
+    counts: &mut [u64],
+    n: usize,
+    m: &mut [u8],
+    f: &mut [u8],
+    buffer: &mut [u8],
+) {
+    put_bordered(f, m, n);
+    run_index(counts, f, n, buffer);
+    bump(counts, tally::CASES);
 }

@@ -5,6 +5,8 @@ use tests_runs::runs::checks;
 use tests_runs::runs::join_runs;
 use tests_runs::runs::scan_runs;
 use tests_runs::runs::search_runs;
+use tests_vaults::encode::NEW;
+use tests_vaults::encode::OLD;
 use tests_vaults::fill::put_damaged;
 use tests_vaults::fill::settle_all;
 
@@ -24,8 +26,24 @@ pub(crate) fn pair(
     f: &mut [u8],
     buffer: &mut [u8],
 ) {
-    put_damaged(f, m, i, j);
-    settle_all(f, i, j);
+    put_damaged(f, NEW, m, i, j);
+    settle_all(f, NEW, i, j);
     run_damaged(counts, f, buffer);
+    bump(counts, tally::CASES);
+}
+
+// Every check and join of them, with the index under the old mark.
+pub(crate) fn old_pair(
+    counts: &mut [u64],
+    i: usize,
+    j: usize,
+    m: &[u8],
+    f: &mut [u8],
+    buffer: &mut [u8],
+) {
+    put_damaged(f, OLD, m, i, j);
+    settle_all(f, OLD, i, j);
+    checks(counts, f);
+    join_runs(counts, f, buffer);
     bump(counts, tally::CASES);
 }

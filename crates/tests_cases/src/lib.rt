@@ -5,3 +5,4 @@ mod damaged;
 pub mod limits;
 pub mod orders;
 pub mod vaults;
+pub mod wide;

@@ -1,19 +1,31 @@
-// The longest file: 65,537 chunks of 65,535 bytes have 4,294,967,295 bytes, and one chunk more is refused with 16; and the order of 15, 16
-// and 17 in such a file.
+// The longest file: 65,537 chunks of 65,535 bytes have 4,294,967,295 bytes, and one chunk more is refused with 16, as 4,096 chunks of 1,048,576
+// bytes are; and the order of 15, 16 and 17 in such a file.
 use tests_plain::bytes::part;
+use tests_plain::bytes::plus;
 use tests_report::report::report_cases;
 use tests_report::tally;
 use tests_report::tally::bump;
 use tests_report::tally::compared;
 use tests_runs::runs::code_of;
+use tests_vaults::encode::NEW;
+use tests_vaults::encode::OLD;
 use tests_vaults::long::put_long_index;
 use tests_vaults::long::put_long_recipes;
 use tests_vaults::long::room;
 
-// The count and the join of such a file; chunk 2 is not in the index.
-fn long_file(counts: &mut [u64], recipes: &mut [u8], n: usize, c: usize, expected: u8) {
+// The count and the join of a file that names chunk 0 n times, with chunk c at the second place; chunk 2 is not in the index. The index has
+// chunk 0 of `size` bytes and a mark.
+fn long_file(
+    counts: &mut [u64],
+    recipes: &mut [u8],
+    form: usize,
+    size: usize,
+    n: usize,
+    c: usize,
+    expected: u8,
+) {
     let mut index = [0u8; 78];
-    put_long_index(&mut index);
+    put_long_index(&mut index, form, size);
     put_long_recipes(recipes, n, c);
     let r = part(recipes, 0, 8 + 20 * (n % 70000));
     count_and_join(counts, &index, r, expected);
@@ -28,12 +40,28 @@ fn count_and_join(counts: &mut [u64], index: &[u8], recipes: &[u8], expected: u8
     bump(counts, tally::CASES);
 }
 
+// `most` chunks of `size` bytes have at most 4,294,967,295, and one chunk more has more.
+fn around(counts: &mut [u64], recipes: &mut [u8], form: usize, size: usize, most: usize) {
+    long_file(counts, recipes, form, size, most, 0, 0);
+    long_file(counts, recipes, form, size, plus(most, 1), 0, 16);
+}
+
+// The same with another chunk at the second place.
+fn broken(counts: &mut [u64], recipes: &mut [u8], form: usize, size: usize, most: usize) {
+    long_file(counts, recipes, form, size, plus(most, 2), 1, 16);
+    long_file(counts, recipes, form, size, most, 1, 17);
+    long_file(counts, recipes, form, size, plus(most, 1), 2, 15);
+}
+
+fn both(counts: &mut [u64], recipes: &mut [u8], form: usize, size: usize, most: usize) {
+    around(counts, recipes, form, size, most);
+    broken(counts, recipes, form, size, most);
+}
+
 pub fn longest(counts: &mut [u64]) {
     let mut recipes = room();
-    long_file(counts, &mut recipes, 65537, 0, 0);
-    long_file(counts, &mut recipes, 65538, 0, 16);
-    long_file(counts, &mut recipes, 65539, 1, 16);
-    long_file(counts, &mut recipes, 65537, 1, 17);
-    long_file(counts, &mut recipes, 65538, 2, 15);
+    both(counts, &mut recipes, OLD, 65535, 65537);
+    both(counts, &mut recipes, NEW, 65535, 65537);
+    both(counts, &mut recipes, NEW, 1048576, 4095);
     report_cases(b"files at the longest length", counts);
 }

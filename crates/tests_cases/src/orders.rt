@@ -77,11 +77,12 @@ fn put_chunk(g: &mut [u8], f: &[u8], p: usize, c: usize, at: usize) -> usize {
     let from = case::store_entry(c);
     let to = case::store_entry(p);
     let size = get_4(f, plus(from, 24));
-    let start = case::place_of(1, get_4(f, plus(from, 20)));
+    let start = case::place_of(f, 1, get_4(f, plus(from, 20)));
+    let end = case::place_of(g, 1, at);
     copy(g, to, f, from, 20);
     put_4(g, plus(to, 20), at);
     put_4(g, plus(to, 24), size);
-    copy(g, case::place_of(1, at), f, start, size);
+    copy(g, end, f, start, size);
     plus(at, size)
 }
 
@@ -97,7 +98,7 @@ fn reorder(g: &mut [u8], f: &[u8], way: usize, n: usize, seed: u64) {
     let mut order = [0u8; 16];
     put_order(&mut order, way, n);
     shuffle_if(&mut order, way, n, seed);
-    copy(g, 0, f, 0, case::row_at(0));
+    copy(g, 0, f, 0, case::row_at(f, 0));
     put_chunks(g, f, &order, n);
 }
 

@@ -6,14 +6,16 @@ use tests_report::report;
 use tests_report::report::report_cases;
 use tests_report::report::report_kinds;
 use tests_report::tally::expect;
+use tests_vaults::faults;
 use tests_vaults::lanes;
 use tests_vaults::small;
+use tests_wide::marks;
 
 const SCANNED: usize = 2400;
 
 const INVENTED: usize = 1200;
 
-const PAIRS: usize = 3600;
+const PAIRS: usize = 3844;
 
 // Vault number i, scanned, joined and searched.
 fn run_scanned(counts: &mut [u64], f: &mut [u8], buffer: &mut [u8]) {
@@ -39,11 +41,27 @@ fn run_torn(counts: &mut [u64], f: &mut [u8], buffer: &mut [u8]) {
     }
 }
 
-// Every two faults, and every fault alone: pair number t is of faults t / 60 and t % 60.
+// Every two faults, and every fault alone: pair number t is of faults t / 62 and t % 62.
 fn run_faults(counts: &mut [u64], m: &[u8], f: &mut [u8], buffer: &mut [u8]) {
     let n = PAIRS;
     for t in 0..n {
-        damaged::pair(counts, t / 60, t % 60, m, f, buffer);
+        damaged::pair(counts, t / faults::ALL, t % faults::ALL, m, f, buffer);
+    }
+}
+
+// The same with the index under the old mark.
+fn run_old(counts: &mut [u64], m: &[u8], f: &mut [u8], buffer: &mut [u8]) {
+    let n = PAIRS;
+    for t in 0..n {
+        damaged::old_pair(counts, t / faults::ALL, t % faults::ALL, m, f, buffer);
+    }
+}
+
+// Indexes at the borders of the marks.
+fn run_bordered(counts: &mut [u64], m: &mut [u8], f: &mut [u8], buffer: &mut [u8]) {
+    let n = marks::ALL;
+    for i in 0..n {
+        cases::bordered(counts, i, m, f, buffer);
     }
 }
 
@@ -68,7 +86,10 @@ fn generated(counts: &mut [u64], f: &mut [u8], buffer: &mut [u8]) {
     report_cases(b"vaults scanned, joined and searched", counts);
     report_kinds(counts);
     run_invented(counts, f, buffer);
-    report_cases(b"indexes of made-up records joined", counts);
+    report_cases(
+        b"indexes of made-up records joined, under both marks",
+        counts,
+    );
     report_kinds(counts);
 }
 
@@ -94,11 +115,27 @@ fn small(counts: &mut [u64], m: &mut [u8], f: &mut [u8], buffer: &mut [u8]) {
     report_cases(b"the small vault", counts);
 }
 
+// The small vault with faults, its index under both marks; m is the small vault.
+fn damaged_all(counts: &mut [u64], m: &[u8], f: &mut [u8], buffer: &mut [u8]) {
+    run_faults(counts, m, f, buffer);
+    report_cases(b"pairs of faults in it", counts);
+    run_old(counts, m, f, buffer);
+    report_cases(
+        b"pairs of faults in it, its index under the old mark",
+        counts,
+    );
+}
+
+fn bordered_all(counts: &mut [u64], m: &mut [u8], f: &mut [u8], buffer: &mut [u8]) {
+    run_bordered(counts, m, f, buffer);
+    report_cases(b"indexes at the borders of the two marks", counts);
+}
+
 fn faulty(counts: &mut [u64], f: &mut [u8], buffer: &mut [u8]) {
     let mut m = case::room();
     small(counts, &mut m, f, buffer);
-    run_faults(counts, &m, f, buffer);
-    report_cases(b"pairs of faults in it", counts);
+    damaged_all(counts, &m, f, buffer);
+    bordered_all(counts, &mut m, f, buffer);
 }
 
 fn all(counts: &mut [u64], f: &mut [u8], buffer: &mut [u8]) {

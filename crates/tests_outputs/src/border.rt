@@ -19,7 +19,7 @@ use tests_vaults::encode::put_mark;
 
 // A store's mark and its one entry, of a chunk of n bytes.
 fn put_entry(p: &mut [u8], n: usize) {
-    put_mark(p, place_of(STORE, 0), 0x56, 1);
+    put_mark(p, place_of(STORE, 0), 0x56, 1, 1);
     put_key(p, place_of(STORE, 8), 0);
     put_4(p, place_of(STORE, 28), 36);
     put_4(p, place_of(STORE, 32), n);
@@ -67,22 +67,26 @@ fn put_rows(f: &mut [u8], n: usize, first: usize, step: usize) {
 
 // ---- full lists and full indexes
 
-pub(crate) const FULL: usize = 10;
+pub(crate) const FULL: usize = 14;
 
 // The number of As in the chunk; the keyword, 1 for A and 2 for AA; how often file 0 names the chunk; how often file 1 names one that the
-// store does not have; the number that is due. A list of 7,281 occurrences fits, and 7,282 do not. The index has 53 bytes and two for each A
-// with keyword A, a byte less with AA: with 32,742 As that is 65,537 and 65,536.
-const FULL_CASES: [[u16; 5]; 10] = [
+// store does not have; the number that is due. A list of 7,281 occurrences fits, and 7,282 do not. The index has 55 bytes and three for each
+// occurrence of A, a byte more for AA, which occurs once less: with 21,827 As that is 65,536 and 65,534, and with one A more 65,539 and 65,537.
+const FULL_CASES: [[u16; 5]; 14] = [
     [7280, 1, 1, 0, 0],
     [7281, 1, 1, 0, 0],
     [7282, 1, 1, 0, 18],
     [3641, 1, 2, 0, 18],
     [7281, 1, 1, 1, 15],
     [7282, 1, 1, 1, 15],
-    [32742, 2, 0, 0, 0],
-    [32742, 2, 1, 0, 18],
-    [32742, 1, 0, 0, 9],
-    [32742, 1, 1, 1, 9],
+    [21827, 1, 0, 0, 0],
+    [21827, 1, 1, 0, 18],
+    [21828, 1, 0, 0, 9],
+    [21828, 1, 1, 1, 9],
+    [21827, 2, 0, 0, 0],
+    [21827, 2, 1, 0, 18],
+    [21828, 2, 0, 0, 9],
+    [21828, 2, 1, 1, 9],
 ];
 
 fn wide(n: u16) -> usize {

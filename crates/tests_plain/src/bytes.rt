@@ -45,10 +45,15 @@ pub fn part(s: &[u8], at: usize, n: usize) -> &[u8] {
     &s[at..at + n]
 }
 
-// Fields of 2 and 4 bytes.
+// Fields of 2, 3 and 4 bytes.
 pub fn put_2(s: &mut [u8], at: usize, v: usize) {
     put(s, at, (v % 256) as u8);
     put(s, plus(at, 1), (v / 256 % 256) as u8);
+}
+
+pub fn put_3(s: &mut [u8], at: usize, v: usize) {
+    put_2(s, at, v);
+    put(s, plus(at, 2), (v / 65536 % 256) as u8);
 }
 
 pub fn put_4(s: &mut [u8], at: usize, v: usize) {
@@ -56,8 +61,12 @@ pub fn put_4(s: &mut [u8], at: usize, v: usize) {
     put_2(s, plus(at, 2), v / 65536 % 65536);
 }
 
-pub(crate) fn get_2(s: &[u8], at: usize) -> usize {
+fn get_2(s: &[u8], at: usize) -> usize {
     num(s, at) % 256 + num(s, plus(at, 1)) % 256 * 256
+}
+
+pub(crate) fn get_3(s: &[u8], at: usize) -> usize {
+    get_2(s, at) % 65536 + num(s, plus(at, 2)) % 256 * 65536
 }
 
 pub fn get_4(s: &[u8], at: usize) -> usize {

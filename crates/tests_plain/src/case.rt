@@ -1,4 +1,5 @@
-// A case, in one array: the four inputs in document 01's formats, what each must be answered, the moves and the list that are due.
+// A case, in one array: the four inputs in document 01's formats, what each must be answered, the moves and the list that are due. A long
+// array has index and list at other places, so that its store may have up to 148,300 bytes.
 ghost use mathlib.Core.Path.{_≡_};
 ghost use lib.ListN.{length};
 use crate::bytes::get;
@@ -16,9 +17,16 @@ pub const RECIPES: usize = 600;
 
 pub const STORE: usize = 1700;
 
-pub const INDEX: usize = 7700;
+const ROOM: usize = 168700;
 
-const ROWS: usize = 37700;
+// Where the index is, and where the list.
+pub fn index_at(f: &[u8]) -> usize {
+    if ROOM < f.len() { 150000 } else { 7700 }
+}
+
+fn rows_at(f: &[u8]) -> usize {
+    if ROOM < f.len() { 580000 } else { 57700 }
+}
 
 pub const COUNT_AT: usize = 20;
 
@@ -27,20 +35,27 @@ pub const ONLY_REFUSALS: usize = 24;
 const MOVES_AT: usize = 28;
 
 // Room for a case, for a model, or for a list.
-pub fn room() -> [u8; 148700]
-    ensures { λ r. ⌜ 148700 ≡ length r ⌝ }
+pub fn room() -> [u8; 168700]
+    ensures { λ r. ⌜ 168700 ≡ length r ⌝ }
 {
-    [0; 148700]
+    [0; 168700]
 }
 
-fn start_of(input: usize) -> usize {
+// Room for a case of a long chunk.
+pub fn long_room() -> [u8; 1843000]
+    ensures { λ r. ⌜ 1843000 ≡ length r ⌝ }
+{
+    [0; 1843000]
+}
+
+fn start_of(f: &[u8], input: usize) -> usize {
     if input == 0 {
         return LIST;
     }
     if input == 1 {
         return STORE;
     }
-    if input == 2 { INDEX } else { RECIPES }
+    if input == 2 { index_at(f) } else { RECIPES }
 }
 
 fn length_at(input: usize) -> usize {
@@ -48,8 +63,8 @@ fn length_at(input: usize) -> usize {
 }
 
 // The place of a byte of an input.
-pub fn place_of(input: usize, at: usize) -> usize {
-    plus(start_of(input), at)
+pub fn place_of(f: &[u8], input: usize, at: usize) -> usize {
+    plus(start_of(f, input), at)
 }
 
 pub fn length_of(f: &[u8], input: usize) -> usize {
@@ -58,11 +73,12 @@ pub fn length_of(f: &[u8], input: usize) -> usize {
 
 // An input ends at a place.
 pub fn put_length(f: &mut [u8], input: usize, end: usize) {
-    put_4(f, length_at(input), less(end, start_of(input)));
+    let n = less(end, start_of(f, input));
+    put_4(f, length_at(input), n);
 }
 
 fn input(f: &[u8], i: usize) -> &[u8] {
-    part(f, start_of(i), length_of(f, i))
+    part(f, start_of(f, i), length_of(f, i))
 }
 
 pub fn list(f: &[u8]) -> &[u8] {
@@ -100,11 +116,11 @@ pub fn put_moves(f: &mut [u8], n: usize) {
 
 // The list that a join must write.
 pub fn rows(f: &[u8]) -> &[u8] {
-    part(f, ROWS, 9 * (count(f) % 1000000))
+    part(f, rows_at(f), 9 * (count(f) % 1000000))
 }
 
-pub fn row_at(row: usize) -> usize {
-    ROWS + 9 * (row % 1000000)
+pub fn row_at(f: &[u8], row: usize) -> usize {
+    plus(rows_at(f), 9 * (row % 1000000))
 }
 
 // ---- numbers

@@ -92,34 +92,41 @@ pub fn entry_of(bytes: &[u8], start: usize, width: usize, n: usize, key: &[u8]) 
     0
 }
 
-// Where a chunk that starts at `at` ends, by its entry; 0 where the entry is wrong, or one before it was.
-fn entry_end(s: &[u8], at: usize, entry: usize) -> usize {
-    let size = get_4(s, plus(entry, 24));
-    if at == 0 {
-        return 0;
-    }
-    if size == 0 {
-        return 0;
-    }
-    if 65535 < size {
-        return 0;
-    }
-    if get_4(s, plus(entry, 20)) != at {
-        return 0;
-    }
-    plus(at, size)
-}
-
-fn last_end(s: &[u8], n: usize) -> usize {
-    let mut at = 8 + 28 * (n % 65536);
-    for e in 0..n {
-        at = entry_end(s, at, 8 + 28 * (e % 65536));
-    }
-    at
-}
-
 fn entry_at(e: usize) -> usize {
     8 + 28 * (e % 65536)
+}
+
+// The length of the chunk that an entry tells.
+fn told_size(s: &[u8], entry: usize) -> usize {
+    get_4(s, plus(entry, 24))
+}
+
+// The number of an entry whose chunk must start at `at`: 7, 20 or 0.
+fn entry_code(s: &[u8], at: usize, entry: usize) -> u8 {
+    let size = told_size(s, entry);
+    if size == 0 {
+        return 7;
+    }
+    if 1048576 < size {
+        return 7;
+    }
+    if get_4(s, plus(entry, 20)) != at {
+        return 7;
+    }
+    if 4294967295 < plus(at, size) { 20 } else { 0 }
+}
+
+// The number of the n entries: that of the first that has one; then 7 where the last chunk does not end the store.
+fn entries_code(s: &[u8], n: usize) -> u8 {
+    let mut at = entry_at(n);
+    for e in 0..n {
+        let code = entry_code(s, at, entry_at(e));
+        if code != 0 {
+            return code;
+        }
+        at = plus(at, told_size(s, entry_at(e)));
+    }
+    if at == s.len() { 0 } else { 7 }
 }
 
 fn any_twice(s: &[u8], n: usize) -> bool {
@@ -140,8 +147,9 @@ fn directory_code(s: &[u8], n: usize) -> u8 {
     if s.len() < 8 + 28 * (n % 65536) {
         return 6;
     }
-    if last_end(s, n) != s.len() {
-        return 7;
+    let code = entries_code(s, n);
+    if code != 0 {
+        return code;
     }
     if any_twice(s, n) { 8 } else { 0 }
 }

@@ -35,7 +35,7 @@ pub fn put_row(
     if !there {
         return row;
     }
-    let at = row_at(row);
+    let at = row_at(out, row);
     put_4(out, at, file);
     put_4(out, plus(at, 4), offset);
     put(out, plus(at, 8), (keyword % 256) as u8);

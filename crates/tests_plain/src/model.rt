@@ -1,7 +1,18 @@
-// A vault, apart from the formats, in one array of 120,700 bytes: counts, keywords, match records, files and chunks at fixed places.
-use crate::bytes::get_2;
+// A vault, apart from the formats, in one array of 120,700 bytes: counts, keywords, match records, files and chunks at fixed places. The first
+// chunk is the last in the array, so that it can be as long as a longer array allows.
+ghost use mathlib.Core.Path.{_≡_};
+ghost use lib.ListN.{length};
+use crate::bytes::get_3;
 use crate::bytes::num;
 use crate::bytes::plus;
+use crate::bytes::put_3;
+
+// Room for a model whose first chunk has up to 300,000 bytes, or for a long index.
+pub fn long_room() -> [u8; 430000]
+    ensures { λ r. ⌜ 430000 ≡ length r ⌝ }
+{
+    [0; 430000]
+}
 
 // Keyword count, fold flag, chunk count, file count: a byte each.
 pub fn keywords(m: &[u8]) -> usize {
@@ -29,17 +40,21 @@ pub fn keyword_size(m: &[u8], k: usize) -> usize {
     num(m, keyword_at(k))
 }
 
-// Chunk c: its length, 2 bytes; its bytes apart, at most 4,224.
-pub fn size_at(c: usize) -> usize {
-    540 + 2 * (c % 12)
+// Chunk c: its length, 3 bytes; its bytes apart, at most 4,224, or more of chunk 0.
+fn size_at(c: usize) -> usize {
+    540 + 3 * (c % 12)
 }
 
 pub fn chunk_size(m: &[u8], c: usize) -> usize {
-    get_2(m, size_at(c))
+    get_3(m, size_at(c))
+}
+
+pub fn put_size(m: &mut [u8], c: usize, size: usize) {
+    put_3(m, size_at(c), size);
 }
 
 pub fn chunk_at(c: usize) -> usize {
-    70000 + 4224 * (c % 12)
+    70000 + 4224 * (11 - c % 12)
 }
 
 // The record of chunk c and keyword k: prefix and suffix, a byte each; apart from that a byte for each offset p, 1 where it is recorded, in

@@ -67,7 +67,7 @@ fn put_number(out: &mut [u8], start: usize, n: usize) -> usize {
 
 // The line of a row of the case's list.
 fn put_line(out: &mut [u8], at: usize, f: &[u8], row: usize) -> usize {
-    let from = row_at(row);
+    let from = row_at(f, row);
     let a = put_number(out, at, get_4(f, from));
     let b = put_bytes(out, a, b" ");
     let c = put_number(out, b, get_4(f, plus(from, 4)));

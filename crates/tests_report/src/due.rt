@@ -103,7 +103,7 @@ pub fn bound(f: &[u8]) -> usize {
     let c = chunk_count(f) % 16;
     let records = times(
         num(case::list(f), 0),
-        9 * c + 2 * (case::length_of(f, 1) % 65536),
+        11 * c + 3 * (case::length_of(f, 1) % 1048576),
     );
     plus(8 + case::length_of(f, 0) % 65536 + 32 * c, records)
 }
@@ -118,10 +118,10 @@ fn bound_kind(room: usize, bound: usize) -> usize {
     if plus(room, 1) == bound { 3 } else { 4 }
 }
 
-// A chunk of 256 bytes or more is among the first n.
-fn has_long(f: &[u8], n: usize) -> bool {
+// A chunk of `size` bytes or more is among the first n.
+fn has_long(f: &[u8], n: usize, size: usize) -> bool {
     for c in 0..n {
-        if 256 <= get_4(f, plus(case::store_entry(c), 24)) {
+        if size <= get_4(f, plus(case::store_entry(c), 24)) {
             return true;
         }
     }
@@ -132,7 +132,14 @@ fn store_kind(f: &[u8]) -> usize {
     if chunk_count(f) == 0 {
         return 5;
     }
-    if has_long(f, chunk_count(f)) { 7 } else { 6 }
+    if has_long(f, chunk_count(f), 65537) {
+        return 8;
+    }
+    if has_long(f, chunk_count(f), 256) {
+        7
+    } else {
+        6
+    }
 }
 
 // A scan that was accepted, into a buffer of `room` bytes.
@@ -141,7 +148,7 @@ pub fn saw_moves(counts: &mut [u64], f: &[u8], code: u8, room: usize) {
         bump(counts, tally::MOVES);
         bump(counts, tally::MOVES + bound_kind(room, bound(f)) % 10);
         bump(counts, tally::MOVES + store_kind(f) % 10);
-        saw(counts, tally::MOVES + 8, is_linked(f));
+        saw(counts, tally::MOVES + 9, is_linked(f));
     }
 }
 

@@ -2,6 +2,7 @@
 use crate::lanes;
 use crate::tally::KINDS;
 use crate::tally::saw;
+use crate::wide;
 use tests_plain::bytes::get;
 use tests_plain::bytes::get_4;
 use tests_plain::bytes::less;
@@ -30,6 +31,11 @@ pub(crate) const ALL: usize = 30;
 pub(crate) const LANES: usize = 64;
 
 pub(crate) const ALL_LANES: usize = 17;
+
+// Those of cases with a chunk longer than a window, or nearly so long.
+pub(crate) const WIDE: usize = 96;
+
+pub(crate) const ALL_WIDE: usize = 13;
 
 // For each kind, how many witnesses there are to try, in units of 64.
 const WITNESSES: [u8; 30] = [
@@ -66,6 +72,8 @@ const WITNESSES: [u8; 30] = [
 ];
 
 const LANE_WITNESSES: [u8; 17] = [1, 1, 1, 1, 1, 1, 1, 64, 2, 2, 8, 4, 4, 1, 1, 1, 1];
+
+const WIDE_WITNESSES: [u8; 13] = [1, 1, 1, 1, 1, 16, 1, 1, 8, 1, 1, 1, 1];
 
 // ---- files and chunks
 
@@ -236,7 +244,7 @@ fn is_tie(f: &[u8], r: usize) -> bool {
     if case::count(f) <= plus(r, 1) {
         return false;
     }
-    same(f, row_at(r), f, row_at(plus(r, 1)), 8)
+    same(f, row_at(f, r), f, row_at(f, plus(r, 1)), 8)
 }
 
 // Where the place of a file that has the byte at `offset` ends.
@@ -252,11 +260,11 @@ fn end_behind(m: &[u8], file: usize, offset: usize) -> usize {
 }
 
 fn row_end(m: &[u8], f: &[u8], r: usize) -> usize {
-    end_behind(m, get_4(f, row_at(r)), get_4(f, plus(row_at(r), 4)))
+    end_behind(m, get_4(f, row_at(f, r)), get_4(f, plus(row_at(f, r), 4)))
 }
 
 fn row_keyword(f: &[u8], r: usize) -> usize {
-    num(f, plus(row_at(r), 8))
+    num(f, plus(row_at(f, r), 8))
 }
 
 // Row r is an occurrence that ends behind the chunk in which it starts.
@@ -264,7 +272,7 @@ fn is_crossing(m: &[u8], f: &[u8], r: usize) -> bool {
     if case::count(f) <= r {
         return false;
     }
-    let start = get_4(f, plus(row_at(r), 4));
+    let start = get_4(f, plus(row_at(f, r), 4));
     row_end(m, f, r) < plus(start, keyword_size(m, row_keyword(f, r)))
 }
 
@@ -290,7 +298,7 @@ fn is_around(m: &[u8], f: &[u8], r: usize) -> bool {
     if row_keyword(f, r) != row_keyword(f, plus(r, 2)) {
         return false;
     }
-    if !same(f, row_at(r), f, row_at(plus(r, 2)), 4) {
+    if !same(f, row_at(f, r), f, row_at(f, plus(r, 2)), 4) {
         return false;
     }
     if row_end(m, f, r) != row_end(m, f, plus(r, 1)) {
@@ -405,14 +413,20 @@ fn shows(m: &[u8], f: &[u8], kind: usize, t: usize) -> bool {
     if kind < LANES {
         return of_accents(m, kind, t);
     }
-    lanes::shows(m, f, less(kind, LANES), t)
+    if kind < WIDE {
+        return lanes::shows(m, f, less(kind, LANES), t);
+    }
+    wide::shows(m, f, less(kind, WIDE), t)
 }
 
 fn witnesses(kind: usize) -> usize {
     if kind < LANES {
         return 64 * (num(&WITNESSES, kind) % 256);
     }
-    64 * (num(&LANE_WITNESSES, less(kind, LANES)) % 256)
+    if kind < WIDE {
+        return 64 * (num(&LANE_WITNESSES, less(kind, LANES)) % 256);
+    }
+    64 * (num(&WIDE_WITNESSES, less(kind, WIDE)) % 256)
 }
 
 fn is_of(m: &[u8], f: &[u8], kind: usize) -> bool {
@@ -441,4 +455,9 @@ pub fn see(counts: &mut [u64], m: &[u8], f: &[u8]) {
 // Counts the kinds of a case with long chunks.
 pub fn see_lanes(counts: &mut [u64], m: &[u8], f: &[u8]) {
     see_from(counts, m, f, LANES, ALL_LANES);
+}
+
+// Counts the kinds of a case with a chunk of about a window, or longer.
+pub fn see_wide(counts: &mut [u64], m: &[u8], f: &[u8]) {
+    see_from(counts, m, f, WIDE, ALL_WIDE);
 }

@@ -64,7 +64,7 @@ fn is_last(m: &[u8], c: usize, k: usize, q: usize) -> bool {
 }
 
 // Chunk c ends with the first i bytes of keyword k, and chunk c + 1 starts with the others.
-fn is_cut(m: &[u8], c: usize, k: usize, i: usize) -> bool {
+pub(crate) fn is_cut(m: &[u8], c: usize, k: usize, i: usize) -> bool {
     let n = keyword_size(m, k);
     let at = plus(keyword_at(k), 1);
     if chunks(m) <= plus(c, 1) {

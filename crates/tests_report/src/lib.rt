@@ -6,3 +6,4 @@ mod lanes;
 pub mod moves;
 pub mod report;
 pub mod tally;
+mod wide;

@@ -104,7 +104,12 @@ const TORN_NAMES: [u8; 200] = *b"\
     - refused with 7                        \
     - refused with 8                        ";
 
-const NUMBER_NAMES: [u8; 800] = *b"\
+const BEYOND_NAMES: [u8; 120] = *b"\
+    - refused with 6                        \
+    - refused with 7                        \
+    - refused with 20                       ";
+
+const NUMBER_NAMES: [u8; 840] = *b"\
     answered 0                              \
     answered 1                              \
     answered 2                              \
@@ -124,7 +129,8 @@ const NUMBER_NAMES: [u8; 800] = *b"\
     answered 16                             \
     answered 17                             \
     answered 18                             \
-    answered 19                             ";
+    answered 19                             \
+    answered 20                             ";
 
 fn kinds(counts: &[u64]) {
     lines(&KIND_NAMES, counts, tally::KINDS, kinds::ALL);
@@ -132,6 +138,11 @@ fn kinds(counts: &[u64]) {
 
 pub fn torn(counts: &[u64]) {
     lines(&TORN_NAMES, counts, tally::TORN, 5);
+}
+
+// Stores of a directory alone.
+pub fn beyond(counts: &[u64]) {
+    lines(&BEYOND_NAMES, counts, tally::BEYOND, 3);
 }
 
 const LANE_NAMES: [u8; 680] = *b"\
@@ -163,7 +174,32 @@ pub fn lanes(counts: &[u64]) {
     );
 }
 
-const MOVE_NAMES: [u8; 400] = *b"\
+const WIDE_NAMES: [u8; 520] = *b"\
+    - with a chunk of 65,535 bytes          \
+    - with a chunk of 65,536 bytes          \
+    - with a chunk of 65,537 bytes          \
+    - with a chunk of 131,072 bytes         \
+    - with a chunk of 140,000 bytes         \
+    - with a keyword across windows         \
+    - with one at a window's start          \
+    - with one at a window's end            \
+    - with one cut by the next chunk        \
+    - with more than 65,535 occurrences     \
+    - with links followed                   \
+    - with fold flag 0                      \
+    - with fold flag 1                      ";
+
+// The kinds of the cases with a chunk of about a window, or longer.
+pub fn wide(counts: &[u64]) {
+    lines(
+        &WIDE_NAMES,
+        counts,
+        plus(tally::KINDS, kinds::WIDE),
+        kinds::ALL_WIDE,
+    );
+}
+
+const MOVE_NAMES: [u8; 440] = *b"\
     scans whose moves were compared         \
     - into a buffer of the bound            \
     - into a longer one                     \
@@ -172,6 +208,7 @@ const MOVE_NAMES: [u8; 400] = *b"\
     - of a store without chunks             \
     - of chunks below 256 bytes             \
     - of a chunk of 256 bytes or more       \
+    - of a chunk longer than a window       \
     - with links followed                   \
     - of two orders                         ";
 
@@ -209,9 +246,9 @@ pub fn output_buffers(counts: &[u64]) {
 }
 
 pub fn totals(counts: &[u64]) {
-    lines(&MOVE_NAMES, counts, tally::MOVES, 10);
+    lines(&MOVE_NAMES, counts, tally::MOVES, 11);
     lines(&BUFFER_NAMES, counts, tally::BUFFERS, 8);
     lines(&OPERATION_NAMES, counts, tally::OPERATIONS, 10);
-    lines(&NUMBER_NAMES, counts, 0, 20);
+    lines(&NUMBER_NAMES, counts, 0, 21);
     line(b"not as expected", count_at(counts, tally::DIFFERENCES));
 }

@@ -7,37 +7,47 @@ pub fn torn_place(code: u8) -> usize {
     plus(TORN, less(code as usize, 4))
 }
 
-// Places of the counters: numbers 0 to 19, operations, differences, cases since the last line, kinds of cases (those of long chunks from 96
-// on), kinds of buffers.
-pub(crate) const OPERATIONS: usize = 20;
+pub fn beyond_place(code: u8) -> usize {
+    if code == 20 {
+        return BEYOND + 2;
+    }
+    plus(BEYOND, less(code as usize, 6))
+}
 
-pub(crate) const DIFFERENCES: usize = 30;
+// Places of the counters: numbers 0 to 20, operations, differences, cases since the last line, kinds of cases (those of long chunks 64 behind,
+// those of chunks longer than a window 96 behind), kinds of buffers.
+pub(crate) const OPERATIONS: usize = 32;
 
-pub const CASES: usize = 31;
+pub(crate) const DIFFERENCES: usize = 42;
 
-pub(crate) const KINDS: usize = 32;
+pub const CASES: usize = 43;
 
-pub(crate) const BUFFERS: usize = 64;
+pub(crate) const KINDS: usize = 48;
 
-// Torn stores that gave 0, 5, 6, 7, 8.
-pub(crate) const TORN: usize = 72;
+pub(crate) const BUFFERS: usize = 80;
+
+// Torn stores that gave 0, 5, 6, 7, 8; stores of a directory alone that gave 6, 7, 20.
+pub(crate) const TORN: usize = 88;
+
+pub(crate) const BEYOND: usize = 93;
 
 // Outputs of the search program: those that list occurrences, list none, tell a refusal, name a file; then by their buffers: long, exact, a
 // byte short.
-pub const OUTPUTS: usize = 80;
+pub const OUTPUTS: usize = 96;
 
-pub const OUTPUT_BUFFERS: usize = 84;
+pub const OUTPUT_BUFFERS: usize = 100;
 
 // Stores in another order: those with another index, that list occurrences, list none, are refused by the scan, by the join; then the
 // answers that were compared.
-pub const ORDERS: usize = 88;
+pub const ORDERS: usize = 104;
 
 // Scans whose moves were compared: all; into a buffer of the bound at which a scan measures nothing, a longer one, one a byte shorter, a
-// shorter one; of stores without chunks, with chunks below 256 bytes alone, with longer ones; with links followed; of two orders.
-pub const MOVES: usize = 116;
+// shorter one; of stores without chunks, with chunks below 256 bytes alone, with longer ones, with one longer than a window; with links
+// followed; of two orders.
+pub const MOVES: usize = 132;
 
 // Room for the counters.
-pub const ALL: usize = 128;
+pub const ALL: usize = 160;
 
 // The operations.
 pub const KEYWORD_CHECK: usize = 0;

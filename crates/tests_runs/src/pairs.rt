@@ -119,7 +119,7 @@ fn search_front(f: &[u8], index: &mut [u8], n: usize, buffer: &mut [u8]) -> usiz
 }
 
 fn search_room(f: &[u8], n: usize, buffer: &mut [u8]) -> usize {
-    let mut index = [0u8; 6000];
+    let mut index = [0u8; 9000];
     search_front(f, &mut index, n, buffer)
 }
 
@@ -195,7 +195,7 @@ fn run_both(counts: &mut [u64], way: usize, f: &[u8], g: &[u8], a: &mut [u8], b:
     let from = from_where(way, expected);
     let ok = same(a, from, b, from, less(room, from));
     paired(counts, operation_of(way), got, expected, ok);
-    saw(counts, tally::MOVES + 9, is_moved(way, expected));
+    saw(counts, tally::MOVES + 10, is_moved(way, expected));
 }
 
 pub fn runs_both(counts: &mut [u64], f: &[u8], g: &[u8], a: &mut [u8], b: &mut [u8]) {
@@ -280,8 +280,9 @@ fn put_index(g: &mut [u8], code: u8, n: usize, index: &[u8]) {
     if code != 0 {
         return;
     }
-    copy(g, case::INDEX, index, 0, n);
-    case::put_length(g, 2, plus(case::INDEX, n));
+    let at = case::index_at(g);
+    copy(g, at, index, 0, n);
+    case::put_length(g, 2, plus(at, n));
 }
 
 // What the scan of a case's store writes becomes the case's index.

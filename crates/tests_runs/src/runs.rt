@@ -191,7 +191,7 @@ fn search_into(counts: &mut [u64], f: &[u8], index: &mut [u8], buffer: &mut [u8]
 
 // A search whose list goes to the buffer that is tried.
 fn search_list(counts: &mut [u64], f: &[u8], buffer: &mut [u8]) {
-    let mut index = [0u8; 6000];
+    let mut index = [0u8; 9000];
     search_into(counts, f, &mut index, buffer);
 }
 
@@ -261,4 +261,18 @@ pub fn scan_runs(counts: &mut [u64], f: &[u8], buffer: &mut [u8]) {
 pub fn search_runs(counts: &mut [u64], f: &[u8], buffer: &mut [u8]) {
     run(counts, tally::SEARCH, f, buffer);
     run(counts, SEARCH_INDEX, f, buffer);
+}
+
+// A search into an index buffer and the first `room` bytes of a list buffer.
+fn search_front(counts: &mut [u64], f: &[u8], index: &mut [u8], buffer: &mut [u8], room: usize) {
+    if room <= buffer.len() {
+        search_into(counts, f, index, &mut buffer[..room]);
+    }
+}
+
+// Searches with a long index buffer, whose lists go to an exact buffer and one a byte short.
+pub fn search_long(counts: &mut [u64], f: &[u8], index: &mut [u8], buffer: &mut [u8]) {
+    let n = case::rows(f).len();
+    search_front(counts, f, index, buffer, n);
+    search_front(counts, f, index, buffer, less(n, 1));
 }

@@ -1,15 +1,17 @@
-// The model written as a case: the inputs in document 01's formats. Functions that write one thing after the other return the place behind.
+// The model written as a case: the inputs in document 01's formats, the index under a mark. Functions that write one thing after the other
+// return the place behind.
 use tests_plain::bytes::copy;
 use tests_plain::bytes::less;
 use tests_plain::bytes::num;
 use tests_plain::bytes::plus;
 use tests_plain::bytes::put;
 use tests_plain::bytes::put_2;
+use tests_plain::bytes::put_3;
 use tests_plain::bytes::put_4;
-use tests_plain::case::INDEX;
 use tests_plain::case::LIST;
 use tests_plain::case::RECIPES;
 use tests_plain::case::STORE;
+use tests_plain::case::index_at;
 use tests_plain::case::put_length;
 use tests_plain::case::store_entry;
 use tests_plain::codes::alike_code;
@@ -57,15 +59,21 @@ pub fn put_key(out: &mut [u8], at: usize, c: usize) {
     put(out, plus(at, 19), (c / 2 % 256) as u8);
 }
 
-// The 8 bytes that a store (0x56) and an index (0x4D) start with.
-pub fn put_mark(out: &mut [u8], at: usize, a: u8, n: usize) {
-    copy(out, at, b"D.1\n", 0, 4);
+// The marks of an index: 44 4D 31 0A, with fields of 2 bytes, and the one that a scan writes, 44 4D 32 0A, with fields of 3.
+pub const OLD: usize = 1;
+
+pub const NEW: usize = 2;
+
+// The 8 bytes that a store (0x56, 1) and an index (0x4D and the number of its mark) start with.
+pub fn put_mark(out: &mut [u8], at: usize, a: u8, number: usize, n: usize) {
+    copy(out, at, b"D..\n", 0, 4);
     put(out, plus(at, 1), a);
+    put(out, plus(at, 2), (0x30 + number % 10) as u8);
     put_4(out, plus(at, 4), n);
 }
 
 fn put_store(out: &mut [u8], m: &[u8]) {
-    put_mark(out, STORE, 0x56, chunks(m));
+    put_mark(out, STORE, 0x56, 1, chunks(m));
     let end = put_chunks(out, m, chunks(m));
     put_length(out, 1, plus(STORE, end));
 }
@@ -90,18 +98,35 @@ fn put_chunk(out: &mut [u8], at: usize, m: &[u8], c: usize, size: usize) -> usiz
 
 // ---- records
 
-fn put_offset(out: &mut [u8], at: usize, p: usize, marked: bool) -> usize {
+// An offset in a chunk, or the exact count, under a mark.
+fn put_field(out: &mut [u8], at: usize, form: usize, v: usize) -> usize {
+    if form == OLD {
+        put_2(out, at, v);
+        return plus(at, 2);
+    }
+    put_3(out, at, v);
+    plus(at, 3)
+}
+
+fn put_offset(out: &mut [u8], at: usize, form: usize, p: usize, marked: bool) -> usize {
     if !marked {
         return at;
     }
-    put_2(out, at, p);
-    plus(at, 2)
+    put_field(out, at, form, p)
 }
 
-fn put_offsets(out: &mut [u8], at: usize, m: &[u8], c: usize, k: usize, size: usize) -> usize {
+fn put_offsets(
+    out: &mut [u8],
+    at: usize,
+    form: usize,
+    m: &[u8],
+    c: usize,
+    k: usize,
+    size: usize,
+) -> usize {
     let mut a = at;
     for p in 0..size {
-        a = put_offset(out, a, p, is_marked(m, c, k, p));
+        a = put_offset(out, a, form, p, is_marked(m, c, k, p));
     }
     a
 }
@@ -127,10 +152,11 @@ fn put_tiny(out: &mut [u8], at: usize, k: usize, i: usize, j: usize) -> usize {
     plus(at, 3)
 }
 
-// The 7 bytes that a full record starts with: keyword, kind, prefix, suffix, count, first offset.
+// What a full record starts with: keyword, kind, prefix, suffix, count, first offset.
 fn put_head(
     out: &mut [u8],
     at: usize,
+    form: usize,
     k: usize,
     kind: usize,
     m: &[u8],
@@ -141,13 +167,13 @@ fn put_head(
     put_2(out, at, k % 16 + kind % 4 * 256);
     copy(out, plus(at, 2), m, partial_at(c, k), 2);
     put(out, plus(at, 4), (n % 256) as u8);
-    put_2(out, plus(at, 5), first);
-    plus(at, 7)
+    put_field(out, plus(at, 5), form, first)
 }
 
 fn put_full(
     out: &mut [u8],
     at: usize,
+    form: usize,
     m: &[u8],
     c: usize,
     k: usize,
@@ -156,19 +182,27 @@ fn put_full(
 ) -> usize {
     let first = first_of(m, c, k, size);
     if n < 2 {
-        return put_head(out, at, k, 1, m, c, n, first);
+        return put_head(out, at, form, k, 1, m, c, n, first);
     }
     if n < 255 {
-        let a = put_head(out, at, k, 2, m, c, n, first);
-        return put_offsets(out, a, m, c, k, size);
+        let a = put_head(out, at, form, k, 2, m, c, n, first);
+        return put_offsets(out, a, form, m, c, k, size);
     }
-    let b = put_head(out, at, k, 3, m, c, 255, first);
-    put_2(out, b, n);
-    put_offsets(out, plus(b, 2), m, c, k, size)
+    let b = put_head(out, at, form, k, 3, m, c, 255, first);
+    let d = put_field(out, b, form, n);
+    put_offsets(out, d, form, m, c, k, size)
 }
 
 // One record, if it is not empty.
-fn put_record(out: &mut [u8], at: usize, m: &[u8], c: usize, k: usize, size: usize) -> usize {
+fn put_record(
+    out: &mut [u8],
+    at: usize,
+    form: usize,
+    m: &[u8],
+    c: usize,
+    k: usize,
+    size: usize,
+) -> usize {
     let i = num(m, partial_at(c, k));
     let j = num(m, plus(partial_at(c, k), 1));
     let n = count_of(m, c, k, size);
@@ -179,30 +213,38 @@ fn put_record(out: &mut [u8], at: usize, m: &[u8], c: usize, k: usize, size: usi
             }
         }
     }
-    put_full(out, at, m, c, k, size, n)
+    put_full(out, at, form, m, c, k, size, n)
 }
 
-fn put_body(out: &mut [u8], at: usize, m: &[u8], c: usize, n: usize) -> usize {
+fn put_body(out: &mut [u8], at: usize, form: usize, m: &[u8], c: usize, n: usize) -> usize {
     let size = chunk_size(m, c);
     let mut a = at;
     for k in 0..n {
-        a = put_record(out, a, m, c, k, size);
+        a = put_record(out, a, form, m, c, k, size);
     }
     a
 }
 
 fn put_entry(out: &mut [u8], entry: usize, c: usize, size: usize, at: usize, end: usize) {
+    let offset = less(at, index_at(out));
     put_key(out, entry, c);
     put_4(out, plus(entry, 20), size);
-    put_4(out, plus(entry, 24), less(at, INDEX));
+    put_4(out, plus(entry, 24), offset);
     put_4(out, plus(entry, 28), less(end, at));
 }
 
 // Entries from `start` on and bodies behind them; the place behind the last body.
-fn put_bodies(out: &mut [u8], start: usize, m: &[u8], n: usize, words: usize) -> usize {
+fn put_bodies(
+    out: &mut [u8],
+    start: usize,
+    form: usize,
+    m: &[u8],
+    n: usize,
+    words: usize,
+) -> usize {
     let mut at = plus(start, 32 * (n % 16));
     for c in 0..n {
-        let end = put_body(out, at, m, c, words);
+        let end = put_body(out, at, form, m, c, words);
         put_entry(
             out,
             plus(start, 32 * (c % 16)),
@@ -216,10 +258,12 @@ fn put_bodies(out: &mut [u8], start: usize, m: &[u8], n: usize, words: usize) ->
     at
 }
 
-fn put_index(out: &mut [u8], m: &[u8]) {
-    put_mark(out, INDEX, 0x4D, chunks(m));
-    let start = put_list_at(out, INDEX + 8, m);
-    let end = put_bodies(out, start, m, chunks(m), keywords(m));
+// The index under a mark.
+pub fn put_index(out: &mut [u8], form: usize, m: &[u8]) {
+    let at = index_at(out);
+    put_mark(out, at, 0x4D, form, chunks(m));
+    let start = put_list_at(out, plus(at, 8), m);
+    let end = put_bodies(out, start, form, m, chunks(m), keywords(m));
     put_length(out, 2, end);
 }
 
@@ -250,11 +294,11 @@ fn put_recipes(out: &mut [u8], m: &[u8]) {
     put_length(out, 3, end);
 }
 
-// The case of a model: the four inputs, and the number that each gives by itself.
-pub fn encode(out: &mut [u8], m: &[u8]) {
+// The case of a model: the four inputs, the index under a mark, and the number that each gives by itself.
+pub fn encode(out: &mut [u8], form: usize, m: &[u8]) {
     put_list(out, m);
     put_store(out, m);
-    put_index(out, m);
+    put_index(out, form, m);
     put_recipes(out, m);
     put_codes(out, alike_code(m), recipes_code(m));
 }

@@ -1,14 +1,17 @@
 // Damaged inputs: the small vault of document 01 with one or two faults, and the number that each must give. A fault is a row of nine
 // numbers: the input (0 keyword list, 1 store, 2 index, 3 recipes); two bytes to store, each as place and value (place 255: none); the place
 // to which the first chunk's fingerprint goes (255: none); the input's length behind; the number; and where its test stands in the order of
-// the input's tests, so that of two faults of an input the one that is tested first counts.
+// the input's tests, so that of two faults of an input the one that is tested first counts. Places and lengths of the index are those under
+// the old mark; under the new one bodies are longer.
+use crate::encode::NEW;
 use crate::encode::put_key;
 use tests_plain::bytes::least;
+use tests_plain::bytes::plus;
 use tests_plain::bytes::put;
 use tests_plain::case::place_of;
 use tests_plain::case::put_length;
 
-const ALL: usize = 60;
+pub const ALL: usize = 62;
 
 const INPUT: usize = 0;
 
@@ -20,7 +23,7 @@ const CODE: usize = 7;
 
 const RANK: usize = 8;
 
-const FAULTS: [[u8; 9]; 60] = [
+const FAULTS: [[u8; 9]; 62] = [
     // Keyword list: 9 bytes.
     [0, 255, 0, 255, 0, 255, 1, 1, 0],
     [0, 255, 0, 255, 0, 255, 0, 1, 0],
@@ -44,16 +47,18 @@ const FAULTS: [[u8; 9]; 60] = [
     [1, 255, 0, 255, 0, 255, 91, 6, 1],
     [1, 32, 0, 255, 0, 255, 100, 7, 2],
     [1, 28, 93, 255, 0, 255, 100, 7, 2],
-    [1, 34, 1, 255, 0, 255, 100, 7, 2],
+    [1, 34, 17, 255, 0, 255, 100, 7, 2],
     [1, 60, 5, 255, 0, 255, 100, 7, 3],
     [1, 255, 0, 255, 0, 255, 101, 7, 4],
     [1, 255, 0, 255, 0, 255, 99, 7, 4],
     // A fingerprint twice: of neighbours, and of the first and the last entry.
     [1, 255, 0, 255, 0, 36, 100, 8, 5],
     [1, 255, 0, 255, 0, 64, 100, 8, 5],
-    // Index: 136 bytes.
+    // Index: 136 bytes, 138 under the new mark. Its mark may be one that is not read yet.
     [2, 255, 0, 255, 0, 255, 7, 10, 0],
     [2, 1, 86, 255, 0, 255, 136, 10, 0],
+    [2, 2, 51, 255, 0, 255, 136, 10, 0],
+    [2, 2, 48, 255, 0, 255, 136, 10, 0],
     [2, 4, 233, 5, 253, 255, 136, 10, 0],
     [2, 255, 0, 255, 0, 255, 9, 1, 1],
     [2, 255, 0, 255, 0, 255, 8, 1, 1],
@@ -61,9 +66,9 @@ const FAULTS: [[u8; 9]; 60] = [
     [2, 10, 33, 255, 0, 255, 136, 3, 3],
     [2, 255, 0, 255, 0, 255, 112, 11, 4],
     [2, 37, 0, 255, 0, 255, 136, 11, 5],
-    [2, 39, 1, 255, 0, 255, 136, 11, 5],
+    [2, 39, 17, 255, 0, 255, 136, 11, 5],
     [2, 41, 114, 255, 0, 255, 136, 11, 5],
-    [2, 45, 8, 255, 0, 255, 136, 11, 6],
+    [2, 45, 9, 255, 0, 255, 136, 11, 6],
     [2, 255, 0, 255, 0, 255, 137, 11, 7],
     [2, 255, 0, 255, 0, 255, 135, 11, 7],
     [2, 255, 0, 255, 0, 49, 136, 12, 8],
@@ -106,24 +111,45 @@ fn fault(i: usize, j: usize) -> usize {
     wide(FAULTS[i][j])
 }
 
+// Where a place or an end of an input is, under a mark: in an index under the new one, a byte behind from the second body on, two behind from
+// its second record on.
+fn moved(form: usize, input: usize, place: usize) -> usize {
+    if input != 2 {
+        return place;
+    }
+    if form != NEW {
+        return place;
+    }
+    if place < 120 {
+        return place;
+    }
+    if place < 127 {
+        plus(place, 1)
+    } else {
+        plus(place, 2)
+    }
+}
+
 // Stores a byte of an input, if the place is one.
-fn put_at(f: &mut [u8], input: usize, place: usize, value: usize) {
+fn put_at(f: &mut [u8], form: usize, input: usize, place: usize, value: usize) {
+    let at = place_of(f, input, moved(form, input, place));
     if place < 255 {
-        put(f, place_of(input, place), (value % 256) as u8);
+        put(f, at, (value % 256) as u8);
     }
 }
 
 fn put_key_at(f: &mut [u8], input: usize, place: usize) {
+    let at = place_of(f, input, place);
     if place < 255 {
-        put_key(f, place_of(input, place), 0);
+        put_key(f, at, 0);
     }
 }
 
 // Stores fault i's bytes.
-pub(crate) fn damage(f: &mut [u8], i: usize) {
+pub(crate) fn damage(f: &mut [u8], form: usize, i: usize) {
     let input = fault(i, INPUT);
-    put_at(f, input, fault(i, 1), fault(i, 2));
-    put_at(f, input, fault(i, 3), fault(i, 4));
+    put_at(f, form, input, fault(i, 1), fault(i, 2));
+    put_at(f, form, input, fault(i, 3), fault(i, 4));
     put_key_at(f, input, fault(i, KEY));
 }
 
@@ -168,8 +194,9 @@ fn first_code(input: usize, i: usize, j: usize) -> u8 {
 }
 
 // Length and number of an input of `whole` bytes with faults i and j.
-pub(crate) fn settle(f: &mut [u8], input: usize, whole: usize, i: usize, j: usize) {
+pub(crate) fn settle(f: &mut [u8], form: usize, input: usize, whole: usize, i: usize, j: usize) {
     let n = shorter(whole, cut(input, whole, i), cut(input, whole, j));
-    put_length(f, input, place_of(input, n));
+    let end = place_of(f, input, moved(form, input, n));
+    put_length(f, input, end);
     put(f, input % 4, first_code(input, i, j));
 }

@@ -1,4 +1,6 @@
 // Models made into cases: with plain records, with made-up ones, with a torn store, with a pair of faults.
+use crate::encode::NEW;
+use crate::encode::OLD;
 use crate::encode::encode;
 use crate::encode::put_key;
 use crate::faults::damage;
@@ -17,7 +19,7 @@ use tests_plain::lists::search_files;
 use tests_plain::records::note_all;
 
 // The end of a case's making: its row count, and that all is to be run.
-fn put_count(f: &mut [u8], n: usize) {
+pub fn put_count(f: &mut [u8], n: usize) {
     put_4(f, case::COUNT_AT, n);
     put(f, case::ONLY_REFUSALS, 0);
 }
@@ -25,16 +27,17 @@ fn put_count(f: &mut [u8], n: usize) {
 // The case of a model with its plain records; the direct search of the restored files gives the list. `buffer` takes them.
 pub fn put_scanned(f: &mut [u8], m: &mut [u8], buffer: &mut [u8]) {
     note_all(m);
-    encode(f, m);
+    encode(f, NEW, m);
     let n = search_files(m, buffer, f);
     put_count(f, n);
 }
 
 // ---- made-up records
 
+// Under the old mark.
 pub fn put_invented(f: &mut [u8], m: &mut [u8], n: usize) {
     invent(m, (n % 1000000) as u64 + 77);
-    encode(f, m);
+    encode(f, OLD, m);
     let rows = join_files(m, f);
     put_count(f, rows);
 }
@@ -43,12 +46,13 @@ pub fn put_invented(f: &mut [u8], m: &mut [u8], n: usize) {
 
 // A length or an offset, a fingerprint, the mark or the count, the length of the whole: one is changed.
 fn tear(f: &mut [u8], way: usize, a: u64, b: u64) {
-    let size = case::length_of(f, 1);
+    let end = case::place_of(f, 1, pick(a, plus(case::length_of(f, 1), 2)));
+    let front = case::place_of(f, 1, pick(a, 8));
     if way == 0 {
-        return case::put_length(f, 1, case::place_of(1, pick(a, plus(size, 2))));
+        return case::put_length(f, 1, end);
     }
     if way == 1 {
-        return put(f, case::place_of(1, pick(a, 8)), (pick(b, 4) % 256) as u8);
+        return put(f, front, (pick(b, 4) % 256) as u8);
     }
     if way == 2 {
         return put_key(f, case::store_entry(pick(a, 8)), pick(b, 9));
@@ -70,17 +74,17 @@ pub fn put_torn(f: &mut [u8], seed: u64) {
 
 // ---- a pair of faults
 
-// Faults i and j in the small vault; what fault i stores stays.
-pub fn put_damaged(f: &mut [u8], m: &[u8], i: usize, j: usize) {
-    encode(f, m);
-    damage(f, j);
-    damage(f, i);
+// Faults i and j in the small vault, its index under a mark; what fault i stores stays.
+pub fn put_damaged(f: &mut [u8], form: usize, m: &[u8], i: usize, j: usize) {
+    encode(f, form, m);
+    damage(f, form, j);
+    damage(f, form, i);
     put(f, ONLY_REFUSALS, 1);
 }
 
-pub fn settle_all(f: &mut [u8], i: usize, j: usize) {
-    settle(f, 0, 9, i, j);
-    settle(f, 1, 100, i, j);
-    settle(f, 2, 136, i, j);
-    settle(f, 3, 96, i, j);
+pub fn settle_all(f: &mut [u8], form: usize, i: usize, j: usize) {
+    settle(f, form, 0, 9, i, j);
+    settle(f, form, 1, 100, i, j);
+    settle(f, form, 2, 136, i, j);
+    settle(f, form, 3, 96, i, j);
 }

@@ -10,14 +10,13 @@ use tests_plain::bytes::next;
 use tests_plain::bytes::pick;
 use tests_plain::bytes::plus;
 use tests_plain::bytes::put;
-use tests_plain::bytes::put_2;
 use tests_plain::bytes::repeat;
 use tests_plain::model::chunk_at;
 use tests_plain::model::file_at;
 use tests_plain::model::keyword_at;
 use tests_plain::model::keyword_size;
 use tests_plain::model::keywords;
-use tests_plain::model::size_at;
+use tests_plain::model::put_size;
 
 // Ten lengths, seven families of keywords, both fold flags, twice.
 pub const ALL: usize = 280;
@@ -66,7 +65,7 @@ fn put_drawn_words(m: &mut [u8], seed: u64) {
 }
 
 // Endings of each other; periodic ones; beginnings of each other; one that goes back at each byte; drawn ones; 16 long ones of both ways.
-fn put_family(m: &mut [u8], family: usize, seed: u64) {
+pub fn put_family(m: &mut [u8], family: usize, seed: u64) {
     if family == 0 {
         return put_words(m, 5, b"\x05DEDUP\x04EDUP\x03DUP\x02UP\x01P");
     }
@@ -100,14 +99,14 @@ fn cased(b: u8, small: bool) -> u8 {
 }
 
 // n bytes of the model at another place of it too, as they are or small.
-fn put_letters(m: &mut [u8], to: usize, from: usize, n: usize, small: bool) {
+pub fn put_letters(m: &mut [u8], to: usize, from: usize, n: usize, small: bool) {
     for i in 0..n {
         put(m, plus(to, i), cased(get(m, plus(from, i)), small));
     }
 }
 
 // A beginning of a keyword at an offset of chunk c, if the chunk has that offset; the offset behind.
-fn put_piece(m: &mut [u8], c: usize, size: usize, at: usize, seed: u64) -> usize {
+pub fn put_piece(m: &mut [u8], c: usize, size: usize, at: usize, seed: u64) -> usize {
     if size <= at {
         return at;
     }
@@ -125,8 +124,8 @@ fn put_piece(m: &mut [u8], c: usize, size: usize, at: usize, seed: u64) -> usize
 }
 
 // Chunk c, of beginnings of keywords.
-fn put_text(m: &mut [u8], c: usize, size: usize, seed: u64) -> u64 {
-    put_2(m, size_at(c), size);
+pub fn put_text(m: &mut [u8], c: usize, size: usize, seed: u64) -> u64 {
+    put_size(m, c, size);
     let mut at: usize = 0;
     let mut s = seed;
     for i in 0..size {
@@ -159,7 +158,7 @@ fn plant_all(m: &mut [u8], size: usize, seed: u64) {
 }
 
 // Chunk 0 ends with a keyword's first bytes, and chunk 1 starts with the others.
-fn cut(m: &mut [u8], size: usize, seed: u64) {
+pub fn cut(m: &mut [u8], size: usize, seed: u64) {
     let k = pick(seed, keywords(m));
     let n = keyword_size(m, k);
     let i = pick(next(seed), n);
@@ -177,7 +176,7 @@ fn put_chunks(m: &mut [u8], size: usize, next_size: usize, seed: u64) {
 }
 
 // A file of both chunks, and an empty one.
-fn put_files(m: &mut [u8]) {
+pub fn put_files(m: &mut [u8]) {
     put(m, 3, 2);
     copy(m, file_at(0), b"\x02\x00\x01", 0, 3);
     put(m, file_at(1), 0);

@@ -14,11 +14,11 @@ pub fn room() -> [u8; 1310800]
     [0; 1310800]
 }
 
-// An index of a chunk of 65,535 bytes and one of 1 byte, both with empty bodies, and the keyword AAA: 78 bytes.
-pub fn put_long_index(out: &mut [u8]) {
-    put_mark(out, 0, 0x4D, 2);
+// An index of a chunk of `size` bytes and one of 1 byte, both with empty bodies, and the keyword AAA: 78 bytes.
+pub fn put_long_index(out: &mut [u8], form: usize, size: usize) {
+    put_mark(out, 0, 0x4D, form, 2);
     copy(out, 8, b"\x01\x00\x03AAA", 0, 6);
-    put_long_entry(out, 14, 0, 65535);
+    put_long_entry(out, 14, 0, size);
     put_long_entry(out, 46, 1, 1);
 }
 

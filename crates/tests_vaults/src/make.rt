@@ -6,7 +6,6 @@ use tests_plain::bytes::next;
 use tests_plain::bytes::pick;
 use tests_plain::bytes::plus;
 use tests_plain::bytes::put;
-use tests_plain::bytes::put_2;
 use tests_plain::model::chunk_at;
 use tests_plain::model::chunk_size;
 use tests_plain::model::chunks;
@@ -17,7 +16,7 @@ use tests_plain::model::keyword_size;
 use tests_plain::model::keywords;
 use tests_plain::model::mark_at;
 use tests_plain::model::partial_at;
-use tests_plain::model::size_at;
+use tests_plain::model::put_size;
 
 // ---- from a seed
 
@@ -107,7 +106,7 @@ fn make_chunks(m: &mut [u8], n: usize, kind: usize, alphabet: usize, seed: u64) 
     for c in 0..n {
         s = next(s);
         let size = chunk_length(kind, c, s);
-        put_2(m, size_at(c), size);
+        put_size(m, c, size);
         s = spell(m, chunk_at(c), size, alphabet, s);
     }
     s

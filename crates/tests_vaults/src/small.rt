@@ -3,14 +3,13 @@ use tests_plain::bytes::copy;
 use tests_plain::bytes::num;
 use tests_plain::bytes::plus;
 use tests_plain::bytes::put;
-use tests_plain::bytes::put_2;
 use tests_plain::model::chunk_at;
 use tests_plain::model::file_at;
 use tests_plain::model::keyword_at;
-use tests_plain::model::size_at;
+use tests_plain::model::put_size;
 
 // n keywords, one behind the other, each a length byte and its bytes.
-pub(crate) fn put_words(m: &mut [u8], n: usize, words: &[u8]) {
+pub fn put_words(m: &mut [u8], n: usize, words: &[u8]) {
     put(m, 0, (n % 256) as u8);
     let mut at: usize = 0;
     for k in 0..n {
@@ -22,7 +21,7 @@ pub(crate) fn put_words(m: &mut [u8], n: usize, words: &[u8]) {
 
 fn small_chunk(m: &mut [u8], c: usize, bytes: &[u8]) {
     let n = bytes.len();
-    put_2(m, size_at(c), n);
+    put_size(m, c, n);
     copy(m, chunk_at(c), bytes, 0, n);
 }
 

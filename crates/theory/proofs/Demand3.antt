@@ -12,13 +12,13 @@ use lib.Dec.{ltb}
 use borrow.Author.Tests.{ltb-false, le-ltb, ne-eqb}
 use Rattle.spec.specs.declared.Outcome.{Outcome}
 use Rattle.spec.specs.declared.Outcome.the-variants.{Done, Refused}
-use Rattle.spec.specs.Bytes.{splice, written}
+use Rattle.spec.specs.Bytes.{largest32, splice, written}
 use Rattle.spec.specs.Outcome.{codeOf, valueOf, answer, unlessRefused}
 use Rattle.spec.specs.Keywords.{keywordCode}
 use Rattle.spec.specs.Directory.{sizeAt}
 use Rattle.spec.specs.Store.{storeLayout, storeKeys, storeCode}
 use Rattle.spec.specs.Form.{newest, formOf}
-use Rattle.spec.specs.Recipes.{largest32, filesOf, recipesCode, filesCode}
+use Rattle.spec.specs.Recipes.{filesOf, recipesCode, filesCode}
 use Rattle.spec.specs.Join.{listBytes, innerLeast, joinOutcome, joinBuffer, readList}
 use Rattle.spec.specs.Trie.{scanMoves}
 use Rattle.spec.specs.Scan.{scanIndex, scannableCode, scanCode, scanOutcome, withMoves, scanAnswer, scanBuffer, scannedCode, scannedLength}

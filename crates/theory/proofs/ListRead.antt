@@ -9,12 +9,12 @@ use native.Mathlib.Omega.{arith}
 use lib.ListN.{length, getD, drop, length-append, length-map}
 use lib.Dec.{ltb}
 use borrow.Author.Tests.{ltb-true, ltb-false}
-use Rattle.spec.specs.Bytes.{fieldAt, occursAt, sum, joined}
+use Rattle.spec.specs.Bytes.{largest32, fieldAt, occursAt, sum, joined}
 use Rattle.spec.specs.Keywords.{flagOf, folded, foldedKeywords, keywordCode}
 use Rattle.spec.specs.Directory.{sizeAt}
 use Rattle.spec.specs.Store.{storeLayout, storeKeys}
 use Rattle.spec.specs.Form.{Form}
-use Rattle.spec.specs.Recipes.{largest32, mostFiles, fileCount, readFiles, fileCode, filesCode, filesOf, recipesCode}
+use Rattle.spec.specs.Recipes.{mostFiles, fileCount, readFiles, fileCode, filesCode, filesOf, recipesCode}
 use Rattle.spec.specs.Join.{Occurrence, keywordAt, occurrenceBytes, listBytes, innerLeast, readList}
 use Rattle.spec.specs.Search.{chunkNamed, restored, directSearch}
 use Rattle.spec.proofs.Tests.{and-left, and-right}

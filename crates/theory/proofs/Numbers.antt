@@ -8,13 +8,13 @@ use Prim.Native.Nat.{ℕ, zero, suc, _+_, _*_}
 use lib.Dec.{eqb, ltb}
 use lib.ListN.{length, take, drop}
 use borrow.Author.Tests.{eqb-true}
-use Rattle.spec.specs.Bytes.{same, contains, twice, member, every, sum}
+use Rattle.spec.specs.Bytes.{largest32, same, contains, twice, member, every, sum}
 use Rattle.spec.specs.Keywords.{countOf, listSize, foldedKeywords, readCode, headerWrong, keywordCode, keywordFrontCode}
 use Rattle.spec.specs.Directory.{Layout, directoryEnd, sizeAt, offsetAt, lengthAt, entriesCode}
-use Rattle.spec.specs.Store.{storeMark, storeLayout, chunkCount, mostChunks, storeKeys, storeCode}
+use Rattle.spec.specs.Store.{storeMark, storeLayout, chunkCount, mostChunks, storeKeys, storeCode, chunkEnd, chunksCode}
 use Rattle.spec.specs.Form.{Form, newest, formOf}
 use Rattle.spec.specs.Index.{listIn, indexLayout, indexKeys, allGood, headerCode, directoryCode, laidCode, indexCode}
-use Rattle.spec.specs.Recipes.{largest32, mostFiles, fileCount, filesWhole, innerLong, sizesIn, filesOf, recipesCode, fileCode, filesCode}
+use Rattle.spec.specs.Recipes.{mostFiles, fileCount, filesWhole, innerLong, sizesIn, filesOf, recipesCode, fileCode, filesCode}
 use Rattle.spec.specs.Join.{joinList, innerLeast, joinableCode, joinCode}
 use Rattle.spec.specs.Lookup.{lookupCode, findChunk, findBody}
 use Rattle.spec.specs.Scan.{scanIndex, scannableCode, scanCode}
@@ -81,7 +81,16 @@ module _ (numbers : List ℕ) (code : ℕ) (p : member code numbers ≡ true) (q
       (entries-number n (suc k) (at + lengthAt layout bytes k)) q))
 
 abbrev ofStore : List ℕ
-ofStore = 0 ∷ 5 ∷ 6 ∷ 7 ∷ 8 ∷ []
+ofStore = 0 ∷ 5 ∷ 6 ∷ 7 ∷ 8 ∷ 20 ∷ []
+
+chunks-number : (store : List ℕ) (n k at : ℕ) → member (chunksCode store n k at) ofStore ≡ true
+chunks-number store zero k at = test-in ofStore (not (eqb at (length store))) 7 0 refl refl
+chunks-number store (suc n) k at =
+    let size = sizeAt storeLayout store k in
+    test-in ofStore (eqb size 0 || ltb (newest .longestChunk) size) 7 _ refl
+    (test-in ofStore (not (eqb (offsetAt storeLayout store k) at)) 7 _ refl
+    (test-in ofStore (ltb largest32 (chunkEnd store k)) 20 _ refl
+    (whole-in ofStore (chunksCode store n (suc k) (chunkEnd store k)) 0 (chunks-number store n (suc k) (chunkEnd store k)) refl)))
 
 store-number : (store : List ℕ) → member (storeCode store) ofStore ≡ true
 unfolding storeCode
@@ -90,8 +99,7 @@ store-number store =
     let end = directoryEnd storeLayout c in
     test-in ofStore (ltb (length store) 8 || not (same (take 4 store) storeMark)) 5 _ refl
     (test-in ofStore (ltb mostChunks c || ltb (length store) end) 6 _ refl
-    (whole-in ofStore (entriesCode storeLayout store (newest .longestChunk) 7 c 0 end) _
-    (entries-number ofStore 7 refl refl storeLayout store (newest .longestChunk) c 0 end)
+    (whole-in ofStore (chunksCode store c 0 end) _ (chunks-number store c 0 end)
     (test-in ofStore (twice (storeKeys store)) 8 0 refl refl)))
 
 abbrev ofIndex : List ℕ
@@ -144,7 +152,7 @@ module _ (keys : List (List ℕ)) (sizeOf : ℕ → ℕ) (least : ℕ) where
 -- ---- the operations
 
 abbrev ofScan : List ℕ
-ofScan = 0 ∷ 1 ∷ 2 ∷ 3 ∷ 4 ∷ 5 ∷ 6 ∷ 7 ∷ 8 ∷ 9 ∷ []
+ofScan = 0 ∷ 1 ∷ 2 ∷ 3 ∷ 4 ∷ 5 ∷ 6 ∷ 7 ∷ 8 ∷ 9 ∷ 20 ∷ []
 
 scan-number : (f : Form) (list store : List ℕ) (room : ℕ) → member (scanCode f list store room) ofScan ≡ true
 unfolding scanCode scannableCode
@@ -171,7 +179,7 @@ join-number f index recipes room =
     (test-in ofJoin (ltb room (9 * length (joinList f index recipes))) 18 0 refl refl)
 
 abbrev pub ofSearch : List ℕ
-ofSearch = 0 ∷ 1 ∷ 2 ∷ 3 ∷ 4 ∷ 5 ∷ 6 ∷ 7 ∷ 8 ∷ 9 ∷ 14 ∷ 15 ∷ 16 ∷ 17 ∷ 18 ∷ []
+ofSearch = 0 ∷ 1 ∷ 2 ∷ 3 ∷ 4 ∷ 5 ∷ 6 ∷ 7 ∷ 8 ∷ 9 ∷ 14 ∷ 15 ∷ 16 ∷ 17 ∷ 18 ∷ 20 ∷ []
 
 search-number : (f : Form) (list store recipes : List ℕ) (indexRoom room : ℕ) → member (searchCode f list store recipes indexRoom room) ofSearch ≡ true
 unfolding searchCode searchJoinCode
@@ -194,7 +202,7 @@ lookup-number numbers code keys key p q r z =
     (test-in numbers (not (eqb (length key) 20)) 19 _ q (test-in numbers (not (contains key keys)) 15 0 r z))
 
 abbrev ofChunk : List ℕ
-ofChunk = 0 ∷ 5 ∷ 6 ∷ 7 ∷ 8 ∷ 15 ∷ 19 ∷ []
+ofChunk = 0 ∷ 5 ∷ 6 ∷ 7 ∷ 8 ∷ 15 ∷ 19 ∷ 20 ∷ []
 
 chunk-number : (store key : List ℕ) → member (findChunk store key) ofChunk ≡ true
 unfolding findChunk

@@ -9,14 +9,14 @@ use native.Mathlib.Omega.{arith}
 use lib.ListN.{length, getD}
 use lib.Dec.{ltb}
 use borrow.Author.Tests.{ltb-true, ltb-false, lt-ltb, le-leb, ne-eqb, not-false}
-use Rattle.spec.specs.Bytes.{written, contains, positionOf, every, sum, joined}
+use Rattle.spec.specs.Bytes.{largest32, written, contains, positionOf, every, sum, joined}
 use Rattle.spec.specs.Outcome.{firstOf, firstCode, whole, answer, unlessRefused}
 use Rattle.spec.specs.Keywords.{flagOf, folded, keywordsOf, foldedKeywords, keywordCode}
 use Rattle.spec.specs.Directory.{sizeAt}
 use Rattle.spec.specs.Store.{storeLayout, chunkCount, storeKeys}
 use Rattle.spec.specs.Form.{Form}
 use Rattle.spec.specs.Index.{listIn, indexLayout, indexKeys}
-use Rattle.spec.specs.Recipes.{largest32, innerLong, sizesIn, fileCode, filesCode, filesOf, recipesCode}
+use Rattle.spec.specs.Recipes.{innerLong, sizesIn, fileCode, filesCode, filesOf, recipesCode}
 use Rattle.spec.specs.Join.{Occurrence, fileRecords, joinList, listBytes, innerLeast, joinableCode, joinCode, joinOutcome, joinBuffer}
 use Rattle.spec.specs.Scan.{scanRecords}
 use Rattle.spec.specs.Search.{chunkNamed, restored, directSearch, searchJoinCode, occurrencesInAll}

@@ -7,10 +7,10 @@ use mathlib.Core.List.{List, [], _∷_, map}
 use Prim.Native.Nat.{ℕ, _≤_, _<_}
 use native.Mathlib.Omega.{arith}
 use lib.ListN.{length, getD, length-map}
-use Rattle.spec.specs.Bytes.{same, contains, positionOf, every, joined}
+use Rattle.spec.specs.Bytes.{largest32, same, contains, positionOf, every, joined}
 use Rattle.spec.specs.Keywords.{folded, foldedAll, keywordListBytes, foldedKeywords}
 use Rattle.spec.specs.Store.{Chunk, storeBytes, chunkAt}
-use Rattle.spec.specs.Recipes.{recipesBytes, largest32}
+use Rattle.spec.specs.Recipes.{recipesBytes}
 use Rattle.spec.specs.Search.{chunkNamed, restored, occurrencesInAll, directSearch}
 use Rattle.spec.proofs.Tests.{bool-cases}
 use Rattle.theory.specs.WrittenInputs.{fileFits, chunksFit, bytesUnder, allNamed, WrittenInputs}

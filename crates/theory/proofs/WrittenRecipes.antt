@@ -10,9 +10,9 @@ use borrow.Author.Tests.{eqb-true, le-ltb, ltb-false, not-false}
 use lib.Dec.{leb, ltb}
 use lib.ListN.{length, take, drop, length-append, length-drop}
 use lib.Seq.{take-at, drop-at, take-add}
-use Rattle.spec.specs.Bytes.{part, leBytes, fieldAt, every, joined, AllBytes}
+use Rattle.spec.specs.Bytes.{largest32, part, leBytes, fieldAt, every, joined, AllBytes}
 use Rattle.spec.specs.Directory.{keysOf}
-use Rattle.spec.specs.Recipes.{fileBytes, recipesBytes, fileCount, mostFiles, largest32, filesWhole, readFiles, filesOf, recipesCode}
+use Rattle.spec.specs.Recipes.{fileBytes, recipesBytes, fileCount, mostFiles, filesWhole, readFiles, filesOf, recipesCode}
 use Rattle.spec.proofs.Tests.{leb-true, le-of-and, and-left, and-right}
 use Rattle.spec.proofs.Same.{same-eq}
 use Rattle.spec.proofs.Codes.{passed}

@@ -11,20 +11,18 @@ use borrow.Author.Tests.{eqb-true, le-ltb}
 use lib.Dec.{leb, ltb}
 use lib.ListN.{length, take, drop, getD, length-append}
 use lib.Seq.{drop-drop, drop-length}
-use Rattle.spec.specs.Bytes.{part, leBytes, fieldAt, same, twice, every, joined, AllBytes}
-use Rattle.spec.specs.Directory.{keysOf, sizeAt, offsetAt, lengthAt, entriesCode}
+use Rattle.spec.specs.Bytes.{largest32, part, leBytes, fieldAt, same, twice, every, joined, AllBytes}
+use Rattle.spec.specs.Directory.{keysOf, lengthAt}
 use Rattle.spec.specs.Form.{newest}
-use Rattle.spec.specs.Recipes.{largest32}
-use Rattle.spec.specs.Store.{Chunk, storeMark, storeLayout, mostChunks, storeDirectoryBytes, storeBytes, chunkCount, storeKeys, chunkAt, storeCode}
+use Rattle.spec.specs.Store.{Chunk, storeMark, storeLayout, mostChunks, storeDirectoryBytes, storeBytes, chunkCount, storeKeys, chunkAt, chunkEnd, chunksCode, storeCode}
 use Rattle.spec.proofs.Tests.{eqb-same, le-of-and, and-left, and-right}
 use Rattle.spec.proofs.Codes.{passed, passed-whole}
 use Rattle.spec.proofs.Fields.{length-leBytes}
-use Rattle.spec.proofs.EntryLaws.{keyIn-at, entries-step, entries-last}
+use Rattle.spec.proofs.EntryLaws.{keyIn-at}
 use Rattle.spec.proofs.KnownBytes.{part-here, behind-part, field-here, behind-field}
-use Rattle.spec.proofs.WrittenEntries.{entry-passes}
 use Rattle.spec.proofs.OneForm.{part-split, field-split}
 use Rattle.spec.proofs.JoinIsSearch.{getD-map}
-use Rattle.spec.proofs.StoreLaws.{StoreGood, store-good, chunk-length}
+use Rattle.spec.proofs.StoreLaws.{StoreGood, store-good, chunk-length, chunks-end, chunks-more, chunks-step, chunks-last}
 use Rattle.spec.proofs.Tabulated.{tabulated, length-tabulated, tabulated-getD, tabulated-same}
 use Rattle.theory.specs.WrittenInputs.{storedChunk, storedChunks, isFingerprint, chunkFits, chunksFit, StoreReads, WrittenStores}
 
@@ -69,10 +67,6 @@ length-directory at [] e = refl
 length-directory at (c ∷ cs) e =
     let k : length (c .key) ≡ 20 = first-fits c cs e .long in
     simp (length-append, length-leBytes, length-directory (at + length (c .bytes)) cs (rest-fits c cs e)) (omega arith)
-
-chunks-most : (cs : List Chunk) → every chunkFits cs ≡ true → length (chunkBytes cs) ≤ newest .longestChunk * length cs
-chunks-most [] e = omega arith
-chunks-most (c ∷ cs) e = omega (arith, length-append (c .bytes) (chunkBytes cs), first-fits c cs e .high, chunks-most cs (rest-fits c cs e))
 
 -- the next entry, and what follows it
 directory-cons : (at : ℕ) (c : Chunk) (cs : List Chunk) (rest : List ℕ)
@@ -158,18 +152,19 @@ chunk-read store at b (c ∷ cs) h (suc k) l =
     rw n (chunk-read store (at + 28) (b + length (c .bytes)) cs (next-holds store at b c cs h) k (le-of-suc-le-suc l))
 
 entries-written : (store : List ℕ) (k b : ℕ) (cs : List Chunk) → Holds store (8 + 28 * k) b cs → b + length (chunkBytes cs) ≡ length store
-    → entriesCode storeLayout store (newest .longestChunk) 7 (length cs) k b ≡ 0
-entries-written store k b [] h e = let z : b ≡ length store = omega arith in rw (z, eqb-same)
+    → chunksCode store (length cs) k b ≡ 0
+entries-written store k b [] h e = chunks-end store k b (omega arith)
 entries-written store k b (c ∷ cs) h e =
     let at = 8 + 28 * k in
     let s = first-size store at b c cs h in
+    let p = first-offset store at b c cs h in
     let o = own store at b c cs h in
     let n : 8 + 28 * suc k ≡ at + 28 = omega arith in
-    entry-passes (sizeAt storeLayout store k) (offsetAt storeLayout store k) b (newest .longestChunk) 7
-    (entriesCode storeLayout store (newest .longestChunk) 7 (length cs) (suc k) (b + lengthAt storeLayout store k))
-    (rw s (o .low)) (rw s (o .high)) (first-offset store at b c cs h)
-    (rw s (entries-written store (suc k) (b + length (c .bytes)) cs (rw n (next-holds store at b c cs h))
-    (omega (arith, length-append (c .bytes) (chunkBytes cs)))))
+    let end : chunkEnd store k ≡ b + length (c .bytes) = ap₂ {C = ℕ} (λ x y. x + y) p s in
+    chunks-more store (length cs) k b (rw s (o .low)) (rw s (o .high)) p (omega (arith, end, rest-length store at b c cs h))
+    ∙ ap (chunksCode store (length cs) (suc k)) end
+    ∙ entries-written store (suc k) (b + length (c .bytes)) cs (rw n (next-holds store at b c cs h))
+    (omega (arith, length-append (c .bytes) (chunkBytes cs)))
 
 -- ---- a written store
 
@@ -180,14 +175,21 @@ module _ (chunks : List Chunk) (fits : chunksFit chunks ≡ true) where
   abbrev start : ℕ
   start = 8 + 28 * length chunks
 
+  both-fit : (leb (length chunks) mostChunks && every chunkFits chunks) ≡ true
+  both-fit = and-left _ (leb (length store) largest32) fits
+
   few : length chunks ≤ mostChunks
-  few = le-of-and (length chunks) mostChunks (every chunkFits chunks) fits
+  few = le-of-and (length chunks) mostChunks (every chunkFits chunks) both-fit
 
   each-fits : every chunkFits chunks ≡ true
-  each-fits = and-right (leb (length chunks) mostChunks) (every chunkFits chunks) fits
+  each-fits = and-right (leb (length chunks) mostChunks) (every chunkFits chunks) both-fit
 
-  short-chunks : start + length (chunkBytes chunks) ≤ largest32
-  short-chunks = omega (arith, few, chunks-most chunks each-fits)
+  short : length store ≤ largest32
+  short = le-of-and (length store) largest32 true (rw (and-right (leb (length chunks) mostChunks && every chunkFits chunks) _ fits))
+
+  length-store : length store ≡ start + length (chunkBytes chunks)
+  unfolding storeBytes
+  length-store = simp (length-append, length-leBytes, length-directory start chunks each-fits)
 
   s4 : drop 4 store ≡ leBytes 4 (length chunks) ++ (storeDirectoryBytes start chunks ++ chunkBytes chunks)
   s4 = behind-part store 0 storeMark (leBytes 4 (length chunks) ++ (storeDirectoryBytes start chunks ++ chunkBytes chunks)) 4 refl (store-parts chunks)
@@ -208,12 +210,8 @@ module _ (chunks : List Chunk) (fits : chunksFit chunks ≡ true) where
         directory = s8;
         bytes = behind-part store 8 (storeDirectoryBytes start chunks) (chunkBytes chunks) (28 * length chunks) (length-directory start chunks each-fits) s8;
         fit = each-fits;
-        within = short-chunks;
+        within = omega (arith, length-store, short);
       }
-
-  length-store : length store ≡ start + length (chunkBytes chunks)
-  unfolding storeBytes
-  length-store = simp (length-append, length-leBytes, length-directory start chunks each-fits)
 
   keys-are : storeKeys store ≡ keysUnder chunks
   unfolding storeKeys
@@ -237,7 +235,7 @@ module _ (chunks : List Chunk) (fits : chunksFit chunks ≡ true) where
       ∙ tabulated-getD chunks noChunk (length chunks) refl
 
   pub store-read : StoreReads chunks
-  store-read = record { count = count-read; keys = keys-are; bytes = chunk-is; stored = stored-is; short = omega (arith, length-store, short-chunks) }
+  store-read = record { count = count-read; keys = keys-are; bytes = chunk-is; stored = stored-is }
 
   store-passes : twice (keysUnder chunks) ≡ false → storeCode store ≡ 0
   unfolding storeCode
@@ -279,29 +277,29 @@ module _ (store : List ℕ) (bytes : AllBytes store) where
       (field-split store (at + 24) 4 (at + 28) _ bytes (omega arith) (omega arith) refl))
 
   -- n entries from k on, with their chunks from `at` on
-  directory-is : (n k at : ℕ) → entriesCode storeLayout store (newest .longestChunk) 7 n k at ≡ 0 → 8 + 28 * (k + n) ≤ length store
+  directory-is : (n k at : ℕ) → chunksCode store n k at ≡ 0 → 8 + 28 * (k + n) ≤ length store
       → ((e : ℕ) → k ≤ e → e < k + n → sizeIn e ≡ lengthAt storeLayout store e)
       → drop (8 + 28 * k) store ≡ storeDirectoryBytes at (tabulated chunkIn k n) ++ drop (8 + 28 * (k + n)) store
   unfolding storeDirectoryBytes
   directory-is zero k at e h w = rw add-zero
   directory-is (suc n) k at e h w =
-      let s = entries-step storeLayout store (newest .longestChunk) 7 n k at (omega arith) e in
+      let s = chunks-step store n k at e in
       let l : sizeIn k ≡ lengthAt storeLayout store k = w k (omega arith) (omega arith) in
       let more : drop (8 + 28 * k + 28) store ≡ storeDirectoryBytes (at + sizeIn k) (tabulated chunkIn (suc k) n) ++ drop (8 + 28 * (k + suc n)) store =
       let a : 8 + 28 * k + 28 ≡ 8 + 28 * suc k = omega arith in
       let b : k + suc n ≡ suc k + n = omega arith in
-      rw (a, b) (directory-is n (suc k) (at + sizeIn k) (rw l (s .3)) (omega arith) (λ j u v. w j (omega arith) (omega arith))) in
+      rw (a, b) (directory-is n (suc k) (at + sizeIn k) (rw (l, ← s .place) (s .others)) (omega arith) (λ j u v. w j (omega arith) (omega arith))) in
       entry-split (8 + 28 * k) (omega arith)
-      ∙ entry-same (part store (8 + 28 * k) 20) _ at _ _ _ _ (s .2) (sym l) more
+      ∙ entry-same (part store (8 + 28 * k) 20) _ at _ _ _ _ (s .place) (sym l) more
       ∙ sym (directory-cons at (chunkIn k) (tabulated chunkIn (suc k) n) (drop (8 + 28 * (k + suc n)) store))
 
-  chunks-follow : (n k at : ℕ) → entriesCode storeLayout store (newest .longestChunk) 7 n k at ≡ 0 → drop at store ≡ chunkBytes (tabulated chunkIn k n)
+  chunks-follow : (n k at : ℕ) → chunksCode store n k at ≡ 0 → drop at store ≡ chunkBytes (tabulated chunkIn k n)
   unfolding chunkAt
-  chunks-follow zero k at e = rw (entries-last storeLayout store (newest .longestChunk) 7 k at (omega arith) e) (drop-length store)
+  chunks-follow zero k at e = rw (chunks-last store k at e) (drop-length store)
   chunks-follow (suc n) k at e =
-      let s = entries-step storeLayout store (newest .longestChunk) 7 n k at (omega arith) e in
+      let s = chunks-step store n k at e in
       part-split store at (lengthAt storeLayout store k)
-      ∙ rw (chunks-follow n (suc k) (at + lengthAt storeLayout store k) (s .3), s .2)
+      ∙ rw (chunks-follow n (suc k) (at + lengthAt storeLayout store k) (rw (← s .place) (s .others)), s .place)
 
   module _ (e : storeCode store ≡ 0) where
     good : StoreGood store
@@ -310,7 +308,7 @@ module _ (store : List ℕ) (bytes : AllBytes store) where
     abbrev count : ℕ
     count = chunkCount store
 
-    walk : entriesCode storeLayout store (newest .longestChunk) 7 count 0 (8 + 28 * count) ≡ 0
+    walk : chunksCode store count 0 (8 + 28 * count) ≡ 0
     unfolding storeCode
     walk =
         let a = passed (ltb (length store) 8 || not (same (take 4 store) storeMark)) 5 _ (omega arith) e in

@@ -3,19 +3,19 @@
 use mathlib.Core.Path.{_≡_}
 use mathlib.Core.List.{List, [], _∷_, _++_, map}
 use Prim.Native.Nat.{ℕ, suc, _+_}
-use lib.ListN.{replicate, length}
+use lib.ListN.{replicate, length, take}
 use lib.Dec.{ltb}
 use Rattle.spec.specs.declared.Outcome.{Outcome}
 use Rattle.spec.specs.declared.Outcome.the-variants.{Done, Refused}
 use Rattle.spec.specs.declared.Scanned.the-variants as Scanned
 use Rattle.spec.specs.Bytes.{leBytes, fieldsBytes, each, keep}
 use Rattle.spec.specs.Keywords.{folded, keywordListBytes, keywordCode}
-use Rattle.spec.specs.Store.{storeMark, Chunk, storeBytes}
+use Rattle.spec.specs.Store.{storeMark, Chunk, storeBytes, chunksCode}
 use Rattle.spec.specs.Directory.{offsetAt}
-use Rattle.spec.specs.Form.{form1, newest, formOf}
+use Rattle.spec.specs.Form.{form1, form2, newest, formOf}
 use Rattle.spec.specs.Records.{offsetsOf}
 use Rattle.spec.specs.Table.{cellOf}
-use Rattle.spec.specs.Index.{indexLayout, bodyAt, indexCode}
+use Rattle.spec.specs.Index.{indexLayout, entryBytes, bodyAt, indexCode}
 use Rattle.spec.specs.Recipes.{recipesBytes}
 use Rattle.spec.specs.Join.{joinOutcome, joinBuffer}
 use Rattle.spec.specs.Scan.{scanIndex, scanAnswer, toldMoves}
@@ -67,6 +67,10 @@ recipesOf files = recipesBytes (map (map fingerprint) files)
 abbrev pub index : List ℕ
 index = scanIndex form1 keywords store
 
+-- Its index under request #105's mark.
+abbrev pub widerIndex : List ℕ
+widerIndex = scanIndex form2 keywords store
+
 -- A store of one chunk, and one keyword with a flag.
 abbrev pub oneChunk : List ℕ → List ℕ
 oneChunk chunk = storeBytes (record { key = fingerprint 1; bytes = chunk } ∷ [])
@@ -113,6 +117,22 @@ olderIndex flag = 0x44 ∷ 0x4D ∷ 0x31 ∷ 0x0A ∷ 0 ∷ 0 ∷ 0 ∷ 0 ∷ ac
 abbrev pub accentedIndex : ℕ → List ℕ
 accentedIndex flag =
     scanIndex newest (oneKeyword flag (0xE9 ∷ 0xC9 ∷ [])) (storeBytes (numbered 1 ((0xC9 ∷ []) ∷ (0xE9 ∷ []) ∷ [])))
+
+-- Request #105: an index under the mark with a digit, of a chunk of a length and no record, and the keyword A; its check.
+abbrev pub markedIndex : ℕ → ℕ → List ℕ
+markedIndex digit size =
+    0x44 ∷ 0x4D ∷ (0x30 + digit) ∷ 0x0A ∷ 1 ∷ 0 ∷ 0 ∷ 0 ∷ oneKeyword 0 (0x41 ∷ []) ++ entryBytes (fingerprint 1) size 44 0
+
+abbrev pub markedCode : ℕ → ℕ → ℕ
+markedCode digit size = indexCode (formOf (markedIndex digit size)) (markedIndex digit size)
+
+-- Entries of a store, each an offset and a length, without the chunks; the number of these entries where the first chunk is due at `at`.
+abbrev pub bareEntries : List (ℕ × ℕ) → List ℕ
+bareEntries [] = []
+bareEntries (e ∷ es) = fingerprint 1 ++ leBytes 4 (e .0) ++ leBytes 4 (e .1) ++ bareEntries es
+
+abbrev pub entriesNumber : ℕ → List (ℕ × ℕ) → ℕ
+entriesNumber at es = chunksCode (storeMark ++ leBytes 4 (length es) ++ bareEntries es) (length es) 0 at
 
 -- The cells of a keyword's table that hold something, by i and then by j, each from 0 to n - 1.
 abbrev pub filledCells : List ℕ → List (ℕ × ℕ × List ℕ)
@@ -176,6 +196,28 @@ pub record Cases : Type 0 where
   pub foldedMoves : (movesFor 1 ((0x61 ∷ 0x62 ∷ []) ∷ []) ((0x41 ∷ 0x42 ∷ 0x58 ∷ []) ∷ []) ≡ 4)
       × (movesFor 0 ((0x61 ∷ 0x62 ∷ []) ∷ []) ((0x61 ∷ 0x62 ∷ 0x58 ∷ []) ∷ []) ≡ 4)
       × (movesFor 0 ((0x61 ∷ 0x62 ∷ []) ∷ []) ((0x41 ∷ 0x42 ∷ 0x58 ∷ []) ∷ []) ≡ 3)
+  -- request #105: under its mark the index has 138 bytes, the bodies at 113, 121 and 132, with fields of 3 bytes; the list is the same
+  pub wider : (scanAnswer form2 keywords store 138 ≡ Scanned.Done 138 10)
+      × (scanAnswer form2 keywords store 137 ≡ Scanned.Refused 9)
+      × (take 4 widerIndex ≡ 0x44 ∷ 0x4D ∷ 0x32 ∷ 0x0A ∷ [])
+      × (indexCode (formOf widerIndex) widerIndex ≡ 0)
+  pub widerBodies : (map (offsetAt (indexLayout widerIndex) widerIndex) (0 ∷ 1 ∷ 2 ∷ []) ≡ 113 ∷ 121 ∷ 132 ∷ [])
+      × (bodyAt widerIndex 0 ≡ 0x00 ∷ 0x01 ∷ 0x02 ∷ 0x00 ∷ 0x00 ∷ 0x00 ∷ 0x00 ∷ 0x00 ∷ [])
+      × (bodyAt widerIndex 1 ≡ 0x00 ∷ 0x01 ∷ 0x00 ∷ 0x01 ∷ 0x01 ∷ 0x00 ∷ 0x00 ∷ 0x00 ∷ 0x01 ∷ 0x00 ∷ 0x02 ∷ [])
+      × (bodyAt widerIndex 2 ≡ 0x00 ∷ 0x00 ∷ 0x03 ∷ 0x01 ∷ 0x00 ∷ 0x03 ∷ [])
+  pub widerList : (joinOutcome (formOf widerIndex) widerIndex recipes 30 ≡ Done 3)
+      × (joinBuffer (formOf widerIndex) widerIndex recipes (replicate 30 7) ≡ nine 0 1 0 ++ nine 0 3 0 ++ nine 1 0 1 ++ replicate 3 7)
+  -- L: 65,535 and not 65,536 under the old mark, 1,048,576 and not 1,048,577 under the new one; the next digit is no mark yet
+  pub longestByMark : (map (markedCode 1) (65535 ∷ 65536 ∷ []) ≡ 0 ∷ 11 ∷ [])
+      × (map (markedCode 2) (65536 ∷ 1048576 ∷ 1048577 ∷ []) ≡ 0 ∷ 0 ∷ 11 ∷ [])
+      × (markedCode 3 1 ≡ 10)
+  -- 20: an end beyond 4,294,967,295, and not at it (then 7, as the chunk is not there); behind the entry's own length and offset, before the next's
+  pub beyond : (entriesNumber 4294967294 ((4294967294, 1) ∷ []) ≡ 7)
+      × (entriesNumber 4294967295 ((4294967295, 1) ∷ []) ≡ 20)
+      × (entriesNumber 4294967295 ((4294967295, 1048576) ∷ []) ≡ 20)
+      × (entriesNumber 4294967295 ((4294967295, 1048577) ∷ []) ≡ 7)
+      × (entriesNumber 4294967294 ((4294967295, 1) ∷ []) ≡ 7)
+      × (entriesNumber 4294967295 ((4294967295, 1) ∷ (0, 0) ∷ []) ≡ 20)
   -- * flag 1: b matches B (with flag 0 it does not), { does not match [
   pub bMatchesB : (countFor 1 (0x62 ∷ []) (0x42 ∷ []) ≡ Done 1) × (countFor 0 (0x62 ∷ []) (0x42 ∷ []) ≡ Done 0)
   pub braceAndBracket : countFor 1 (0x7B ∷ []) (0x5B ∷ []) ≡ Done 0

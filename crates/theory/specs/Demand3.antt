@@ -4,13 +4,13 @@ use mathlib.Core.Logic.{_↔_}
 use mathlib.Core.List.{List, map}
 use Prim.Native.Nat.{ℕ, suc, _*_, _≤_}
 use lib.ListN.{length, take}
-use Rattle.spec.specs.Bytes.{written}
+use Rattle.spec.specs.Bytes.{largest32, written}
 use Rattle.spec.specs.Outcome.{codeOf, valueOf, answer, unlessRefused}
 use Rattle.spec.specs.Keywords.{flagOf, folded, foldedKeywords, keywordCode}
 use Rattle.spec.specs.Directory.{sizeAt}
 use Rattle.spec.specs.Store.{storeLayout, storeKeys, storeCode}
 use Rattle.spec.specs.Form.{newest, formOf}
-use Rattle.spec.specs.Recipes.{largest32, filesOf, recipesCode, filesCode}
+use Rattle.spec.specs.Recipes.{filesOf, recipesCode, filesCode}
 use Rattle.spec.specs.Join.{listBytes, innerLeast, joinOutcome, joinBuffer, readList}
 use Rattle.spec.specs.Scan.{scanIndex, scanAnswer, scanBuffer, scannedCode, scannedLength}
 use Rattle.spec.specs.Search.{restored, directSearch, searchJoinCode}

@@ -57,17 +57,17 @@ pub record SearchAnswered (list store recipes index out : List ℕ) : Type 0 whe
 pub record LookupAnswered (code start : ℕ) (slice : List ℕ) : Type 0 where
   pub empty : code ≢ 0 → (start ≡ 0) × (slice ≡ [])
 
--- The number of each check and operation is 0 or one of those that document 01 gives it.
+-- The number of each check and operation is 0 or one of those that documents 01 and 02 give it.
 pub record Numbers : Type 0 where
   pub keywords : (list : List ℕ) → member (keywordCode list) (0 ∷ 1 ∷ 2 ∷ 3 ∷ 4 ∷ []) ≡ true
-  pub store : (store : List ℕ) → member (storeCode store) (0 ∷ 5 ∷ 6 ∷ 7 ∷ 8 ∷ []) ≡ true
-  pub scan : (list store : List ℕ) (room : ℕ) → member (scanCode newest list store room) (0 ∷ 1 ∷ 2 ∷ 3 ∷ 4 ∷ 5 ∷ 6 ∷ 7 ∷ 8 ∷ 9 ∷ []) ≡ true
+  pub store : (store : List ℕ) → member (storeCode store) (0 ∷ 5 ∷ 6 ∷ 7 ∷ 8 ∷ 20 ∷ []) ≡ true
+  pub scan : (list store : List ℕ) (room : ℕ) → member (scanCode newest list store room) (0 ∷ 1 ∷ 2 ∷ 3 ∷ 4 ∷ 5 ∷ 6 ∷ 7 ∷ 8 ∷ 9 ∷ 20 ∷ []) ≡ true
   pub index : (index : List ℕ) → member (indexCode (formOf index) index) (0 ∷ 1 ∷ 2 ∷ 3 ∷ 4 ∷ 10 ∷ 11 ∷ 12 ∷ 13 ∷ []) ≡ true
   pub join : (index recipes : List ℕ) (room : ℕ)
       → member (joinCode (formOf index) index recipes room) (0 ∷ 1 ∷ 2 ∷ 3 ∷ 4 ∷ 10 ∷ 11 ∷ 12 ∷ 13 ∷ 14 ∷ 15 ∷ 16 ∷ 17 ∷ 18 ∷ []) ≡ true
   pub search : (list store recipes : List ℕ) (indexRoom room : ℕ)
-      → member (searchCode newest list store recipes indexRoom room) (0 ∷ 1 ∷ 2 ∷ 3 ∷ 4 ∷ 5 ∷ 6 ∷ 7 ∷ 8 ∷ 9 ∷ 14 ∷ 15 ∷ 16 ∷ 17 ∷ 18 ∷ []) ≡ true
-  pub chunk : (store key : List ℕ) → member (findChunk store key) (0 ∷ 5 ∷ 6 ∷ 7 ∷ 8 ∷ 15 ∷ 19 ∷ []) ≡ true
+      → member (searchCode newest list store recipes indexRoom room) (0 ∷ 1 ∷ 2 ∷ 3 ∷ 4 ∷ 5 ∷ 6 ∷ 7 ∷ 8 ∷ 9 ∷ 14 ∷ 15 ∷ 16 ∷ 17 ∷ 18 ∷ 20 ∷ []) ≡ true
+  pub chunk : (store key : List ℕ) → member (findChunk store key) (0 ∷ 5 ∷ 6 ∷ 7 ∷ 8 ∷ 15 ∷ 19 ∷ 20 ∷ []) ≡ true
   pub body : (index key : List ℕ) → member (findBody (formOf index) index key) (0 ∷ 1 ∷ 2 ∷ 3 ∷ 4 ∷ 10 ∷ 11 ∷ 12 ∷ 13 ∷ 15 ∷ 19 ∷ []) ≡ true
 
 pub record Demand1 : Type 0 where

@@ -4,12 +4,11 @@ use mathlib.Core.Bool.{true, false}
 use mathlib.Core.List.{List, [], _∷_, map}
 use Prim.Native.Nat.{ℕ, _≤_, _<_}
 use lib.ListN.{length, getD}
-use Rattle.spec.specs.Bytes.{AllBytes, twice, each}
+use Rattle.spec.specs.Bytes.{largest32, AllBytes, twice, each}
 use Rattle.spec.specs.Keywords.{keywordsOf, keywordCode}
 use Rattle.spec.specs.Store.{chunkCount, mostChunks, storeKeys, chunkAt}
 use Rattle.spec.specs.Form.{Form, formOf}
 use Rattle.spec.specs.Records.{ChunkRecords, bodyBytes, allInRange}
-use Rattle.spec.specs.Recipes.{largest32}
 use Rattle.spec.specs.Index.{Entry, indexBytes, listBytesIn, indexKeys, indexRecords, indexCode}
 use Rattle.spec.specs.Scan.{scanRecords}
 

@@ -7,11 +7,11 @@ use mathlib.Core.List.{List, [], _∷_, map}
 use Prim.Native.Nat.{ℕ, _≤_, _<_}
 use lib.ListN.{length, getD}
 use lib.Dec.{eqb, leb}
-use Rattle.spec.specs.Bytes.{AllBytes, same, contains, twice, each, every, joined}
+use Rattle.spec.specs.Bytes.{largest32, AllBytes, same, contains, twice, each, every, joined}
 use Rattle.spec.specs.Keywords.{folded, foldedAll, keywordListBytes, countOf, flagOf, keywordsOf, listSize, keywordCode}
 use Rattle.spec.specs.Store.{Chunk, storeBytes, mostChunks, chunkCount, storeKeys, chunkAt, storeCode}
 use Rattle.spec.specs.Form.{newest}
-use Rattle.spec.specs.Recipes.{recipesBytes, mostFiles, largest32, filesOf, recipesCode}
+use Rattle.spec.specs.Recipes.{recipesBytes, mostFiles, filesOf, recipesCode}
 use Rattle.spec.specs.Search.{occurrencesInAll, directSearch}
 
 -- ---- keyword lists
@@ -68,13 +68,13 @@ storedChunk store k = record { key = getD (storeKeys store) k []; bytes = chunkA
 unfoldable pub storedChunks : List ℕ → List Chunk
 storedChunks store = each (λ k. storedChunk store k ∷ []) 0 (chunkCount store)
 
--- A chunk of 1 to 65,535 bytes under a fingerprint.
+-- A chunk of 1 to 1,048,576 bytes under a fingerprint.
 abbrev pub chunkFits : Chunk → Bool
 chunkFits c = isFingerprint (c .key) && leb 1 (length (c .bytes)) && leb (length (c .bytes)) (newest .longestChunk)
 
--- At most 65,000 of them; all are then within 4,294,967,295 bytes (`short`).
+-- At most 65,000 of them, all within 4,294,967,295 bytes.
 abbrev pub chunksFit : List Chunk → Bool
-chunksFit chunks = leb (length chunks) mostChunks && every chunkFits chunks
+chunksFit chunks = leb (length chunks) mostChunks && every chunkFits chunks && leb (length (storeBytes chunks)) largest32
 
 pub record StoreReads (chunks : List Chunk) : Type 0 where
   -- the chunk count, the fingerprints, and chunk k's bytes
@@ -83,8 +83,6 @@ pub record StoreReads (chunks : List Chunk) : Type 0 where
   pub bytes : (k : ℕ) → k < length chunks → chunkAt (storeBytes chunks) k ≡ getD (map (λ c. c .bytes) chunks) k []
   -- so the chunks themselves, in their order
   pub stored : storedChunks (storeBytes chunks) ≡ chunks
-  -- every offset fits its field
-  pub short : length (storeBytes chunks) ≤ largest32
 
 pub record WrittenStores : Type 0 where
   -- chunks that fit are read back

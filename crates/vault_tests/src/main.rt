@@ -4,6 +4,7 @@
 use tests_cases::limits;
 use tests_cases::orders;
 use tests_cases::vaults;
+use tests_cases::wide;
 use tests_outputs::printed;
 use tests_report::report;
 use tests_report::tally;
@@ -13,6 +14,7 @@ fn main() {
     vaults::all_vaults(&mut counts);
     orders::all_orders(&mut counts);
     limits::longest(&mut counts);
+    wide::all_wide(&mut counts);
     printed::all_outputs(&mut counts);
     report::totals(&counts);
 }

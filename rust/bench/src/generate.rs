@@ -125,7 +125,7 @@ pub fn recipes_of(files: &[Vec<usize>]) -> Vec<u8> {
 
 /// An index of `count` chunks of 8 KiB; all bodies are empty but for the last chunk's.
 pub fn index_of(list: &[u8], count: usize, last: &[u8]) -> Vec<u8> {
-    let mut index = b"DM1\n".to_vec();
+    let mut index = vault::forms::NEWEST.mark.to_vec();
     index.extend_from_slice(&(count as u32).to_le_bytes());
     index.extend_from_slice(list);
     let end = index.len() + 32 * count;

@@ -235,7 +235,7 @@ fn many_places(options: &Options) {
     let mut files: Vec<Vec<usize>> = (0..1000).map(|_| (0..10_000).map(|_| rng.below(64_999)).collect()).collect();
     let words: Vec<Vec<u8>> = (0..16u8).map(|k| vec![b'a' + k; 8]).collect();
     // Keyword 0, kind 1: no prefix, no suffix, one occurrence, at offset 100.
-    let body = [0, 1, 0, 0, 1, 100, 0];
+    let body = [vec![0, 1, 0, 0, 1], vault::forms::NEWEST.field(100)].concat();
     for named in [0, 1, 1000] {
         files[..named].iter_mut().for_each(|file| file[5000] = 64_999);
         let recipes = recipes_of(&files);

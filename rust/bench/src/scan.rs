@@ -36,6 +36,9 @@ pub const USAGE: &str = "[MEGABYTES] [ROUNDS] [FOLDER..]";
 /// The length of all chunks but the last.
 const CHUNK: usize = 8192;
 
+/// Chunk lengths to compare: the longest of the old mark, which a library may walk in one go, and the longest of all.
+const LENGTHS: [usize; 2] = [65_535, 1_048_576];
+
 /// Keywords of the worst lists run over so many bytes of one letter: their index may have 32 times as many.
 const WORST: usize = 2 << 20;
 
@@ -110,6 +113,7 @@ fn run(options: &Options, peers: &[Peer]) {
     for (name, words) in &lists[..2] {
         row(options, peers, name, &runs, &words.iter().map(|word| &word[..]).collect::<Vec<_>>(), false);
     }
+    by_length(options, &text, &common, &rare);
     println!("\ntable: a scan of a store without chunks, {BUILDS} in each round, in microseconds");
     let sets = [("common", &common), ("rare", &rare)];
     for (name, words) in sets.iter().flat_map(|(name, words)| [1, 4, 16].map(|n| (format!("{n} {name}"), &words[..n]))) {
@@ -118,6 +122,68 @@ fn run(options: &Options, peers: &[Peer]) {
     for (name, words) in &lists {
         build(options, name, &words.iter().map(|word| &word[..]).collect::<Vec<_>>());
     }
+}
+
+/// The same text in chunks of each of [`LENGTHS`], in the same rounds: how much of the speed longer chunks cost.
+fn by_length(options: &Options, text: &[u8], common: &[text::Counted], rare: &[text::Counted]) {
+    let [short, long] = LENGTHS.map(|length| Store::new(&text.chunks(length).collect::<Vec<_>>()));
+    println!(
+        "\nby chunk length: the same text in {} chunks of {} and in {} of {}",
+        short.chunks.len(),
+        LENGTHS[0],
+        long.chunks.len(),
+        LENGTHS[1]
+    );
+    println!(
+        "a and b as above, MB/s; ratio: the long chunks' speed by the short ones', best and median of the rounds' own ratios"
+    );
+    println!(
+        "{:<22} fold {:>10} {:>10} {:>6} {:>7} {:>10} {:>10} {:>6} {:>7}    loops",
+        "keywords", "a short", "a long", "best", "median", "b short", "b long", "best", "median"
+    );
+    for (name, words) in [("common", common), ("rare", rare)] {
+        for (count, fold) in [(1, false), (4, false), (16, false), (16, true)] {
+            let keywords: Vec<&[u8]> = words[..count].iter().map(|(word, _)| &word[..]).collect();
+            length_row(options, &format!("{count} {name}"), [&short, &long], &keywords, fold);
+        }
+    }
+    let runs = vec![b'a'; WORST];
+    let [short, long] = LENGTHS.map(|length| Store::new(&runs.chunks(length).collect::<Vec<_>>()));
+    for (name, words) in &worst_lists()[..2] {
+        length_row(options, name, [&short, &long], &words.iter().map(|word| &word[..]).collect::<Vec<_>>(), false);
+    }
+}
+
+/// A row: both stores by both scans in each round.
+fn length_row(options: &Options, name: &str, stores: [&Store; 2], keywords: &[&[u8]], fold: bool) {
+    let list = vault::keyword_list(fold, keywords).expect("different keywords");
+    let mut buffers = stores.map(|store| {
+        let mut roomy = vec![0; vault::scan_bound(&list, &store.bytes) as usize];
+        assert!(roomy.len() as u64 <= vault::LONGEST_INDEX, "too much text for one walk");
+        let written = vault::scan_into(&list, &store.bytes, &mut roomy).expect("a good store");
+        [roomy, vec![0; written.length]]
+    });
+    // By scan (a, b), then store (short, long).
+    let mut times = [[vec![], vec![]], [vec![], vec![]]];
+    let mut loops = [vec![], vec![]];
+    for _ in 0..options.rounds {
+        loops[0].push(calibration());
+        loops[1].push(latency());
+        for (scan, of) in times.iter_mut().enumerate() {
+            for (k, store) in stores.iter().enumerate() {
+                let out = &mut buffers[k][scan];
+                of[k].push(timed(|| vault::scan_into(&list, black_box(&store.bytes), out).expect("a good store")).0);
+            }
+        }
+    }
+    let mut line = format!("{name:<22} {:<4}", if fold { "on" } else { "off" });
+    for [short, long] in &times {
+        let rate = |times: &[f64]| stores[0].data as f64 / 1e6 / best(times);
+        let ratios: Vec<f64> = short.iter().zip(long).map(|(short, long)| short / long).collect();
+        line +=
+            &format!(" {:>10.0} {:>10.0} {:>6.2} {:>7.2}", rate(short), rate(long), best(short) / best(long), median(&ratios));
+    }
+    println!("{line} {:>6.1} {:>4.1}", 1e3 * best(&loops[0]), 1e3 * best(&loops[1]));
 }
 
 /// Two moves a byte and no find; 16 finds a byte; the most nodes.

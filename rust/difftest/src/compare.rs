@@ -28,6 +28,9 @@ pub struct Tally {
     pub orders: u64,
     /// Bytes at the fold's borders.
     pub meetings: Meetings,
+    /// Indexes that are good, by mark; stores that are good with a chunk longer than 65,535 bytes.
+    pub marks: BTreeMap<[u8; 4], u64>,
+    pub long: u64,
 }
 
 /// How a case is run.
@@ -65,6 +68,7 @@ impl Comparison<'_> {
         let own = case.index.as_ref().map(|index| input(index));
         let scanned = self.scans(list.get(), stored.get())?;
         let chunks = store::read(stored.get());
+        self.tally.long += u64::from(chunks.as_ref().is_ok_and(|chunks| chunks.iter().any(|c| c.place.len() > 65_535)));
         // The last fingerprint is a part of the store itself: its first entry's.
         for key in case.keys.iter().map(|key| &key[..]).chain(stored.get().get(8..28)) {
             self.lookup("find_chunk", raw::chunk(stored.get(), key), calls::chunk_in(&chunks, key))?;
@@ -281,6 +285,9 @@ impl Comparison<'_> {
         let index = index::read(bytes);
         self.code("check_index", raw::check_index(bytes), index.as_ref().err().copied().unwrap_or(0))?;
         self.listed(vault::keywords_in_index(bytes), index.as_ref().err().copied().unwrap_or(0));
+        if index.is_ok() {
+            *self.tally.marks.entry([bytes[0], bytes[1], bytes[2], bytes[3]]).or_default() += 1;
+        }
         let joined = index.as_ref().map_err(|code| *code).and_then(|index| Joined::new(index, recipes));
         let count = joined.as_ref().map(Joined::count).map_err(|code| *code);
         let mut counted = Number::new(self.rng);

@@ -1,6 +1,7 @@
 //! Faults: in any bytes, and in the fields of each format.
 
 use crate::rng::Rng;
+use oracle::form::{Form, KNOWN};
 
 fn put(bytes: &mut [u8], at: usize, number: u32) {
     if at + 4 <= bytes.len() {
@@ -103,7 +104,8 @@ fn directory(rng: &mut Rng, bytes: &mut [u8], start: usize, stride: usize, numbe
     match rng.below(8) {
         0..=3 => {
             let at = entry + rng.pick(numbers);
-            let new = other(rng, get(bytes, at), &[0, 1, 65_535, 65_536, 0x7FFF_FFFF, 0x8000_0000, 0xFFFF_FFFE, 0xFFFF_FFFF]);
+            let borders = [0, 1, 65_535, 65_536, 1_048_576, 1_048_577, 0x7FFF_FFFF, 0x8000_0000, 0xFFFF_FFFE, 0xFFFF_FFFF];
+            let new = other(rng, get(bytes, at), &borders);
             put(bytes, at, new);
         }
         4 => swap(bytes, entry, to, stride),
@@ -138,7 +140,9 @@ pub fn index(rng: &mut Rng, index: &mut Vec<u8>, list: usize) {
             let new = other(rng, get(index, 4), &[0, 1, 65_000, 65_001, 0x0800_0000, 0xFFFF_FFFF]);
             put(index, 4, new);
         }
-        4 if index.len() >= 4 => index[rng.below(4)] ^= 1 << rng.below(8),
+        // Another mark: any, or one that is known.
+        4 if index.len() >= 4 && rng.percent(50) => index[rng.below(4)] ^= 1 << rng.below(8),
+        4 if index.len() >= 4 => index[..4].copy_from_slice(&rng.pick(&KNOWN).mark),
         5 if index.len() > start => {
             let at = rng.range(8, start - 1);
             index[at] = *rng.pick(&[0, 1, 2, 17, 32, 33, 0x41, 0x61]);
@@ -185,7 +189,7 @@ pub fn recipes(rng: &mut Rng, recipes: &mut Vec<u8>) {
 }
 
 /// A fault in one body, which the directory then says rightly.
-pub fn body(rng: &mut Rng, body: &mut Vec<u8>) {
+pub fn body(rng: &mut Rng, form: &Form, body: &mut Vec<u8>) {
     if body.is_empty() {
         let length = rng.range(1, 8);
         *body = (0..length).map(|_| *rng.pick(&[0, 0, 1, 2, 3, 255])).collect();
@@ -201,7 +205,7 @@ pub fn body(rng: &mut Rng, body: &mut Vec<u8>) {
             let again = body.clone();
             body.extend(again);
         }
-        7 => swap(body, n.saturating_sub(4), n.saturating_sub(2), 2),
+        7 => swap(body, n.saturating_sub(2 * form.width), n.saturating_sub(form.width), form.width),
         _ => any(rng, body),
     }
 }

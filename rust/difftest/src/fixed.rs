@@ -2,9 +2,13 @@
 
 use crate::inputs::{list, Case};
 use crate::rng::Rng;
-use crate::{folds, lanes};
+use crate::{beyond, folds, lanes, windows};
+use oracle::form::{Form, KNOWN, NEWEST};
 use oracle::records::Record;
 use oracle::{index, recipes, store, Fingerprint};
+
+/// The longest chunk of a store.
+const LONGEST: usize = NEWEST.longest_chunk as usize;
 
 pub type Chunks = Vec<(Fingerprint, Vec<u8>)>;
 
@@ -63,7 +67,7 @@ pub fn small() -> Vec<Case> {
             let mut short = case("short inputs", start, &small_chunks(), &[vec![a]]);
             short.store.truncate(length);
             short.recipes.truncate(length);
-            let mut index = index::encode::<&[u8]>(&list(false, words), &[]);
+            let mut index = index::encode::<&[u8]>(&NEWEST, &list(false, words), &[]);
             index.truncate(length);
             short.index = Some(index);
             cases.push(short);
@@ -74,7 +78,10 @@ pub fn small() -> Vec<Case> {
     cases.extend([255, 256, 259].map(|length| around_borders(&sixteen()[..1], length, b'.')));
     cases.extend(keyword_lists());
     cases.extend(folds::by_hand());
-    cases.extend(indexes());
+    cases.extend(KNOWN.iter().flat_map(indexes));
+    cases.extend(KNOWN.iter().flat_map(twin_indexes));
+    cases.extend(windows::long_entries());
+    cases.extend(beyond::by_hand());
     cases.extend(all_recipes());
     cases
 }
@@ -108,6 +115,31 @@ fn stores() -> Vec<Case> {
             store[8 + 24] = 0;
         }),
     ]
+}
+
+/// Indexes with two faults, of which the first in the order of the tests is told: twins (12) with every other one, and a body that isn't
+/// good (13) with those before it.
+fn twin_indexes(form: &Form) -> Vec<Case> {
+    let words = list(false, &[b"ABA", b"AA"]);
+    let of = |body: &[u8], spoil: &dyn Fn(&mut Vec<u8>)| {
+        let mut bad = case("indexes with two faults", words.clone(), &small_chunks(), &[vec![[1; 20]]]);
+        let mut bytes = index::encode(form, &words, &[([1; 20], 3, &b""[..]), ([2; 20], 4, body), ([1; 20], 1, b"")]);
+        spoil(&mut bytes);
+        bad.index = Some(bytes);
+        bad
+    };
+    let (good, wrong): (&[u8], &[u8]) = (b"", b"\xFF");
+    let mut cases = vec![of(good, &|_| ()), of(wrong, &|_| ())];
+    for body in [good, wrong] {
+        cases.push(of(body, &|index| index.push(0)));
+        cases.push(of(body, &|index| drop(index.pop())));
+        cases.push(of(body, &|index| index[0] = 0));
+        cases.push(of(body, &|index| index[6] = 1));
+        cases.push(of(body, &|index| index[8] = 0));
+        cases.push(of(body, &|index| index[8 + 9 + 20] = 0));
+        cases.push(of(body, &|index| index[8 + 9 + 64 + 24] += 1));
+    }
+    cases
 }
 
 /// Chunks whose moves are in the readings of request 103, and those of its sentences: links behind a whole keyword, to a beginning of
@@ -179,7 +211,7 @@ fn keyword_lists() -> Vec<Case> {
     // The same lists inside an index, and the largest list.
     for l in lists {
         let mut inside = case("keyword lists", list(false, &[b"A"]), &small_chunks(), &[]);
-        inside.index = Some(index::encode::<&[u8]>(l, &[]));
+        inside.index = Some(index::encode::<&[u8]>(&NEWEST, l, &[]));
         cases.push(inside);
     }
     let words: Vec<Vec<u8>> = (0..16).map(|k| vec![0x41 + k; 32]).collect();
@@ -191,67 +223,82 @@ fn keyword_lists() -> Vec<Case> {
     cases
 }
 
-/// Bodies that are almost good, and directories whose sums pass 32 bits.
-fn indexes() -> Vec<Case> {
+/// A body of that form: bytes in decimal, with `#` a field of the form's width; a `<` at the end takes the last byte away.
+fn written(form: &Form, text: &str) -> Vec<u8> {
+    let mut body = Vec::new();
+    for word in text.split_whitespace() {
+        match word.strip_prefix('#') {
+            Some(number) => body.extend(form.field(number.parse().expect("a number"))),
+            None if word == "<" => drop(body.pop()),
+            None => body.push(word.parse().expect("a byte")),
+        }
+    }
+    body
+}
+
+/// For the keywords ABA, Q and AA.
+const BODIES: [&str; 45] = [
+    "",
+    "0",
+    "0 0",
+    "0 0 0",
+    "0 0 1",
+    "0 0 2",
+    "0 0 3",
+    "0 0 4",
+    "0 0 5",
+    "1 0 1",
+    "3 0 1",
+    "0 4 1",
+    "0 1 0 0 0 #0",
+    "0 1 1 0 0 #0",
+    "0 1 1 1 0 #0",
+    "0 1 2 0 0 #0",
+    "0 1 0 2 0 #0",
+    "0 1 2 0 0 #1",
+    "0 1 2 0 0 #256",
+    "0 1 2 0 2 #1",
+    "0 1 3 0 0 #0",
+    "0 1 0 3 0 #0",
+    "0 1 0 0 1 #7",
+    "0 1 0 0 1 #8",
+    "0 1 0 0 1 #256",
+    "1 1 0 0 1 #9",
+    "1 1 0 0 1 #10",
+    "1 1 1 0 1 #9",
+    "0 2 2 0 0 #0",
+    "0 2 0 0 1 #1 #1",
+    "0 2 0 0 2 #1 #1 #2",
+    "0 2 0 0 2 #0 #1 #2",
+    "0 2 0 0 2 #1 #1 #1",
+    "0 2 0 0 2 #2 #2 #1",
+    "0 2 0 0 2 #1 #1 #2 <",
+    "0 2 0 0 3 #1 #1 #2",
+    "0 2 0 0 255 #1 #1 #2",
+    "0 3 0 0 255 #1 #2 #1 #2",
+    "0 3 0 0 255 #1",
+    "0 3 0 0 255 #1 #255 <",
+    "0 0 1 0 0 1",
+    "2 0 1 0 0 1",
+    "0 0 1 9",
+    "0 0 1 2 0 2",
+    "0 0 3 1 1 0 0 1 #0 2 0 3",
+];
+
+/// Bodies that are almost good, and directories whose sums pass 32 bits, in a form.
+fn indexes(form: &Form) -> Vec<Case> {
     let words: &[&[u8]] = &[b"ABA", b"Q", b"AA"];
-    let bodies: &[&[u8]] = &[
-        &[],
-        &[0],
-        &[0, 0],
-        &[0, 0, 0],
-        &[0, 0, 1],
-        &[0, 0, 2],
-        &[0, 0, 3],
-        &[0, 0, 4],
-        &[0, 0, 5],
-        &[1, 0, 1],
-        &[3, 0, 1],
-        &[0, 4, 1],
-        &[0, 1, 0, 0, 0, 0, 0],
-        &[0, 1, 1, 0, 0, 0, 0],
-        &[0, 1, 1, 1, 0, 0, 0],
-        &[0, 1, 2, 0, 0, 0, 0],
-        &[0, 1, 0, 2, 0, 0, 0],
-        &[0, 1, 2, 0, 0, 1, 0],
-        &[0, 1, 2, 0, 0, 0, 1],
-        &[0, 1, 2, 0, 2, 1, 0],
-        &[0, 1, 3, 0, 0, 0, 0],
-        &[0, 1, 0, 3, 0, 0, 0],
-        &[0, 1, 0, 0, 1, 7, 0],
-        &[0, 1, 0, 0, 1, 8, 0],
-        &[0, 1, 0, 0, 1, 0, 1],
-        &[1, 1, 0, 0, 1, 9, 0],
-        &[1, 1, 0, 0, 1, 10, 0],
-        &[1, 1, 1, 0, 1, 9, 0],
-        &[0, 2, 2, 0, 0, 0, 0],
-        &[0, 2, 0, 0, 1, 1, 0, 1, 0],
-        &[0, 2, 0, 0, 2, 1, 0, 1, 0, 2, 0],
-        &[0, 2, 0, 0, 2, 0, 0, 1, 0, 2, 0],
-        &[0, 2, 0, 0, 2, 1, 0, 1, 0, 1, 0],
-        &[0, 2, 0, 0, 2, 2, 0, 2, 0, 1, 0],
-        &[0, 2, 0, 0, 2, 1, 0, 1, 0, 2],
-        &[0, 2, 0, 0, 3, 1, 0, 1, 0, 2, 0],
-        &[0, 2, 0, 0, 255, 1, 0, 1, 0, 2, 0],
-        &[0, 3, 0, 0, 255, 1, 0, 2, 0, 1, 0, 2, 0],
-        &[0, 3, 0, 0, 255, 1, 0],
-        &[0, 3, 0, 0, 255, 1, 0, 255],
-        &[0, 0, 1, 0, 0, 1],
-        &[2, 0, 1, 0, 0, 1],
-        &[0, 0, 1, 9],
-        &[0, 0, 1, 2, 0, 2],
-        &[0, 0, 3, 1, 1, 0, 0, 1, 0, 0, 2, 0, 3],
-    ];
     let mut cases = Vec::new();
-    for (k, body) in bodies.iter().enumerate() {
+    for (k, body) in BODIES.map(|text| written(form, text)).iter().enumerate() {
         // First, last, and for a chunk too short for the keyword.
-        for (first, second, size) in [(*body, &b""[..], 10), (b"\0\0\x01", *body, 10), (*body, b"", 2), (*body, b"", 1)] {
+        for (first, second, size) in [(&body[..], &b""[..], 10), (b"\0\0\x01", body, 10), (body, b"", 2), (body, b"", 1)] {
             let mut bad = case(
                 "bodies by hand",
                 list(false, words),
                 &small_chunks(),
                 &[vec![[1; 20], [2; 20], [1; 20]], vec![[k as u8; 20]]],
             );
-            bad.index = Some(index::encode(&list(false, words), &[([1; 20], size, first), ([2; 20], 10, second)]));
+            bad.index = Some(index::encode(form, &list(false, words), &[([1; 20], size, first), ([2; 20], 10, second)]));
             if k % 3 != 0 {
                 bad.recipes = recipes::encode(&[vec![[1; 20], [2; 20]], vec![], vec![[2; 20], [2; 20]]]);
             }
@@ -260,30 +307,45 @@ fn indexes() -> Vec<Case> {
     }
     // 255 offsets that are one form and not the other.
     let all: Vec<usize> = (0..255).collect();
-    for (at, byte) in [(0, 0), (1, 2), (4, 254), (7, 254), (8, 1), (9, 1), (11, 0)] {
-        let mut body = Record { prefix: 0, suffix: 0, offsets: all.clone() }.encode(0);
+    let exact = 5 + form.width;
+    let offsets = exact + form.width;
+    let last = form.width - 1;
+    for (at, byte) in [
+        (0, 0),
+        (1, 2),
+        (4, 254),
+        (exact, 254),
+        (exact + 1, 1),
+        (exact + last, 1),
+        (offsets, 1),
+        (offsets + last, 1),
+        (offsets + form.width, 0),
+        (offsets + form.width + last, 1),
+    ] {
+        let mut body = Record { prefix: 0, suffix: 0, offsets: all.clone() }.encode(form, 0);
         body[at] = byte;
         let mut bad = case("bodies by hand", list(false, &[b"A"]), &small_chunks(), &[vec![[1; 20]]]);
-        bad.index = Some(index::encode(&list(false, &[b"A"]), &[([1; 20], 255, body)]));
+        bad.index = Some(index::encode(form, &list(false, &[b"A"]), &[([1; 20], 255, body)]));
         cases.push(bad);
     }
     // The wrong kind for a count, else as it should be: 254 and 255 offsets as kind 2 and as kind 3.
     for (count, kind, byte) in
         [(254, 2, 254), (254, 3, 254), (254, 3, 255), (255, 2, 255), (255, 3, 255), (256, 2, 0), (256, 3, 0)]
     {
-        let mut body = vec![0, kind, 0, 0, byte, 0, 0];
+        let mut body = vec![0, kind, 0, 0, byte];
+        body.extend(form.field(0));
         if kind == 3 {
-            body.extend_from_slice(&(count as u16).to_le_bytes());
+            body.extend(form.field(count));
         }
-        (0..count as u16).for_each(|at| body.extend_from_slice(&at.to_le_bytes()));
+        (0..count).for_each(|at| body.extend(form.field(at)));
         let mut bad = case("bodies by hand", list(false, &[b"A"]), &small_chunks(), &[vec![[1; 20]]]);
-        bad.index = Some(index::encode(&list(false, &[b"A"]), &[([1; 20], 256, body)]));
+        bad.index = Some(index::encode(form, &list(false, &[b"A"]), &[([1; 20], 256, body)]));
         cases.push(bad);
     }
     // Sums that wrap in 32 bits, in the index and in the store.
     for length in [u32::MAX, u32::MAX - 1, 0x8000_0000] {
         let mut wraps = case("sums past 32 bits", list(false, &[b"A"]), &small_chunks(), &[]);
-        let mut bytes = index::encode(&list(false, &[b"A"]), &[([1; 20], 1, &b""[..]), ([2; 20], 1, b"")]);
+        let mut bytes = index::encode(form, &list(false, &[b"A"]), &[([1; 20], 1, &b""[..]), ([2; 20], 1, b"")]);
         let end = bytes.len() as u32;
         bytes[12 + 28..12 + 32].copy_from_slice(&length.to_le_bytes());
         bytes[12 + 56..12 + 60].copy_from_slice(&end.wrapping_add(length).to_le_bytes());
@@ -344,7 +406,7 @@ fn all_recipes() -> Vec<Case> {
 pub fn large() -> Vec<(&'static str, fn(&mut Rng) -> Vec<Case>)> {
     vec![
         ("253 to 257 occurrences", counts),
-        ("65,535 occurrences", longest_chunk),
+        ("an occurrence at each byte of the longest chunk", longest_chunk),
         ("65,535 files", many_files),
         ("the longest file", longest_file),
         ("9 x count past 32 bits", past_32_bits),
@@ -354,6 +416,8 @@ pub fn large() -> Vec<(&'static str, fn(&mut Rng) -> Vec<Case>)> {
         ("keywords around the quarters", quarters),
         ("moves of the longest chunks", longest_walks),
         ("every two bytes", folds::every_byte),
+        ("chunks of several windows", windows::large),
+        ("the most occurrences", windows::most),
     ]
 }
 
@@ -371,20 +435,22 @@ fn quarters(_: &mut Rng) -> Vec<Case> {
     cases
 }
 
-/// Chunks of 65,532 to 65,535 bytes: runs of a letter and of a keyword, with two moves a byte, and with a last byte that ends them.
+/// The four longest chunks, and with 16 keywords those around 65,536 bytes: runs of a letter and of a keyword, with two moves a byte, and
+/// with a last byte that ends them.
 fn longest_walks(_: &mut Rng) -> Vec<Case> {
     let all: Vec<Vec<u8>> = (17..=32).map(|k| vec![b'a'; k]).collect();
     let lists = [sixteen(), vec![b"ab".to_vec()], vec![b"aab".to_vec(), b"abaab".to_vec()], all];
     let mut cases = Vec::new();
     for words in &lists {
+        let longest = if words.len() < 16 { LONGEST } else { windows::WINDOW + 1 };
         let run = |length: usize, last: u8| {
             let mut data = vec![b'a'; length];
             data[length - 1] = last;
             data
         };
-        let repeated: Vec<u8> = words[0].iter().copied().cycle().take(65_535).collect();
-        let mut chunks: Chunks = (65_532..=65_535).map(|length| (key(length), run(length, b'a'))).collect();
-        chunks.extend([(key(1), run(65_535, b'b')), (key(2), run(65_534, b'.')), (key(3), repeated)]);
+        let repeated: Vec<u8> = words[0].iter().copied().cycle().take(longest).collect();
+        let mut chunks: Chunks = (longest - 3..=longest).map(|length| (key(length), run(length, b'a'))).collect();
+        chunks.extend([(key(1), run(longest, b'b')), (key(2), run(longest - 1, b'.')), (key(3), repeated)]);
         let words = list(false, &words.iter().map(|w| &w[..]).collect::<Vec<_>>());
         cases.push(case("moves of the longest chunks", words, &chunks, &[vec![key(1), key(3)]]));
     }
@@ -406,15 +472,17 @@ fn counts(_: &mut Rng) -> Vec<Case> {
 }
 
 fn longest_chunk(_: &mut Rng) -> Vec<Case> {
-    let kind = "65,535 occurrences";
-    let full = vec![([1; 20], vec![b'A'; 65_535]), ([2; 20], b"aaa".to_vec())];
+    let kind = "an occurrence at each byte of the longest chunk";
+    let full = vec![([1; 20], vec![b'A'; LONGEST]), ([2; 20], b"aaa".to_vec())];
     let twice = [vec![[1; 20], [1; 20]], vec![[2; 20], [1; 20], [2; 20]]];
     let words: Vec<Vec<u8>> = (1..=16).map(|n| vec![b'A'; n]).collect();
+    // 16 keywords, and lists of 9 bytes for each: over two windows and a byte.
+    let shorter = vec![([1; 20], vec![b'A'; 2 * windows::WINDOW + 1])];
     vec![
         case(kind, list(false, &[b"A"]), &full, &twice),
         case(kind, list(true, &[b"AA", b"A"]), &full, &twice),
         case(kind, list(false, &[&[b'A'; 32]]), &full, &[vec![[1; 20], [1; 20], [1; 20]]]),
-        case(kind, list(false, &words.iter().map(|w| &w[..]).collect::<Vec<_>>()), &full, &[vec![[1; 20], [1; 20]]]),
+        case(kind, list(false, &words.iter().map(|w| &w[..]).collect::<Vec<_>>()), &shorter, &[vec![[1; 20], [1; 20]]]),
     ]
 }
 
@@ -428,7 +496,8 @@ fn many_files(_: &mut Rng) -> Vec<Case> {
     cases
 }
 
-/// 65,537 times 65,535 bytes are the most; one byte more is refused. From a store, and from made-up records.
+/// 65,537 times 65,535 bytes are the most; one byte more is refused. From a store, and from made-up records of either mark. 4,096 of the
+/// longest chunks are one byte too many.
 fn longest_file(_: &mut Rng) -> Vec<Case> {
     let kind = "the longest file";
     let mut data = vec![b'x'; 65_535];
@@ -449,12 +518,21 @@ fn longest_file(_: &mut Rng) -> Vec<Case> {
         case(kind, words.clone(), &chunks, &[short_inside]),
         case(kind, words.clone(), &chunks, &[vec![[1; 20], [2; 20], [1; 20]], above.clone()]),
     ];
-    for file in [exact, above] {
-        let mut made_up = case(kind, words.clone(), &chunks, &[file]);
+    for (form, file) in KNOWN.iter().flat_map(|form| [(form, &exact), (form, &above)]) {
+        let mut made_up = case(kind, words.clone(), &chunks, &[file.clone()]);
         let record = Record { prefix: 0, suffix: 0, offsets: vec![65_532] };
-        made_up.index = Some(index::encode(&words, &[([1; 20], 65_535, record.encode(1)), ([2; 20], 1, vec![])]));
+        made_up.index = Some(index::encode(form, &words, &[([1; 20], 65_535, record.encode(form, 1)), ([2; 20], 1, vec![])]));
         cases.push(made_up);
     }
+    let mut data = vec![b'x'; LONGEST];
+    data[0] = b'B';
+    data[LONGEST - 1] = b'A';
+    let shorter = data[..LONGEST - 1].to_vec();
+    let chunks = vec![([1; 20], data), ([2; 20], shorter)];
+    let mut exact = vec![[1; 20]; 4_096];
+    exact[4_095] = [2; 20];
+    cases.push(case(kind, words.clone(), &chunks, &[exact]));
+    cases.push(case(kind, words.clone(), &chunks, &[vec![[1; 20]; 4_095], vec![[1; 20]; 4_096]]));
     cases
 }
 
@@ -563,7 +641,9 @@ fn megabytes(rng: &mut Rng) -> Vec<Case> {
         b"was",
         b"zzzzzzzzzzzzzzzzzzzzzzzzzzzzzzzz",
     ];
-    for (count, low, high) in [(1, 4_000, 12_000), (4, 4_000, 12_000), (16, 30_000, 65_535), (16, 31, 900)] {
+    for (count, low, high) in
+        [(1, 4_000, 12_000), (4, 4_000, 12_000), (16, 30_000, 65_535), (16, 31, 900), (4, 200_000, 1_048_576)]
+    {
         let mut chunks: Chunks = Vec::new();
         let mut total = 0;
         while total < 4 << 20 {

@@ -4,6 +4,7 @@
 use crate::fixed::{case, key, Chunks};
 use crate::inputs::{self, list, Case};
 use crate::rng::Rng;
+use oracle::form::{FORM1, NEWEST};
 use oracle::records::Record;
 use oracle::{index, Fingerprint};
 use std::collections::BTreeMap;
@@ -75,7 +76,7 @@ pub fn by_hand() -> Vec<Case> {
             let (one, two) = ([b'c', b, b'f'], [b'c', b + 0x20, b'f']);
             for words in [&[&[b][..], &[b + 0x20]][..], &[&one, b"x", &two], &[&two, b"cf", &one]] {
                 let mut pair = case(KIND, list(fold, words), &vec![(key(1), [one, two].concat())], &[vec![key(1), key(1)]]);
-                let mut bytes = index::encode(&pair.list, &[(key(1), 6, &b""[..])]);
+                let mut bytes = index::encode(&NEWEST, &pair.list, &[(key(1), 6, &b""[..])]);
                 bytes.truncate(bytes.len() - usize::from(words.len() == 3 && words[0] == one));
                 pair.index = Some(bytes);
                 cases.push(pair);
@@ -91,9 +92,9 @@ fn older_index() -> Case {
     let words = list(true, &[b"\xC9\xE9\xC9"]);
     let chunks: Chunks = vec![(key(1), b"\xC9\xE9".to_vec()), (key(2), b"\xE9\xC9".to_vec()), (key(3), b"\xE9\xE9\xE9".to_vec())];
     let files = [vec![key(1), key(2)], vec![key(3)], vec![key(1), key(1), key(2), key(2)]];
-    let body = |prefix, suffix| Record { prefix, suffix, offsets: vec![] }.encode(0);
+    let body = |prefix, suffix| Record { prefix, suffix, offsets: vec![] }.encode(&FORM1, 0);
     let entries = [(key(1), 2, body(2, 1)), (key(2), 2, body(1, 2)), (key(3), 3, body(0, 0))];
-    Case { index: Some(index::encode(&words, &entries)), ..case(KIND, words, &chunks, &files) }
+    Case { index: Some(index::encode(&FORM1, &words, &entries)), ..case(KIND, words, &chunks, &files) }
 }
 
 /// Every byte of a keyword beside every byte of data.
@@ -126,7 +127,7 @@ pub fn vault(rng: &mut Rng) -> Case {
         words.keywords.words.push(twin);
         case.list = words.list();
         if rng.percent(50) {
-            case.index = Some(index::encode::<&[u8]>(&case.list, &[]));
+            case.index = Some(index::encode::<&[u8]>(&NEWEST, &case.list, &[]));
         }
     }
     case

@@ -1,8 +1,9 @@
-//! The sizes at which 32 bits end: a store of the greatest length, indexes, moves and bounds around 4,294,967,295. Each step
-//! wants some 5 GB of memory, so these run only when asked for (`--huge`). With the feature `mock` steps 2 to 4 hold the
+//! The sizes at which 32 bits end: stores of the greatest length, indexes, moves and bounds around 4,294,967,295. Each step
+//! wants some 5 GB of memory, so these run only when asked for (`--huge`). With the feature `mock` steps 3 to 6 hold the
 //! oracle's records too and want some 20 GB: there name another step.
 
 use crate::inputs::list;
+use oracle::form::{Form, FORM1, NEWEST};
 use oracle::moves::Trie;
 use oracle::records::{encode_body, records_of};
 use oracle::{calls, index, keywords, recipes, store, Fingerprint, U32};
@@ -46,11 +47,13 @@ const TOO_LONG: (u8, u64, u64) = (9, UNTOLD, UNTOLD);
 
 /// All steps, or the one of that number from 1.
 pub fn run(step: u64) -> Verdict {
-    let steps: [fn() -> Verdict; 7] = [
-        longest_store,
+    let steps: [fn() -> Verdict; 9] = [
+        || longest_store(4_096),
+        || longest_store(65_000),
         || longest_index(0),
         || longest_index(1),
-        longer_than_a_scan_writes,
+        || longer_than_a_scan_writes(&FORM1),
+        || longer_than_a_scan_writes(&NEWEST),
         moves_past_32_bits,
         || longest_bound(0),
         || longest_bound(1),
@@ -58,32 +61,42 @@ pub fn run(step: u64) -> Verdict {
     steps.iter().zip(1..).filter(|(_, number)| step == 0 || step == *number).try_for_each(|(run, _)| run())
 }
 
-/// 65,000 chunks of 65,535 bytes: 4,261,595,008 bytes.
-fn longest_store() -> Verdict {
-    println!("the longest store");
-    let (count, size) = (65_000, 65_535);
-    let mut bytes = Vec::with_capacity(8 + count * (28 + size));
+/// The longest chunk.
+const LONGEST: usize = NEWEST.longest_chunk as usize;
+
+/// So many chunks, of equal lengths but for a byte: 4,294,967,295 bytes of store. 4,096 are as few as there can be, 65,000 the most, and
+/// each of them is longer than 65,535 bytes.
+fn longest_store(count: usize) -> Verdict {
+    println!("the longest store, of {count} chunks");
+    let data = U32 as usize - 8 - 28 * count;
+    let size = |k: usize| data / count + usize::from(k < data % count);
+    same("the longest of its chunks is allowed, and longer than 65,535", (65_536..=LONGEST).contains(&size(0)), true)?;
+    let mut bytes = Vec::with_capacity(U32 as usize + 1);
     bytes.extend_from_slice(&store::MARK);
     bytes.extend_from_slice(&(count as u32).to_le_bytes());
+    let mut offset = 8 + 28 * count;
     for k in 0..count {
         bytes.extend_from_slice(&key(k));
-        bytes.extend_from_slice(&((8 + 28 * count + k * size) as u32).to_le_bytes());
-        bytes.extend_from_slice(&(size as u32).to_le_bytes());
+        bytes.extend_from_slice(&(offset as u32).to_le_bytes());
+        bytes.extend_from_slice(&(size(k) as u32).to_le_bytes());
+        offset += size(k);
     }
     let mut state = 1u32;
     for k in 0..count {
-        // Nothing but its first letter (two moves a byte), a keyword at a random place, and half a keyword at one end.
-        let start = bytes.len();
+        // Nothing but its first letter (two moves a byte), a keyword at a random place, one over the first window's end, and half a keyword
+        // at one end.
+        let (start, size) = (bytes.len(), size(k));
         bytes.resize(start + size, b'c');
         state = state.wrapping_mul(1_664_525).wrapping_add(1_013_904_223);
         let at = start + 3 + (state >> 8) as usize % (size - 10);
         bytes[at..at + 4].copy_from_slice(b"cash");
+        bytes[start + 65_534..start + 65_538].copy_from_slice(b"cash");
         match k % 2 {
             0 => bytes[start + size - 2..].copy_from_slice(b"ca"),
             _ => bytes[start..start + 2].copy_from_slice(b"sh"),
         }
     }
-    same("length", bytes.len() as u64, 4_261_595_008)?;
+    same("length", bytes.len() as u64, U32)?;
     let words = list(false, &[b"cash"]);
     same("store check", raw::check_store(&bytes), 0)?;
     same("store check, a byte short", raw::check_store(&bytes[..bytes.len() - 1]), 7)?;
@@ -94,11 +107,12 @@ fn longest_store() -> Verdict {
     same("more moves than 32 bits hold", moves > U32, true)?;
     same("scan", scan(&words, &bytes, &mut out), (0, want.len() as u64, moves))?;
     same("the index is the oracle's", out[..want.len()] == want && out[want.len()..] == [0xEE; 5], true)?;
-    same("last chunk", raw::chunk(&bytes, &key(count - 1)), (0, 4_261_595_008 - 65_535, 65_535))?;
-    // One file of all chunks, backwards: offsets up to 4,259,775,000.
+    let last = size(count - 1) as u64;
+    same("last chunk", raw::chunk(&bytes, &key(count - 1)), (0, U32 - last, last))?;
+    // One file of all chunks, backwards: offsets up to 4,294,852,599.
     let files = [(0..count).rev().map(key).collect::<Vec<_>>(), vec![key(0); 2]];
     let recipes = recipes::encode(&files);
-    let mut expected = vec![0; 9 * 120_000];
+    let mut expected = vec![0; 9 * 240_000];
     let joined = answer(|count| calls::join(&want, &recipes, &mut expected, count));
     expected.truncate(9 * joined.1 as usize);
     let mut out = vec![0xEE; expected.len()];
@@ -106,7 +120,13 @@ fn longest_store() -> Verdict {
     same("the list is the oracle's", out == expected, true)?;
     let twin = 8 + 28 * (count - 1);
     bytes.copy_within(8..28, twin);
-    same("store check, twins at both ends", raw::check_store(&bytes), 8)
+    same("store check, twins at both ends", raw::check_store(&bytes), 8)?;
+    // The last chunk a byte longer, with that byte: it ends beyond.
+    bytes.push(b'c');
+    same("store check, a byte too many", raw::check_store(&bytes), 7)?;
+    bytes[twin + 24..twin + 28].copy_from_slice(&(last as u32 + 1).to_le_bytes());
+    same("store check, an end of 4,294,967,296", raw::check_store(&bytes), 20)?;
+    same("scan, an end of 4,294,967,296", scan(&words, &bytes, &mut [0; 9]), (20, UNTOLD, UNTOLD))
 }
 
 /// A .. A, 16 times over: every keyword at nearly every place.
@@ -117,20 +137,24 @@ fn keywords() -> Vec<u8> {
 
 /// A store whose index has 4,294,967,295 bytes and `more`.
 ///
-/// With these keywords L times A makes an entry and a body of 32 x L - 64 bytes (L from 300), and xAx one of 39.
+/// With these keywords L times A makes an entry and a body of 48 x L - 152 bytes (L from 300), xAx one of 40, and Ax one of 85.
 fn longest_index(more: u64) -> Verdict {
     println!("an index of 4,294,967,295 + {more} bytes");
     let words = keywords();
     let left = U32 + more - 8 - words.len() as u64;
-    let odd = (0..32).find(|odd| (left - 39 * odd) % 32 == 0).expect("39 is odd");
-    let mut rest = (left - 39 * odd) / 32;
+    // 90 chunks of A, each 48 x (L - 3) - 8; some Ax up to a multiple of 8, and some xAx up to one of 48.
+    let count = 90;
+    let pairs = (0..8).find(|pairs| (left - 85 * pairs) % 8 == 0).expect("85 is odd");
+    let rest = |odd: u64| left - 85 * pairs + 8 * count - 40 * odd;
+    let odd = (1..=6).find(|odd| rest(*odd) % 48 == 0).expect("5 and 6 have no common factor");
+    let lengths = rest(odd) / 48;
     let mut chunks: Vec<(Fingerprint, Vec<u8>)> = Vec::new();
-    while rest > 0 {
-        // Never leave less than a chunk of 300.
-        let size = if rest > 65_533 && rest < 65_533 + 300 { 60_000 } else { rest.min(65_533) + 2 };
+    for k in 0..count {
+        let size = lengths / count + u64::from(k < lengths % count) + 3;
         chunks.push((key(chunks.len()), vec![b'A'; size as usize]));
-        rest -= size - 2;
     }
+    let first = chunks[0].1.len() as u64;
+    (0..pairs).for_each(|_| chunks.push((key(chunks.len()), b"Ax".to_vec())));
     (0..odd).for_each(|_| chunks.push((key(chunks.len()), b"xAx".to_vec())));
     let bytes = store::encode(&chunks);
     same("scan_size", answer(|length| raw::scan_size(&words, &bytes, length)), (0, U32 + more))?;
@@ -147,7 +171,7 @@ fn longest_index(more: u64) -> Verdict {
     let mut bodies: HashMap<&[u8], Vec<u8>> = HashMap::new();
     let mut at = 8 + words.len() + 32 * chunks.len();
     for (_, chunk) in &chunks {
-        let body = bodies.entry(chunk).or_insert_with(|| encode_body(&records_of(&read, chunk)));
+        let body = bodies.entry(chunk).or_insert_with(|| encode_body(&NEWEST, &records_of(&read, chunk)));
         if out[at..at + body.len()] != body[..] {
             return Err(format!("the body at {at} is not the oracle's"));
         }
@@ -158,47 +182,49 @@ fn longest_index(more: u64) -> Verdict {
     out.truncate(U32 as usize);
     let last = chunks.len() - 1;
     same("index check", raw::check_index(&out), 0)?;
-    same("last body", raw::body(&out, &key(last)), (0, U32 - 7, 7))?;
+    same("last body", raw::body(&out, &key(last)), (0, U32 - 8, 8))?;
     // Over 16 keywords, L times A has 16 x L - 120 occurrences.
     let recipes = recipes::encode(&[vec![key(last), key(0), key(last)]]);
-    same("count", answer(|count| raw::count(&out, &recipes, count)), (0, 16 * 65_535 - 120 + 2))
+    same("count", answer(|count| raw::count(&out, &recipes, count)), (0, 16 * first - 120 + 2))
 }
 
-/// No scan writes it, but an index may end beyond 32 bits as long as its last body starts within them.
-fn longer_than_a_scan_writes() -> Verdict {
-    println!("an index that ends beyond 4,294,967,295");
+/// No scan writes it, but an index of either mark may end beyond 32 bits as long as its last body starts within them.
+fn longer_than_a_scan_writes(form: &Form) -> Verdict {
+    println!("an index that ends beyond 4,294,967,295, mark {}", form.mark[..3].escape_ascii());
     let words = keywords();
     let read = keywords::read(&words).map_err(|code| format!("the oracle refuses with {code}"))?;
-    let body = encode_body(&records_of(&read, &[b'A'; 65_535]));
-    let entries: Vec<(Fingerprint, u64, &[u8])> = (0..2049).map(|k| (key(k), 65_535, &body[..])).collect();
-    let bytes = index::encode(&words, &entries);
+    let size = form.longest_chunk;
+    let body = encode_body(form, &records_of(&read, &vec![b'A'; size as usize]));
+    let count = (U32 / body.len() as u64) as usize + 1;
+    let entries: Vec<(Fingerprint, u64, &[u8])> = (0..count).map(|k| (key(k), size, &body[..])).collect();
+    let bytes = index::encode(form, &words, &entries);
     let end = bytes.len() as u64;
     same("it ends beyond", end > U32 && end - (body.len() as u64) < U32, true)?;
     same("index check", raw::check_index(&bytes), 0)?;
-    same("last body", raw::body(&bytes, &key(2048)), (0, end - body.len() as u64, body.len() as u64))?;
-    let recipes = recipes::encode(&[vec![key(2048), key(0)]]);
+    same("last body", raw::body(&bytes, &key(count - 1)), (0, end - body.len() as u64, body.len() as u64))?;
+    let recipes = recipes::encode(&[vec![key(count - 1), key(0)]]);
     // Two chunks of A, and what crosses: n - 1 starts for a keyword of n.
-    same("count", answer(|count| raw::count(&bytes, &recipes, count)), (0, 2 * (16 * 65_535 - 120) + 120))?;
+    same("count", answer(|count| raw::count(&bytes, &recipes, count)), (0, 2 * (16 * size - 120) + 120))?;
     same("index check, a byte short", raw::check_index(&bytes[..bytes.len() - 1]), 11)?;
-    // One more entry's offset would not fit 4 bytes: it is wrong, whatever it says.
+    // One more entry's offset would not fit 4 bytes: it is wrong, whatever it says, and no 20.
     let entries: Vec<(Fingerprint, u64, &[u8])> =
-        (0..2050).map(|k| (key(k), 65_535, if k < 2049 { &body[..] } else { &[] })).collect();
+        (0..=count).map(|k| (key(k), size, if k < count { &body[..] } else { &[] })).collect();
     drop(bytes);
-    same("index check, an offset past 32 bits", raw::check_index(&index::encode(&words, &entries)), 11)
+    same("index check, an offset past 32 bits", raw::check_index(&index::encode(form, &words, &entries)), 11)
 }
 
-/// Two moves for each byte of 2,149,548,000 but for the chunks' first ones.
+/// Two moves for each byte of 2,149,580,800 but for the chunks' first ones.
 fn moves_past_32_bits() -> Verdict {
     println!("moves past 32 bits");
-    let (words, count) = (list(false, &[b"ab"]), 32_800);
-    let chunk = vec![b'a'; 65_535];
+    let (words, count) = (list(false, &[b"ab"]), 2_050);
+    let chunk = vec![b'a'; LONGEST];
     let bytes = store::encode(&(0..count).map(|k| (key(k), &chunk[..])).collect::<Vec<_>>());
     let read = keywords::read(&words).map_err(|code| format!("the oracle refuses with {code}"))?;
     let moves = count as u64 * Trie::new(&read).moves(&chunk);
-    same("moves by the oracle", moves, 32_800 * (2 * 65_535 - 1))?;
+    same("moves by the oracle", moves, 2_050 * (2 * LONGEST as u64 - 1))?;
     same("they pass 32 bits", moves > U32, true)?;
-    let body = encode_body(&records_of(&read, &chunk));
-    let want = index::encode(&words, &(0..count).map(|k| (key(k), 65_535, &body[..])).collect::<Vec<_>>());
+    let body = encode_body(&NEWEST, &records_of(&read, &chunk));
+    let want = index::encode(&NEWEST, &words, &(0..count).map(|k| (key(k), LONGEST as u64, &body[..])).collect::<Vec<_>>());
     let mut out = vec![0xEE; want.len()];
     same("scan", scan(&words, &bytes, &mut out), (0, want.len() as u64, moves))?;
     same("the index is the oracle's", out == want, true)?;
@@ -210,9 +236,9 @@ fn moves_past_32_bits() -> Verdict {
 fn longest_bound(more: u64) -> Verdict {
     println!("a bound of 4,294,967,295 + {more}");
     let words = list(false, &[b"ab"]);
-    // The bound is 24 + list + 97 x count + 2 x bytes of chunks.
-    let count = 32_768 + more;
-    let data = (U32 + more - 24 - words.len() as u64 - 97 * count) / 2;
+    // The bound is 32 + list + 127 x count + 3 x bytes of chunks.
+    let count = 1_367 + more;
+    let data = (U32 + more - 32 - words.len() as u64 - 127 * count) / 3;
     let (size, longer) = (data / count, data % count);
     let read = keywords::read(&words).map_err(|code| format!("the oracle refuses with {code}"))?;
     let trie = Trie::new(&read);
@@ -221,7 +247,7 @@ fn longest_bound(more: u64) -> Verdict {
         .map(|kind| {
             let mut chunk = vec![b'a'; (size + kind % 2) as usize];
             *chunk.last_mut().expect("it isn't empty") = if kind < 2 { b'a' } else { b'b' };
-            let (body, moves) = (encode_body(&records_of(&read, &chunk)), trie.moves(&chunk));
+            let (body, moves) = (encode_body(&NEWEST, &records_of(&read, &chunk)), trie.moves(&chunk));
             (chunk, body, moves)
         })
         .collect();
@@ -230,7 +256,7 @@ fn longest_bound(more: u64) -> Verdict {
     same("the bound", vault::scan_bound(&words, &bytes), U32 + more)?;
     let entries: Vec<(Fingerprint, u64, &[u8])> =
         (0..count).map(|k| (key(k as usize), kind(k).0.len() as u64, &kind(k).1[..])).collect();
-    let want = index::encode(&words, &entries);
+    let want = index::encode(&NEWEST, &words, &entries);
     let told = (0, want.len() as u64, (0..count).map(|k| kind(k).2).sum());
     for length in [U32 - 1, U32, U32 + 1] {
         // Pages that nobody writes to are not there.

@@ -2,6 +2,7 @@
 
 use crate::folds::beside;
 use crate::rng::Rng;
+use oracle::form::{Form, KNOWN};
 use oracle::keywords::{alike, Keywords};
 use oracle::records::{encode_body, reach, Record};
 use oracle::{index, keywords, recipes, store, Fingerprint};
@@ -328,14 +329,37 @@ fn record(rng: &mut Rng, n: usize, size: usize) -> Record {
     Record { prefix, suffix, offsets }
 }
 
-/// Bodies of made-up records: for each fingerprint, L and the body.
-pub fn bodies(rng: &mut Rng, words: &Keywords, keys: &[Fingerprint]) -> Vec<(Fingerprint, u64, Vec<u8>)> {
+/// An index that no store gave: what an entry says of each fingerprint, L and the body.
+pub struct MadeUp {
+    pub case: Case,
+    pub form: Form,
+    pub entries: Vec<Entry>,
+}
+
+type Entry = (Fingerprint, u64, Vec<u8>);
+
+impl MadeUp {
+    /// The case, with an index of the entries as they are now.
+    pub fn case(mut self) -> Case {
+        self.case.index = Some(index::encode(&self.form, &self.case.list, &self.entries));
+        self.case
+    }
+}
+
+/// What a scan of the case's store writes, or wrote under the old mark, if it does its work.
+pub fn scanned(rng: &mut Rng, case: &Case) -> Option<Vec<u8>> {
+    let (keywords, chunks) = (keywords::read(&case.list).ok()?, store::read(&case.store).ok()?);
+    Some(index::of_scan(rng.pick(&KNOWN), &case.list, &keywords, &case.store, &chunks))
+}
+
+/// Bodies of made-up records.
+fn bodies(rng: &mut Rng, form: &Form, words: &Keywords, keys: &[Fingerprint]) -> Vec<Entry> {
     let due = words.longest() - 1;
     let how = rng.below(5);
     let mut entries = Vec::new();
     for key in keys {
         let size = match how {
-            4 => *rng.pick(&[255, 260, 300, 600, 65_535]),
+            4 => *rng.pick(&[255, 260, 300, 600, form.longest_chunk as usize]),
             how => chunk_length(rng, due, how),
         };
         let few = rng.percent(30);
@@ -345,21 +369,21 @@ pub fn bodies(rng: &mut Rng, words: &Keywords, keys: &[Fingerprint]) -> Vec<(Fin
             .map(|w| if few && rng.percent(80) { Record::default() } else { record(rng, w.len(), size) })
             .map(|r| if size > 1000 && r.offsets.len() > 1000 { Record { offsets: vec![], ..r } } else { r })
             .collect();
-        entries.push((*key, size as u64, encode_body(&records)));
+        entries.push((*key, size as u64, encode_body(form, &records)));
     }
     entries
 }
 
-/// An index that no store gave, and recipes over it.
-pub fn made_up(rng: &mut Rng, kind: &'static str) -> (Case, Words, Vec<(Fingerprint, u64, Vec<u8>)>) {
+/// Made-up records, and recipes over them.
+pub fn made_up(rng: &mut Rng, kind: &'static str) -> MadeUp {
     let (mut case, words, _) = vault(rng, kind);
+    let form = *rng.pick(&KNOWN);
     let count = rng.range(1, 6);
     let keys = keys(rng, count);
-    let entries = bodies(rng, &words.keywords, &keys);
-    case.index = Some(index::encode(&case.list, &entries));
+    let entries = bodies(rng, &form, &words.keywords, &keys);
     case.recipes = recipes::encode(&files(rng, &keys));
     case.keys = lookups(rng, &keys);
-    (case, words, entries)
+    MadeUp { case, form, entries }
 }
 
 /// A list of these keywords.

@@ -6,6 +6,7 @@
 //! First the cases by hand, then the large ones, then CASES random ones. `--quick` leaves the large ones out, so that
 //! valgrind can run it; `--huge` runs only those that want 5 GB of memory. A difference prints the seed and the case, writes its inputs to a folder, and ends with status 1.
 
+mod beyond;
 mod compare;
 mod damage;
 mod fixed;
@@ -14,9 +15,11 @@ mod huge;
 mod inputs;
 mod lanes;
 mod rng;
+mod windows;
 
 use compare::{Comparison, Limits, Tally, USUAL};
 use inputs::Case;
+use oracle::form::{KNOWN, NEWEST};
 use rng::Rng;
 use std::process::ExitCode;
 use std::time::{Duration, Instant};
@@ -73,9 +76,9 @@ fn on_large_stack<T: Send>(work: impl FnOnce() -> T + Send) -> T {
     vault::on_large_stack(work).expect("a thread can be started")
 }
 
-/// A random case: sound, damaged in one input, in two, made up, noise, for the walk, or for the fold.
+/// A random case: sound, damaged in one input, in two, made up, noise, for the walk, for the fold, or for the ends of 32 bits.
 fn random(rng: &mut Rng) -> Case {
-    match rng.below(120) {
+    match rng.below(126) {
         0..=29 => inputs::vault(rng, "vaults").0,
         30..=36 => {
             let (mut case, _, _) = inputs::vault(rng, "damaged keywords");
@@ -94,24 +97,29 @@ fn random(rng: &mut Rng) -> Case {
             case
         }
         66..=75 => two_faults(rng),
-        76..=87 => inputs::made_up(rng, "made-up records").0,
+        76..=87 => inputs::made_up(rng, "made-up records").case(),
         88..=95 => {
-            let (mut case, _, mut entries) = inputs::made_up(rng, "made-up records, bad body");
-            let bad = rng.below(entries.len());
-            damage::body(rng, &mut entries[bad].2);
-            case.index = Some(oracle::index::encode(&case.list, &entries));
-            case
+            let mut made_up = inputs::made_up(rng, "made-up records, bad body");
+            let bad = rng.below(made_up.entries.len());
+            damage::body(rng, &made_up.form, &mut made_up.entries[bad].2);
+            made_up.case()
         }
         96..=97 => long_chunks(rng),
         98..=99 => noise(rng),
         100..=111 => lanes::vault(rng),
-        _ => folds::vault(rng),
+        112..=119 => folds::vault(rng),
+        120..=124 => {
+            let (mut case, _, _) = inputs::vault(rng, "indexes of either mark");
+            case.index = inputs::scanned(rng, &case);
+            case
+        }
+        _ => beyond::random(rng),
     }
 }
 
 fn damaged_index(rng: &mut Rng, kind: &'static str) -> Case {
     let (mut case, _, _) = inputs::vault(rng, kind);
-    if let Ok(mut index) = oracle::calls::index_of(&case.list, &case.store) {
+    if let Some(mut index) = inputs::scanned(rng, &case) {
         damage::index(rng, &mut index, case.list.len());
         case.index = Some(index);
     }
@@ -143,7 +151,7 @@ fn long_chunks(rng: &mut Rng) -> Case {
         let count = rng.range(250, 260);
         let mut data: Vec<u8> = word.iter().copied().cycle().take(word.len() * count).collect();
         data.truncate(data.len() - rng.below(2));
-        data.truncate(65_535);
+        data.truncate(NEWEST.longest_chunk as usize);
         chunks.push((*key, data));
     }
     case.store = oracle::store::encode(&chunks);
@@ -151,6 +159,7 @@ fn long_chunks(rng: &mut Rng) -> Case {
 }
 
 fn noise(rng: &mut Rng) -> Case {
+    let mark = rng.pick(&KNOWN).mark;
     let mut bytes = |mark: &[u8]| {
         let length = rng.below(120);
         let mut bytes = rng.bytes(length);
@@ -163,7 +172,7 @@ fn noise(rng: &mut Rng) -> Case {
         kind: "noise",
         list: bytes(&[1, 0, 2]),
         store: bytes(&[0x44, 0x56, 0x31, 0x0A, 1, 0, 0, 0]),
-        index: Some(bytes(&[0x44, 0x4D, 0x31, 0x0A, 1, 0, 0, 0, 1, 0, 1, 65])),
+        index: Some(bytes(&[&mark[..], &[1, 0, 0, 0, 1, 0, 1, 65]].concat())),
         recipes: bytes(&[2, 0, 0, 0, 1, 0, 0, 0]),
         keys: vec![bytes(&[]), vec![1; 20]],
     }
@@ -289,15 +298,15 @@ fn all(arguments: &Arguments, run: &mut Run, started: Instant) -> bool {
 /// The codes that each operation can give.
 const REACHABLE: [(&str, &[u8]); 10] = [
     ("check_keywords", &[0, 1, 2, 3, 4]),
-    ("check_store", &[0, 5, 6, 7, 8]),
+    ("check_store", &[0, 5, 6, 7, 8, 20]),
     ("check_index", &[0, 1, 2, 3, 4, 10, 11, 12, 13]),
-    ("scan_size", &[0, 1, 2, 3, 4, 5, 6, 7, 8]),
-    ("scan", &[0, 1, 2, 3, 4, 5, 6, 7, 8, 9]),
+    ("scan_size", &[0, 1, 2, 3, 4, 5, 6, 7, 8, 20]),
+    ("scan", &[0, 1, 2, 3, 4, 5, 6, 7, 8, 9, 20]),
     ("count", &[0, 1, 2, 3, 4, 10, 11, 12, 13, 14, 15, 16, 17]),
     ("join", &[0, 1, 2, 3, 4, 10, 11, 12, 13, 14, 15, 16, 17, 18]),
-    ("find_chunk", &[0, 5, 6, 7, 8, 15, 19]),
+    ("find_chunk", &[0, 5, 6, 7, 8, 15, 19, 20]),
     ("find_body", &[0, 1, 2, 3, 4, 10, 11, 12, 13, 15, 19]),
-    ("search", &[0, 1, 2, 3, 4, 5, 6, 7, 8, 9, 14, 15, 16, 17, 18]),
+    ("search", &[0, 1, 2, 3, 4, 5, 6, 7, 8, 9, 14, 15, 16, 17, 18, 20]),
 ];
 
 fn missing(tally: &Tally) -> Vec<String> {
@@ -321,6 +330,8 @@ fn report(tally: &Tally, time: Duration) {
         println!("  {call:<15} {}", reached.join(" "));
     }
     tally.meetings.report();
+    let marks: Vec<String> = tally.marks.iter().map(|(mark, n)| format!("{} {n}", mark[..3].escape_ascii())).collect();
+    println!("\ngood indexes by mark: {}; good stores with a chunk longer than 65,535 bytes: {}", marks.join(", "), tally.long);
     let calls: u64 = tally.codes.values().sum();
     println!(
         "\n{} cases, {calls} answers compared, {} bytes of buffers, {} occurrences listed,",

@@ -1,6 +1,7 @@
 //! The operations in the shape of the C interface: a code (0: done), and lent buffers and numbers. A refusal leaves these as
 //! they were.
 
+use crate::form::NEWEST;
 use crate::index::Index;
 use crate::join::Joined;
 use crate::store::Chunk;
@@ -34,23 +35,23 @@ pub fn check_index(bytes: &[u8]) -> Code {
     code(index::read(bytes))
 }
 
-/// The index that a scan writes, whatever its length: refusals 1 to 8.
+/// The index that a scan writes, whatever its length: refusals 1 to 8 and 20.
 pub fn index_of(list: &[u8], store: &[u8]) -> Result<Vec<u8>, Code> {
     let keywords = keywords::read(list)?;
     let chunks = store::read(store)?;
-    Ok(index::of_scan(list, &keywords, store, &chunks))
+    Ok(index::of_scan(&NEWEST, list, &keywords, store, &chunks))
 }
 
 pub fn scan_size(list: &[u8], store: &[u8], length: &mut u64) -> Code {
     let size = || {
         let keywords = keywords::read(list)?;
         let chunks = store::read(store)?;
-        Ok(index::length_of_scan(&keywords, store, &chunks))
+        Ok(index::length_of_scan(&NEWEST, &keywords, store, &chunks))
     };
     told(size(), length)
 }
 
-/// The moves of a scan, whatever the length of its index: refusals 1 to 8.
+/// The moves of a scan, whatever the length of its index: refusals 1 to 8 and 20.
 pub fn moves_of(list: &[u8], store: &[u8]) -> Result<u64, Code> {
     let keywords = keywords::read(list)?;
     let chunks = store::read(store)?;
@@ -150,6 +151,7 @@ pub fn search(
 #[cfg(test)]
 mod tests {
     use super::*;
+    use crate::form::FORM1;
     use crate::keywords::list_of;
     use crate::{direct, recipes};
 
@@ -158,6 +160,9 @@ mod tests {
         let recipes = recipes::encode(&[vec![[1; 20], [2; 20]], vec![[3; 20], [3; 20]], vec![]]);
         (list_of(false, &[b"ABA", b"AA"]), store, recipes)
     }
+
+    /// The length of the small vault's index: two records have a field. 136 bytes in document 01's form, 138 in request 105's.
+    const SMALL: usize = 132 + 2 * NEWEST.width;
 
     /// What a number holds that no call has told.
     const UNTOLD: u64 = 0xA5A5;
@@ -170,10 +175,10 @@ mod tests {
     #[test]
     fn the_small_vault() {
         let (list, store, recipes) = small();
-        let (mut index, mut out, mut length, mut count) = (vec![0xEE; 140], vec![0xEE; 30], 7, 8);
+        let (mut index, mut out, mut length, mut count) = (vec![0xEE; SMALL + 4], vec![0xEE; 30], 7, 8);
         let code = search(&list, &store, &recipes, (&mut index, &mut out), (&mut length, &mut count));
-        assert_eq!((code, length, count), (0, 136, 3));
-        assert_eq!(index[136..], [0xEE; 4]);
+        assert_eq!((code, length, count), (0, SMALL as u64, 3));
+        assert_eq!(index[SMALL..], [0xEE; 4]);
         let row = |file: u8, offset: u8, word: u8| [file, 0, 0, 0, offset, 0, 0, 0, word];
         assert_eq!(out[..27], [row(0, 1, 0), row(0, 3, 0), row(1, 0, 1)].concat());
         assert_eq!(out[27..], [0xEE; 3]);
@@ -182,7 +187,7 @@ mod tests {
     #[test]
     fn a_scan_tells_its_moves() {
         let (list, store, _) = small();
-        for (room, want) in [(136, (0, 136, 10)), (135, (9, UNTOLD, UNTOLD)), (5_000, (0, 136, 10))] {
+        for (room, want) in [(SMALL, (0, SMALL as u64, 10)), (SMALL - 1, (9, UNTOLD, UNTOLD)), (5_000, (0, SMALL as u64, 10))] {
             let (mut length, mut moves) = (UNTOLD, UNTOLD);
             let code = scan(&list, &store, &mut vec![0; room], (&mut length, &mut moves));
             assert_eq!((code, length, moves), want);
@@ -196,11 +201,11 @@ mod tests {
     #[test]
     fn exact_buffers_fit_and_shorter_ones_change_nothing() {
         let (list, store, recipes) = small();
-        let mut index = vec![0xEE; 136];
-        let mut short = vec![0xEE; 135];
+        let mut index = vec![0xEE; SMALL];
+        let mut short = vec![0xEE; SMALL - 1];
         assert_eq!(answer(|length| scan(&list, &store, &mut short, (length, &mut 0))), (9, UNTOLD));
-        assert_eq!(short, [0xEE; 135]);
-        assert_eq!(answer(|length| scan(&list, &store, &mut index, (length, &mut 0))), (0, 136));
+        assert_eq!(short, [0xEE; SMALL - 1]);
+        assert_eq!(answer(|length| scan(&list, &store, &mut index, (length, &mut 0))), (0, SMALL as u64));
         let mut out = vec![0xEE; 26];
         assert_eq!(answer(|count| join(&index, &recipes, &mut out, count)), (18, UNTOLD));
         assert_eq!(out, [0xEE; 26]);
@@ -211,7 +216,9 @@ mod tests {
     #[test]
     fn a_refused_search_tells_what_was_done() {
         let (list, store, recipes) = small();
-        for (room, rows, want) in [(135, 27, (9, UNTOLD, UNTOLD)), (136, 26, (18, 136, UNTOLD)), (136, 27, (0, 136, 3))] {
+        for (room, rows, want) in
+            [(SMALL - 1, 27, (9, UNTOLD, UNTOLD)), (SMALL, 26, (18, SMALL as u64, UNTOLD)), (SMALL, 27, (0, SMALL as u64, 3))]
+        {
             let (mut index, mut out, mut length, mut count) = (vec![0; room], vec![0; rows], UNTOLD, UNTOLD);
             let code = search(&list, &store, &recipes, (&mut index, &mut out), (&mut length, &mut count));
             assert_eq!((code, length, count), want);
@@ -230,6 +237,41 @@ mod tests {
         assert_eq!(out, [0, 0, 0, 0, 1, 0, 0, 0, 0]);
     }
 
+    /// Request 105: 20 is the store check's, in every call that has it, behind the keywords' numbers.
+    #[test]
+    fn a_store_that_ends_beyond_32_bits() {
+        let list = list_of(false, &[b"A"]);
+        let mut store = [store::MARK, 4_096u32.to_le_bytes()].concat();
+        for k in 0..4_096u32 {
+            let offset = 8 + 28 * 4_096 + u64::from(k) * 1_048_576;
+            store.extend([&k.to_le_bytes().repeat(5)[..], &(offset as u32).to_le_bytes(), &1_048_576u32.to_le_bytes()].concat());
+        }
+        let (mut index, mut out) = ([0xEE; 50], [0xEE; 50]);
+        assert_eq!((store.len(), check_store(&store)), (114_696, 20));
+        assert_eq!(answer(|length| scan_size(&list, &store, length)), (20, UNTOLD));
+        assert_eq!(answer(|length| scan(&list, &store, &mut index, (length, &mut 0))), (20, UNTOLD));
+        assert_eq!(answer(|length| scan(&list[..1], &store, &mut index, (length, &mut 0))), (1, UNTOLD));
+        assert_eq!((chunk(&store, &[1; 20]), chunk(&store, &[1; 19])), (Err(20), Err(20)));
+        assert_eq!(answer(|n| search(&list, &store, &[0; 4], (&mut index, &mut out), (n, &mut 0))), (20, UNTOLD));
+        assert_eq!((index, out), ([0xEE; 50], [0xEE; 50]));
+    }
+
+    /// Document 01's small vault under the old mark: the same list.
+    #[test]
+    fn the_old_mark_is_joined() {
+        let (list, store, recipes) = small();
+        let old = index::of_scan(&FORM1, &list, &keywords::read(&list).unwrap(), &store, &store::read(&store).unwrap());
+        let new = index_of(&list, &store).unwrap();
+        assert_eq!((old.len(), new.len(), &new[..4]), (136, 138, &[0x44, 0x4D, 0x32, 0x0A][..]));
+        let list_of = |index: &[u8]| {
+            let mut out = [0; 27];
+            (answer(|count| join(index, &recipes, &mut out, count)), out)
+        };
+        assert_eq!(list_of(&old).0, (0, 3));
+        assert_eq!(list_of(&old), list_of(&new));
+        assert_eq!((body(&old, &[3; 20]), body(&new, &[3; 20])), (Ok(130..136), Ok(132..138)));
+    }
+
     #[test]
     fn lookups() {
         let (list, store, _) = small();
@@ -238,7 +280,7 @@ mod tests {
         assert_eq!(chunk(&store, &[4; 20]), Err(15));
         assert_eq!(chunk(&store, &[2; 19]), Err(19));
         assert_eq!(chunk(&store[..99], &[2; 19]), Err(7));
-        assert_eq!(body(&index, &[3; 20]), Ok(130..136));
+        assert_eq!(body(&index, &[3; 20]), Ok(SMALL - 6..SMALL));
         assert_eq!(body(&index, &[4; 20]), Err(15));
         assert_eq!(body(&index, &[]), Err(19));
     }

@@ -1,12 +1,11 @@
 //! Document 01, "Notes file": the match index, its check (10, 1 to 4, 11 to 13), and its writer.
 
+use crate::form::{Form, KNOWN};
 use crate::keywords::{read_front, Keywords};
 use crate::records::{decode_body, encode_body, records_of, Record};
 use crate::store::Chunk;
-use crate::{fingerprint, number, twice, Code, Fingerprint, LONGEST_CHUNK, MOST_CHUNKS};
+use crate::{fingerprint, number, twice, Code, Fingerprint, MOST_CHUNKS};
 use std::ops::Range;
-
-pub const MARK: [u8; 4] = [0x44, 0x4D, 0x31, 0x0A];
 
 /// What an accepted index says of one chunk.
 #[derive(Clone, Debug, PartialEq, Eq)]
@@ -28,7 +27,13 @@ pub struct Index {
 
 /// The notes check.
 pub fn read(index: &[u8]) -> Result<Index, Code> {
-    if index.len() < 8 || index[..4] != MARK || number(index, 4) > MOST_CHUNKS {
+    read_among(&KNOWN, index)
+}
+
+/// The notes check where these forms are known.
+pub fn read_among(known: &[Form], index: &[u8]) -> Result<Index, Code> {
+    let form = Form::of(known, index).ok_or(10)?;
+    if index.len() < 8 || number(index, 4) > MOST_CHUNKS {
         return Err(10);
     }
     let count = number(index, 4);
@@ -42,7 +47,7 @@ pub fn read(index: &[u8]) -> Result<Index, Code> {
     for k in 0..count as usize {
         let entry = directory + 32 * k;
         let (size, offset, length) = (number(index, entry + 20), number(index, entry + 24), number(index, entry + 28));
-        if !(1..=LONGEST_CHUNK).contains(&size) || offset != end {
+        if !(1..=form.longest_chunk).contains(&size) || offset != end {
             return Err(11);
         }
         end += length;
@@ -58,15 +63,15 @@ pub fn read(index: &[u8]) -> Result<Index, Code> {
     for (key, size, place) in places {
         // The last end is the file's, so every body lies within it.
         let body = place.start as usize..place.end as usize;
-        let records = decode_body(&keywords, size as usize, &index[body.clone()]).ok_or(13)?;
+        let records = decode_body(&form, &keywords, size as usize, &index[body.clone()]).ok_or(13)?;
         entries.push(Entry { key, size, body, records });
     }
     Ok(Index { keywords, entries })
 }
 
-/// An index from a keyword list's bytes and, for each chunk, fingerprint, L and body, whether or not they are good.
-pub fn encode<B: AsRef<[u8]>>(list: &[u8], entries: &[(Fingerprint, u64, B)]) -> Vec<u8> {
-    let mut bytes = MARK.to_vec();
+/// An index of that form from a keyword list's bytes and, for each chunk, fingerprint, L and body, whether or not they are good.
+pub fn encode<B: AsRef<[u8]>>(form: &Form, list: &[u8], entries: &[(Fingerprint, u64, B)]) -> Vec<u8> {
+    let mut bytes = form.mark.to_vec();
     bytes.extend_from_slice(&(entries.len() as u32).to_le_bytes());
     bytes.extend_from_slice(list);
     let mut end = (bytes.len() + 32 * entries.len()) as u64;
@@ -84,35 +89,40 @@ pub fn encode<B: AsRef<[u8]>>(list: &[u8], entries: &[(Fingerprint, u64, B)]) ->
     bytes
 }
 
-/// The length of the index that a scan of accepted inputs writes, without holding the bodies.
-pub fn length_of_scan(keywords: &Keywords, store: &[u8], chunks: &[Chunk]) -> u64 {
-    let bodies: u64 = chunks.iter().map(|c| encode_body(&records_of(keywords, &store[c.place.clone()])).len() as u64).sum();
+/// The length of the index that a scan of accepted inputs writes in that form, without holding the bodies.
+pub fn length_of_scan(form: &Form, keywords: &Keywords, store: &[u8], chunks: &[Chunk]) -> u64 {
+    let bodies: u64 = chunks.iter().map(|c| encode_body(form, &records_of(keywords, &store[c.place.clone()])).len() as u64).sum();
     8 + keywords.size as u64 + 32 * chunks.len() as u64 + bodies
 }
 
-/// The index that a scan of accepted inputs writes.
-pub fn of_scan(list: &[u8], keywords: &Keywords, store: &[u8], chunks: &[Chunk]) -> Vec<u8> {
+/// The index that a scan of accepted inputs writes in that form.
+pub fn of_scan(form: &Form, list: &[u8], keywords: &Keywords, store: &[u8], chunks: &[Chunk]) -> Vec<u8> {
     let entries: Vec<(Fingerprint, u64, Vec<u8>)> = chunks
         .iter()
-        .map(|c| (c.key, c.place.len() as u64, encode_body(&records_of(keywords, &store[c.place.clone()]))))
+        .map(|c| (c.key, c.place.len() as u64, encode_body(form, &records_of(keywords, &store[c.place.clone()]))))
         .collect();
-    encode(list, &entries)
+    encode(form, list, &entries)
 }
 
 #[cfg(test)]
 mod tests {
     use super::*;
+    use crate::form::{FORM1, FORM2};
     use crate::keywords::list_of;
-    use crate::store;
+    use crate::{store, U32};
 
     fn code(index: &[u8]) -> Code {
         read(index).err().unwrap_or(0)
     }
 
     fn small() -> Vec<u8> {
+        small_in(&FORM1)
+    }
+
+    fn small_in(form: &Form) -> Vec<u8> {
         let list = list_of(false, &[b"ABA", b"AA"]);
         let store = store::encode(&[([1; 20], &b"XAB"[..]), ([2; 20], b"ABAX"), ([3; 20], b"A")]);
-        of_scan(&list, &crate::keywords::read(&list).unwrap(), &store, &store::read(&store).unwrap())
+        of_scan(form, &list, &crate::keywords::read(&list).unwrap(), &store, &store::read(&store).unwrap())
     }
 
     #[test]
@@ -122,6 +132,41 @@ mod tests {
         let starts: Vec<usize> = read.entries.iter().map(|e| e.body.start).collect();
         assert_eq!((index.len(), starts), (136, vec![113, 120, 130]));
         assert_eq!(index[113..], [0, 1, 2, 0, 0, 0, 0, 0, 1, 0, 1, 1, 0, 0, 1, 0, 2, 0, 0, 3, 1, 0, 3]);
+    }
+
+    /// Request 105: the bodies lie at 113, 121 and 132 of 138 bytes.
+    #[test]
+    fn the_small_index_in_the_second_form() {
+        let (first, second) = (small(), small_in(&FORM2));
+        let both = [FORM1, FORM2];
+        let read = read_among(&both, &second).unwrap();
+        let starts: Vec<usize> = read.entries.iter().map(|e| e.body.start).collect();
+        assert_eq!((second.len(), starts), (138, vec![113, 121, 132]));
+        assert_eq!(second[..4], [0x44, 0x4D, 0x32, 0x0A]);
+        assert_eq!(second[113..], [0, 1, 2, 0, 0, 0, 0, 0, 0, 1, 0, 1, 1, 0, 0, 0, 1, 0, 2, 0, 0, 3, 1, 0, 3]);
+        // The same records as the old mark's, which is read as before.
+        let older = read_among(&both, &first).unwrap();
+        assert_eq!(older, super::read(&first).unwrap());
+        let records = |index: &Index| index.entries.iter().map(|e| (e.key, e.size, e.records.clone())).collect::<Vec<_>>();
+        assert_eq!((records(&older), &older.keywords), (records(&read), &read.keywords));
+        // Another mark's bodies are not good, and a mark that isn't known is 10.
+        for (index, other) in [(first, FORM2), (second, FORM1)] {
+            let mut wrong = index.clone();
+            wrong[..4].copy_from_slice(&other.mark);
+            assert_eq!(read_among(&both, &wrong), Err(13));
+            assert_eq!(read_among(&[other], &index), Err(10));
+        }
+    }
+
+    /// Each mark has its longest chunk.
+    #[test]
+    fn chunk_lengths_by_the_mark() {
+        for form in [FORM1, FORM2] {
+            for (size, want) in [(0, 11), (1, 0), (form.longest_chunk, 0), (form.longest_chunk + 1, 11), (U32, 11)] {
+                let index = encode(&form, &[1, 0, 1, 0x41], &[([1; 20], size, &b""[..])]);
+                assert_eq!(read_among(&[FORM1, FORM2], &index).err().unwrap_or(0), want, "{form:?} {size}");
+            }
+        }
     }
 
     #[test]
@@ -161,12 +206,12 @@ mod tests {
 
     #[test]
     fn keywords_inside() {
-        let alike = encode::<&[u8]>(&[2, 0, 1, 0x41, 1, 0x41], &[]);
+        let alike = encode::<&[u8]>(&FORM1, &[2, 0, 1, 0x41, 1, 0x41], &[]);
         assert_eq!(code(&alike), 4);
         let mut cut = alike.clone();
         cut[4] = 9;
         assert_eq!(code(&cut), 4);
-        let mut none = encode::<&[u8]>(&[1, 0, 1, 0x41], &[]);
+        let mut none = encode::<&[u8]>(&FORM1, &[1, 0, 1, 0x41], &[]);
         assert_eq!(code(&none), 0);
         none.push(0);
         assert_eq!(code(&none), 11);
@@ -180,22 +225,22 @@ mod tests {
     fn accented_capitals_inside() {
         for (a, b, with) in [(0xC9, 0xE9, 4), (0xDE, 0xFE, 4), (0xD7, 0xF7, 0), (0xDF, 0xFF, 0)] {
             for (flag, want) in [(true, with), (false, 0)] {
-                let mut index = encode(&list_of(flag, &[&[a], &[b]]), &[([1; 20], 1, &b""[..])]);
+                let mut index = encode(&FORM1, &list_of(flag, &[&[a], &[b]]), &[([1; 20], 1, &b""[..])]);
                 assert_eq!(code(&index), want, "{a:02X} {b:02X}");
                 index.pop();
                 assert_eq!(code(&index), if want == 4 { 4 } else { 11 });
             }
         }
         let list = list_of(true, &[b"\xC9t"]);
-        let narrow = encode(&list, &[([1; 20], 2, &b""[..])]);
+        let narrow = encode(&FORM1, &list, &[([1; 20], 2, &b""[..])]);
         let store = store::encode(&[([1; 20], b"\xE9t")]);
-        let wide = of_scan(&list, &crate::keywords::read(&list).unwrap(), &store, &store::read(&store).unwrap());
+        let wide = of_scan(&FORM1, &list, &crate::keywords::read(&list).unwrap(), &store, &store::read(&store).unwrap());
         assert_eq!((code(&narrow), code(&wide), wide.len() - narrow.len()), (0, 0, 7));
     }
 
     #[test]
     fn sums_do_not_wrap() {
-        let mut index = encode(&[1, 0, 1, 0x41], &[([1; 20], 1, &b""[..]), ([2; 20], 1, b"")]);
+        let mut index = encode(&FORM1, &[1, 0, 1, 0x41], &[([1; 20], 1, &b""[..]), ([2; 20], 1, b"")]);
         let directory = 12;
         index[directory + 28..directory + 32].fill(0xFF);
         let wrapped = (index.len() as u32).wrapping_add(u32::MAX);

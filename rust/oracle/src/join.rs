@@ -117,6 +117,7 @@ pub fn encode(list: &[Occurrence]) -> Vec<u8> {
 #[cfg(test)]
 mod tests {
     use super::*;
+    use crate::form::{Form, FORM1, FORM2};
     use crate::keywords::list_of;
     use crate::records::{encode_body, Record};
     use crate::{index, Fingerprint};
@@ -157,11 +158,17 @@ mod tests {
         Record { prefix, suffix, offsets: offsets.to_vec() }
     }
 
-    /// The list of an index of these records, one chunk of each length, and the files by chunk number.
+    /// The list of an index of these records, one chunk of each length, and the files by chunk number: in each form the same.
     fn join(words: &[&[u8]], chunks: &[(u64, &[Record])], files: &[&[u8]]) -> Result<Vec<(u32, u32, u8)>, Code> {
+        let [first, second] = [FORM1, FORM2].map(|form| join_in(&form, words, chunks, files));
+        assert_eq!(first, second);
+        first
+    }
+
+    fn join_in(form: &Form, words: &[&[u8]], chunks: &[(u64, &[Record])], files: &[&[u8]]) -> Result<Vec<(u32, u32, u8)>, Code> {
         let entries: Vec<(Fingerprint, u64, Vec<u8>)> =
-            chunks.iter().enumerate().map(|(e, (size, records))| ([e as u8; 20], *size, encode_body(records))).collect();
-        let index = index::read(&index::encode(&list_of(false, words), &entries))?;
+            chunks.iter().enumerate().map(|(e, (size, records))| ([e as u8; 20], *size, encode_body(form, records))).collect();
+        let index = index::read_among(&[*form], &index::encode(form, &list_of(false, words), &entries))?;
         let files: Vec<Vec<Fingerprint>> = files.iter().map(|f| f.iter().map(|e| [*e; 20]).collect()).collect();
         let joined = Joined::new(&index, &crate::recipes::encode(&files))?;
         let list = joined.list();
@@ -201,7 +208,7 @@ mod tests {
     #[test]
     fn counts_pass_32_bits() {
         let all: Vec<usize> = (0..65_535).collect();
-        let bytes = index::encode(&list_of(false, &[b"A"]), &[([1; 20], 65_535, record(0, 0, &all).encode(0))]);
+        let bytes = index::encode(&FORM1, &list_of(false, &[b"A"]), &[([1; 20], 65_535, record(0, 0, &all).encode(&FORM1, 0))]);
         let index = index::read(&bytes).unwrap();
         let joined = Joined::new(&index, &crate::recipes::encode(&[vec![[1; 20]; 7_283]])).unwrap();
         assert_eq!(9 * joined.count(), 4_295_622_645);

@@ -4,9 +4,10 @@
 //! taken in 64 bits, and every function answers for all inputs. Each module is one section of the paper:
 //!
 //! * [`keywords`]: "Words" with request 104's accented capitals, and the word check;
-//! * [`store`]: "Store", with the store check;
+//! * [`store`]: "Store", with the store check and request 105's number 20;
 //! * [`records`]: "Notes on one chunk and one word", and their written form;
 //! * [`moves`]: request 103, what a scan's walk of the trie counts;
+//! * [`form`]: the written forms of an index, by their marks: document 01's and request 105's;
 //! * [`index`]: "Notes file", with the notes check;
 //! * [`recipes`]: "Recipes", with refusals 14 to 17;
 //! * [`join`]: "Joining two notes" and the join;
@@ -15,6 +16,7 @@
 
 pub mod calls;
 pub mod direct;
+pub mod form;
 pub mod index;
 pub mod join;
 pub mod keywords;
@@ -23,7 +25,7 @@ pub mod recipes;
 pub mod records;
 pub mod store;
 
-/// The number of a refusal, 1 to 19.
+/// The number of a refusal, 1 to 20.
 pub type Code = u8;
 
 /// A fingerprint: 20 opaque bytes.
@@ -34,9 +36,6 @@ pub const U32: u64 = 4_294_967_295;
 
 /// Chunks that a store or an index may have.
 pub const MOST_CHUNKS: u64 = 65_000;
-
-/// The longest chunk.
-pub const LONGEST_CHUNK: u64 = 65_535;
 
 /// The 4 bytes at `at`, least significant first. The caller has tested that they are there.
 pub(crate) fn number(bytes: &[u8], at: usize) -> u64 {

@@ -70,6 +70,7 @@ pub fn encode(files: &[Vec<Fingerprint>]) -> Vec<u8> {
 #[cfg(test)]
 mod tests {
     use super::*;
+    use crate::form::{FORM1, FORM2};
     use crate::{index, keywords::list_of};
 
     fn code(recipes: &[u8]) -> Code {
@@ -97,8 +98,12 @@ mod tests {
 
     /// Two chunks of the longest length and one byte, and a keyword of three bytes.
     fn long_and_short() -> Index {
-        index::read(&index::encode(&list_of(false, &[b"ABA"]), &[([1; 20], 65_535, b""), ([2; 20], 1, b""), ([3; 20], 2, b"")]))
-            .unwrap()
+        index::read(&index::encode(
+            &FORM1,
+            &list_of(false, &[b"ABA"]),
+            &[([1; 20], 65_535, b""), ([2; 20], 1, b""), ([3; 20], 2, b"")],
+        ))
+        .unwrap()
     }
 
     fn resolve_code(files: &[Vec<Fingerprint>]) -> Code {
@@ -113,6 +118,21 @@ mod tests {
         assert_eq!(resolve_code(&[file.clone()]), 16);
         file[3] = [2; 20];
         assert_eq!(resolve_code(&[file]), 17);
+    }
+
+    /// Request 105: 4,096 of the longest chunks are one byte too many.
+    #[test]
+    fn the_longest_file_of_the_longest_chunks() {
+        let entries = [([1; 20], 1_048_576, b""), ([2; 20], 1_048_575, b"")];
+        let index = index::read(&index::encode(&FORM2, &list_of(false, &[b"ABA"]), &entries)).unwrap();
+        let code = |file: Vec<Fingerprint>| resolve(&index, &[file]).err().unwrap_or(0);
+        let mut file = vec![[1; 20]; 4_095];
+        assert_eq!(code(file.clone()), 0);
+        file.push([2; 20]);
+        assert_eq!(code(file.clone()), 0);
+        file[0] = [2; 20];
+        assert_eq!(code(file.clone()), 0);
+        assert_eq!(code(vec![[1; 20]; 4_096]), 16);
     }
 
     #[test]

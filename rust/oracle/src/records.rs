@@ -1,5 +1,6 @@
 //! Document 01, "Notes on one chunk and one word" and the bodies of "Notes file".
 
+use crate::form::Form;
 use crate::keywords::{alike, Keywords};
 
 /// What is noted of one chunk and one keyword.
@@ -43,8 +44,8 @@ impl Record {
         !self.is_empty() && self.offsets.is_empty() && self.prefix <= 1 && self.suffix <= 1
     }
 
-    /// The bytes of keyword k's record: none if it is empty.
-    pub fn encode(&self, k: usize) -> Vec<u8> {
+    /// The bytes of keyword k's record in that form: none if it is empty.
+    pub fn encode(&self, form: &Form, k: usize) -> Vec<u8> {
         if self.is_empty() {
             return vec![];
         }
@@ -58,7 +59,7 @@ impl Record {
             _ => 3,
         };
         let mut bytes = vec![k as u8, kind, self.prefix as u8, self.suffix as u8, count.min(255) as u8];
-        let mut put = |number: usize| bytes.extend_from_slice(&(number as u16).to_le_bytes());
+        let mut put = |number: usize| bytes.extend_from_slice(&form.field(number));
         put(self.offsets.first().copied().unwrap_or(0));
         if kind == 3 {
             put(count);
@@ -71,16 +72,16 @@ impl Record {
 }
 
 /// A body: the records by rising keyword number.
-pub fn encode_body(records: &[Record]) -> Vec<u8> {
-    records.iter().enumerate().flat_map(|(k, record)| record.encode(k)).collect()
+pub fn encode_body(form: &Form, records: &[Record]) -> Vec<u8> {
+    records.iter().enumerate().flat_map(|(k, record)| record.encode(form, k)).collect()
 }
 
-/// The records that a good body says, one for each keyword; `None` if the body isn't good for a chunk of length `size`.
+/// The records that a good body of that form says, one for each keyword; `None` if it isn't good for a chunk of length `size`.
 ///
 /// It asks for every property of the written form by itself, and does not write the records again to compare.
-pub fn decode_body(keywords: &Keywords, size: usize, body: &[u8]) -> Option<Vec<Record>> {
+pub fn decode_body(form: &Form, keywords: &Keywords, size: usize, body: &[u8]) -> Option<Vec<Record>> {
     let mut records = vec![Record::default(); keywords.words.len()];
-    let mut reader = Reader { rest: body };
+    let mut reader = Reader { rest: body, width: form.width };
     let mut next = 0;
     while !reader.rest.is_empty() {
         let k = reader.byte()?;
@@ -105,12 +106,12 @@ fn decode_record(reader: &mut Reader, n: usize, size: usize) -> Option<Record> {
             Record { prefix: both % 2, suffix: both / 2, offsets: vec![] }
         }
         1..=3 => {
-            let (prefix, suffix, count, first) = (reader.byte()?, reader.byte()?, reader.byte()?, reader.two()?);
+            let (prefix, suffix, count, first) = (reader.byte()?, reader.byte()?, reader.byte()?, reader.field()?);
             let offsets = match (kind, count) {
                 (1, 0) if first == 0 && prefix.max(suffix) >= 2 => vec![],
                 (1, 1) => vec![first],
                 (2, 2..=254) => reader.offsets(count)?,
-                (3, 255) => match reader.two()? {
+                (3, 255) => match reader.field()? {
                     exact @ 255.. => reader.offsets(exact)?,
                     _ => return None,
                 },
@@ -137,6 +138,8 @@ pub fn in_range(record: &Record, n: usize, size: usize) -> bool {
 /// Reads from the front of some bytes; `None` where they are cut short.
 struct Reader<'a> {
     rest: &'a [u8],
+    /// Bytes of a field.
+    width: usize,
 }
 
 impl Reader<'_> {
@@ -146,18 +149,20 @@ impl Reader<'_> {
         Some(usize::from(*first))
     }
 
-    fn two(&mut self) -> Option<usize> {
-        Some(self.byte()? + 256 * self.byte()?)
+    /// An offset or an exact count, least significant byte first.
+    fn field(&mut self) -> Option<usize> {
+        (0..self.width).try_fold(0, |number, at| Some(number + (self.byte()? << (8 * at))))
     }
 
     fn offsets(&mut self, count: usize) -> Option<Vec<usize>> {
-        (0..count).map(|_| self.two()).collect()
+        (0..count).map(|_| self.field()).collect()
     }
 }
 
 #[cfg(test)]
 mod tests {
     use super::*;
+    use crate::form::{FORM1, FORM2};
     use crate::keywords::{list_of, read};
 
     fn words(list: &[&[u8]]) -> Keywords {
@@ -171,7 +176,7 @@ mod tests {
     #[test]
     fn the_small_vault() {
         let keywords = words(&[b"ABA", b"AA"]);
-        let body = |chunk: &[u8]| encode_body(&records_of(&keywords, chunk));
+        let body = |chunk: &[u8]| encode_body(&FORM1, &records_of(&keywords, chunk));
         assert_eq!(body(b"XAB"), [0, 1, 2, 0, 0, 0, 0]);
         assert_eq!(body(b"ABAX"), [0, 1, 0, 1, 1, 0, 0, 1, 0, 2]);
         assert_eq!(body(b"A"), [0, 0, 3, 1, 0, 3]);
@@ -204,21 +209,72 @@ mod tests {
         for (count, kind, byte, size) in
             [(1, 1, 1, 7), (2, 2, 2, 11), (254, 2, 254, 515), (255, 3, 255, 519), (256, 3, 255, 521), (65_535, 3, 255, 131_079)]
         {
-            let body = encode_body(&records_of(&words(&[b"A"]), &vec![b'A'; count]));
+            let body = encode_body(&FORM1, &records_of(&words(&[b"A"]), &vec![b'A'; count]));
             assert_eq!((body[1], body[4], body.len()), (kind, byte, size), "{count} finds");
-            assert_eq!(decode_body(&words(&[b"A"]), count, &body), Some(vec![record(0, 0, &(0..count).collect::<Vec<_>>())]));
+            assert_eq!(
+                decode_body(&FORM1, &words(&[b"A"]), count, &body),
+                Some(vec![record(0, 0, &(0..count).collect::<Vec<_>>())])
+            );
         }
+    }
+
+    /// Document 01's small vault in request 105's form.
+    #[test]
+    fn the_small_vault_in_the_second_form() {
+        let keywords = words(&[b"ABA", b"AA"]);
+        let bodies: [(&[u8], &[u8]); 3] =
+            [(b"XAB", &[0, 1, 2, 0, 0, 0, 0, 0]), (b"ABAX", &[0, 1, 0, 1, 1, 0, 0, 0, 1, 0, 2]), (b"A", &[0, 0, 3, 1, 0, 3])];
+        for (chunk, body) in bodies {
+            let records = records_of(&keywords, chunk);
+            assert_eq!(encode_body(&FORM2, &records), body);
+            assert_eq!(decode_body(&FORM2, &keywords, chunk.len(), body), Some(records));
+            assert!(chunk == b"A" || decode_body(&FORM1, &keywords, chunk.len(), body).is_none());
+        }
+    }
+
+    /// Each form writes and reads its own fields, and what it writes is nothing that the other reads where there is a field.
+    #[test]
+    fn kinds_by_count_in_both_forms() {
+        let one = words(&[b"A"]);
+        for count in [1, 2, 254, 255, 256, 257, 65_535] {
+            let records = records_of(&one, &vec![b'A'; count]);
+            for (form, other) in [(FORM1, FORM2), (FORM2, FORM1)] {
+                let body = encode_body(&form, &records);
+                let fields = match count {
+                    1 => 1,
+                    2..=254 => 1 + count,
+                    _ => 2 + count,
+                };
+                assert_eq!(body.len(), 5 + fields * form.width);
+                assert_eq!(decode_body(&form, &one, count, &body).as_ref(), Some(&records));
+                assert_eq!(decode_body(&other, &one, count, &body), None);
+                assert_eq!(decode_body(&form, &one, count, &body[..body.len() - 1]), None);
+            }
+        }
+    }
+
+    /// The most occurrences and the largest offsets of the second form.
+    #[test]
+    fn the_longest_chunk_of_the_second_form() {
+        let (one, size) = (words(&[b"A"]), FORM2.longest_chunk as usize);
+        let all = record(0, 0, &(0..size).collect::<Vec<_>>());
+        let body = all.encode(&FORM2, 0);
+        assert_eq!((body.len(), &body[..11]), (11 + 3 * size, &[0, 3, 0, 0, 255, 0, 0, 0, 0, 0, 0x10][..]));
+        assert_eq!(decode_body(&FORM2, &one, size, &body), Some(vec![all]));
+        assert_eq!(decode_body(&FORM2, &one, size - 1, &body), None);
+        let last = record(0, 0, &[65_535, 65_536, size - 1]);
+        assert_eq!(decode_body(&FORM2, &one, size, &last.encode(&FORM2, 0)), Some(vec![last]));
     }
 
     #[test]
     fn good_bodies_need_not_be_true() {
         let keywords = words(&[b"DEDUP"]);
         for records in [record(4, 4, &[]), record(0, 0, &[0, 1]), record(4, 4, &[3])] {
-            let body = records.encode(0);
-            assert_eq!(decode_body(&keywords, 8, &body), Some(vec![records]));
+            let body = records.encode(&FORM1, 0);
+            assert_eq!(decode_body(&FORM1, &keywords, 8, &body), Some(vec![records]));
         }
-        assert!(decode_body(&keywords, 4, &record(4, 4, &[]).encode(0)).is_some());
-        assert!(decode_body(&keywords, 3, &record(4, 4, &[]).encode(0)).is_none());
+        assert!(decode_body(&FORM1, &keywords, 4, &record(4, 4, &[]).encode(&FORM1, 0)).is_some());
+        assert!(decode_body(&FORM1, &keywords, 3, &record(4, 4, &[]).encode(&FORM1, 0)).is_none());
     }
 
     #[test]
@@ -251,7 +307,7 @@ mod tests {
             &[0, 0, 1, 9],                              // bytes after the last record
         ];
         for body in bad {
-            assert_eq!(decode_body(&keywords, 10, body), None, "{body:?}");
+            assert_eq!(decode_body(&FORM1, &keywords, 10, body), None, "{body:?}");
         }
         let good: &[&[u8]] = &[
             &[],
@@ -263,23 +319,23 @@ mod tests {
             &[0, 2, 0, 0, 2, 1, 0, 1, 0, 2, 0],
         ];
         for body in good {
-            let records = decode_body(&keywords, 10, body).unwrap();
-            assert_eq!(encode_body(&records), *body);
+            let records = decode_body(&FORM1, &keywords, 10, body).unwrap();
+            assert_eq!(encode_body(&FORM1, &records), *body);
         }
-        assert_eq!(decode_body(&keywords, 10, &[1, 1, 0, 0, 1, 10, 0]), None);
-        assert_eq!(decode_body(&keywords, 2, &[0, 1, 0, 0, 1, 0, 0]), None);
+        assert_eq!(decode_body(&FORM1, &keywords, 10, &[1, 1, 0, 0, 1, 10, 0]), None);
+        assert_eq!(decode_body(&FORM1, &keywords, 2, &[0, 1, 0, 0, 1, 0, 0]), None);
     }
 
     #[test]
     fn kind_3_is_exact() {
         let keywords = words(&[b"A"]);
-        let mut body = record(0, 0, &(0..255).collect::<Vec<_>>()).encode(0);
-        assert!(decode_body(&keywords, 255, &body).is_some());
-        assert!(decode_body(&keywords, 254, &body).is_none());
+        let mut body = record(0, 0, &(0..255).collect::<Vec<_>>()).encode(&FORM1, 0);
+        assert!(decode_body(&FORM1, &keywords, 255, &body).is_some());
+        assert!(decode_body(&FORM1, &keywords, 254, &body).is_none());
         body[4] = 254;
-        assert!(decode_body(&keywords, 255, &body).is_none());
+        assert!(decode_body(&FORM1, &keywords, 255, &body).is_none());
         body[4] = 255;
         body[1] = 2;
-        assert!(decode_body(&keywords, 255, &body).is_none());
+        assert!(decode_body(&FORM1, &keywords, 255, &body).is_none());
     }
 }

@@ -1,6 +1,7 @@
-//! Document 01, "Store": the store check (5 to 8), and a writer for tests.
+//! Document 01, "Store", with request 105: the store check (5 to 8, and 20), and a writer for tests.
 
-use crate::{fingerprint, number, twice, Code, Fingerprint, LONGEST_CHUNK, MOST_CHUNKS};
+use crate::form::NEWEST;
+use crate::{fingerprint, number, twice, Code, Fingerprint, MOST_CHUNKS, U32};
 use std::ops::Range;
 
 pub const MARK: [u8; 4] = [0x44, 0x56, 0x31, 0x0A];
@@ -27,10 +28,13 @@ pub fn read(store: &[u8]) -> Result<Vec<Chunk>, Code> {
     for k in 0..count as usize {
         let entry = 8 + 28 * k;
         let (offset, size) = (number(store, entry + 20), number(store, entry + 24));
-        if !(1..=LONGEST_CHUNK).contains(&size) || offset != end {
+        if !(1..=NEWEST.longest_chunk).contains(&size) || offset != end {
             return Err(7);
         }
         end += size;
+        if end > U32 {
+            return Err(20);
+        }
         chunks.push(Chunk { key: fingerprint(store, entry), place: offset as usize..end as usize });
     }
     if end != length {
@@ -100,9 +104,92 @@ mod tests {
             store[at] = wrong;
             assert_eq!(code(&store), 7, "byte {at}");
         }
-        assert_eq!(code(&encode(&[([1; 20], vec![0; 65_535])])), 0);
-        assert_eq!(code(&encode(&[([1; 20], vec![0; 65_536])])), 7);
+        let longest = NEWEST.longest_chunk as usize;
+        assert_eq!(code(&encode(&[([1; 20], vec![0; longest])])), 0);
+        assert_eq!(code(&encode(&[([1; 20], vec![0; longest + 1])])), 7);
         assert_eq!(code(&encode(&[([1; 20], b"")])), 7);
+        for length in [65_535, 65_536, 65_537, 131_072] {
+            assert_eq!(code(&encode(&[([1; 20], vec![0; length]), ([2; 20], vec![1])])), 0, "{length}");
+        }
+    }
+
+    /// A store of which only the directory is there, with chunks of these lengths.
+    fn directory(sizes: &[u64]) -> Vec<u8> {
+        let mut bytes = MARK.to_vec();
+        bytes.extend_from_slice(&(sizes.len() as u32).to_le_bytes());
+        let mut end = 8 + 28 * sizes.len() as u64;
+        for (k, size) in sizes.iter().enumerate() {
+            bytes.extend_from_slice(&(k as u32).to_le_bytes().repeat(5));
+            bytes.extend_from_slice(&(end as u32).to_le_bytes());
+            bytes.extend_from_slice(&(*size as u32).to_le_bytes());
+            end += size;
+        }
+        bytes
+    }
+
+    const LONGEST: u64 = 1_048_576;
+
+    /// 4,095 chunks of the longest length, and the last one's length with which it ends at U32.
+    const LAST: u64 = U32 - (8 + 28 * 4_096) - 4_095 * LONGEST;
+
+    /// The longest chunks and then these.
+    fn behind_the_longest(last: &[u64]) -> Vec<u8> {
+        directory(&[&[LONGEST; 4_095][..], last].concat())
+    }
+
+    #[test]
+    fn an_end_beyond_32_bits() {
+        assert_eq!(LAST, 933_879);
+        let beyond = behind_the_longest(&[LONGEST]);
+        assert_eq!((beyond.len(), code(&beyond)), (114_696, 20));
+        assert_eq!(code(&behind_the_longest(&[LAST + 1])), 20);
+        // An end at U32 is none beyond it; then the bytes are absent.
+        assert_eq!(code(&behind_the_longest(&[LAST])), 7);
+        assert_eq!(code(&directory(&[LONGEST; 4_095])), 7);
+        // It may be followed by an entry whose end is beyond.
+        assert_eq!(code(&behind_the_longest(&[LAST - 28, 1])), 20);
+        // Sums that wrapped would go on.
+        assert_eq!(code(&behind_the_longest(&[LONGEST; 900])), 20);
+    }
+
+    #[test]
+    fn the_order_of_20_and_7() {
+        let put = |store: &mut Vec<u8>, entry: usize, at: usize, number: u64| {
+            let from = 8 + 28 * entry + at;
+            store[from..from + 4].copy_from_slice(&(number as u32).to_le_bytes());
+        };
+        let with = |sizes: &[u64], entry: usize, at: usize, number: u64| {
+            let mut store = behind_the_longest(sizes);
+            put(&mut store, entry, at, number);
+            code(&store)
+        };
+        // The entry's own length and offset come first.
+        for size in [0, LONGEST + 1, U32] {
+            assert_eq!(with(&[LONGEST], 4_095, 24, size), 7, "{size}");
+        }
+        for offset in [0, 1, U32 - LONGEST, U32 - 1, U32] {
+            assert_eq!(with(&[LONGEST], 4_095, 20, offset), 7, "{offset}");
+        }
+        // An earlier entry's 7 comes first, the next one's doesn't.
+        assert_eq!(with(&[LONGEST], 4_094, 24, 0), 7);
+        assert_eq!(with(&[LONGEST], 4_094, 20, 0), 7);
+        assert_eq!(with(&[LONGEST, 0], 0, 0, 0), 20);
+        assert_eq!(with(&[LONGEST, LONGEST + 1], 0, 0, 0), 20);
+        assert_eq!(with(&[LONGEST, 1], 4_096, 20, 7), 20);
+        // An end at U32, and then a wrong entry.
+        assert_eq!(with(&[LAST - 28, 0], 0, 0, 0), 7);
+        assert_eq!(with(&[LAST - 28, 1], 4_096, 20, 0), 7);
+        // Before the last end's 7 (the bytes are absent in all of these) and before 8; 6 and 5 before it.
+        let mut twins = behind_the_longest(&[LONGEST]);
+        twins.copy_within(8..28, 36);
+        assert_eq!(code(&twins), 20);
+        put(&mut twins, 4_095, 24, LAST);
+        assert_eq!(code(&twins), 7);
+        let mut cut = behind_the_longest(&[LONGEST]);
+        cut.pop();
+        assert_eq!(code(&cut), 6);
+        cut[0] = 0;
+        assert_eq!(code(&cut), 5);
     }
 
     #[test]

@@ -1,4 +1,4 @@
-//! The refusals of document 01.
+//! The refusals of document 01, and of the requests of document 02.
 
 use std::fmt;
 
@@ -10,17 +10,17 @@ pub struct Error {
 }
 
 /// The refusals, by number from 1.
-const MEANINGS: [&str; 19] = [
+const MEANINGS: [&str; 20] = [
     "the keyword list is cut short, or has bytes left over",
     "the keyword list's count is not 1 to 16, or its fold flag is neither 0 nor 1",
     "a keyword's length is not 1 to 32",
     "two keywords compare alike",
     "not a store: fewer than 8 bytes, or another mark",
     "the store's chunk count is above 65,000, or its directory is cut short",
-    "a store entry has a length that is not 1 to 65,535 or a wrong offset, or the last chunk doesn't end where the store does",
+    "a store entry has a length that is not 1 to 1,048,576 or a wrong offset, or the last chunk doesn't end where the store does",
     "a fingerprint is in the store twice",
     "the index is longer than the buffer, or than 4,294,967,295 bytes",
-    "not an index: fewer than 8 bytes, another mark, or a chunk count above 65,000",
+    "not an index: fewer than 8 bytes, a mark that is neither DM1 nor DM2, or a chunk count above 65,000",
     "the index's directory is cut short, an entry has a wrong chunk length or offset, or the last body doesn't end where the file does",
     "a fingerprint is in the index twice",
     "a body of the index is not the written form of match records",
@@ -30,14 +30,15 @@ const MEANINGS: [&str; 19] = [
     "a chunk inside a file is shorter than the longest keyword less one byte, so that a keyword could cross it whole",
     "the list of occurrences is longer than the buffer",
     "a fingerprint is not 20 bytes",
+    "a store entry says that its chunk ends beyond 4,294,967,295 bytes, more than one store may have: part the backup into several stores",
 ];
 
 impl Error {
-    /// The refusal of that number; numbers outside 1 to 19 are not document 01's, and say so.
+    /// The refusal of that number; numbers outside 1 to 20 are not the papers', and say so.
     pub fn new(code: u8) -> Error {
         let meaning = match code {
-            1..=19 => MEANINGS[usize::from(code) - 1],
-            _ => "a number that document 01 doesn't name",
+            1..=20 => MEANINGS[usize::from(code) - 1],
+            _ => "a number that the papers don't name",
         };
         Error { code, meaning }
     }

@@ -11,6 +11,9 @@
 //! fold. An index that an earlier version, which folded 41 to 5A only, wrote with flag 1 has to be scanned anew: no call can tell or
 //! refuses it, and its join may lack occurrences.
 //!
+//! A chunk has 1 to 1,048,576 bytes. A scan writes an index of the newest form, with the mark `DM2`; one with the mark `DM1`, which an
+//! earlier version wrote, is read too ([`forms`]).
+//!
 //! Every function takes every input: what isn't a good file is refused with an [`Error`], and a refused call changes no
 //! buffer. What is proved is the library behind; this crate checks nothing again and only names things. Functions that make
 //! their own buffer give a [`Failure`]: a refusal, or memory that can't be had.
@@ -30,11 +33,13 @@
 
 mod error;
 mod ffi;
+pub mod forms;
 #[cfg(feature = "mock")]
 mod mock;
 pub mod raw;
 
 pub use error::{Error, Failure};
+use forms::{Form, NEWEST};
 
 /// A stack that is large enough for every call, in bytes.
 pub const STACK: usize = 64 << 20;
@@ -169,7 +174,7 @@ pub fn check_keywords(list: &[u8]) -> Result<(), Error> {
     done(raw::check_keywords(list))
 }
 
-/// Refusals 5 to 8.
+/// Refusals 5 to 8 and 20.
 pub fn check_store(store: &[u8]) -> Result<(), Error> {
     done(raw::check_store(store))
 }
@@ -179,30 +184,33 @@ pub fn check_index(index: &[u8]) -> Result<(), Error> {
     done(raw::check_index(index))
 }
 
-/// The length of the index that a scan writes. Refusals 1 to 8.
+/// The length of the index that a scan writes. Refusals 1 to 8 and 20.
 pub fn scan_size(list: &[u8], store: &[u8]) -> Result<u64, Error> {
     valued(|length| raw::scan_size(list, store, length))
 }
 
-/// A length that no index of a scan of these passes, from lengths and counts alone.
+/// A length that no index of a scan of these passes, from lengths and counts alone: 8 and the list's length, 32 for each chunk, and for
+/// each keyword 11 for each chunk and 3 for each byte of the store.
 ///
-/// Where it is at most [`LONGEST_INDEX`] and a buffer has it, [`scan_into`] walks each chunk once; else once to measure and,
-/// where a keyword occurs, once more to write. The answer is the same. What is behind the index is not touched, so the unused
-/// part of a large new buffer costs no memory.
+/// Where it is at most [`LONGEST_INDEX`] and a buffer has it, [`scan_into`] walks each chunk to write only; else once to measure
+/// and, where a keyword occurs, to write. Writing walks a chunk of at most 65,536 bytes once and a longer one twice. The answer is
+/// the same. What is behind the index is not touched, so the unused part of a large new buffer costs no memory.
 pub fn scan_bound(list: &[u8], store: &[u8]) -> u64 {
     let keywords = list.first().map_or(0, |count| u64::from(*count));
     let chunks = store.get(4..8).map_or(0, |b| u64::from(u32::from_le_bytes([b[0], b[1], b[2], b[3]])));
-    let of_keyword = (9 * chunks).saturating_add(2 * store.len() as u64);
+    // The head, the first offset, the exact count; an offset for each byte.
+    let width = NEWEST.width as u64;
+    let of_keyword = ((Form::HEAD as u64 + 2 * width) * chunks).saturating_add(width * store.len() as u64);
     (8 + list.len() as u64 + 32 * chunks).saturating_add(keywords.saturating_mul(of_keyword))
 }
 
-/// Writes the index to the buffer's front and gives its length and the moves; what follows stays as it was. Refusals 1 to 9.
+/// Writes the index to the buffer's front and gives its length and the moves; what follows stays as it was. Refusals 1 to 9 and 20.
 pub fn scan_into(list: &[u8], store: &[u8], out: &mut [u8]) -> Result<Written, Error> {
     let (mut length, mut moves) = (0, 0);
     done(raw::scan(list, store, out, (&mut length, &mut moves))).map(|()| Written { length: length as usize, moves })
 }
 
-/// The index and the moves. Refusals 1 to 8, and 9 where the index would be longer than [`LONGEST_INDEX`].
+/// The index and the moves. Refusals 1 to 8 and 20, and 9 where the index would be longer than [`LONGEST_INDEX`].
 ///
 /// Most indexes are far shorter than the store, so a sixteenth of the store's length is tried first, and only where that
 /// doesn't do is the length asked for.
@@ -299,8 +307,8 @@ pub fn search_into(list: &[u8], store: &[u8], recipes: &[u8], index: &mut [u8], 
     }
 }
 
-/// Every occurrence in the restored files, by a scan and a join of its index. Refusals 1 to 9 are the scan's, 14 to 17 the
-/// join's.
+/// Every occurrence in the restored files, by a scan and a join of its index. Refusals 1 to 9 and 20 are the scan's, 14 to 17
+/// the join's.
 pub fn search(list: &[u8], store: &[u8], recipes: &[u8]) -> Result<Vec<Occurrence>, Failure> {
     join(&scan(list, store)?.index, recipes)
 }
@@ -346,15 +354,15 @@ mod tests {
         with_stack(|| {
             let (list, store, recipes) = small();
             let Scan { index, moves } = scan(&list, &store).unwrap();
-            assert_eq!((index.len(), moves), (136, 10));
-            assert_eq!(index[113..], [0, 1, 2, 0, 0, 0, 0, 0, 1, 0, 1, 1, 0, 0, 1, 0, 2, 0, 0, 3, 1, 0, 3]);
+            assert_eq!((index.len(), moves, &index[..4]), (138, 10, &[0x44, 0x4D, 0x32, 0x0A][..]));
+            assert_eq!(index[113..], [0, 1, 2, 0, 0, 0, 0, 0, 0, 1, 0, 1, 1, 0, 0, 0, 1, 0, 2, 0, 0, 3, 1, 0, 3]);
             let found = |file, offset, keyword| Occurrence { file, offset, keyword };
             let want = vec![found(0, 1, 0), found(0, 3, 0), found(1, 0, 1)];
             assert_eq!(join(&index, &recipes), Ok(want.clone()));
             assert_eq!(search(&list, &store, &recipes), Ok(want));
             assert_eq!(count(&index, &recipes), Ok(3));
-            let (mut a, mut b) = ([7; 136], [7; 28]);
-            assert_eq!(search_into(&list, &store, &recipes, &mut a, &mut b), Ok(Searched { index_length: 136, count: 3 }));
+            let (mut a, mut b) = ([7; 138], [7; 28]);
+            assert_eq!(search_into(&list, &store, &recipes, &mut a, &mut b), Ok(Searched { index_length: 138, count: 3 }));
             assert_eq!((&a[..], b[27]), (&index[..], 7));
         });
     }
@@ -418,7 +426,7 @@ mod tests {
             assert_eq!(moves(true, &[b"\xDF\xDF"], &[b"\xDF\xFF"]), 3);
             // Two a byte but for the first 31, in chunks that are walked in one part and in four.
             let word = [&[b'a'; 31][..], b"b"].concat();
-            for length in [33, 255, 256, 257, 1023, 1024, 1025, 65_535] {
+            for length in [33, 255, 256, 257, 1023, 1024, 1025, 65_535, 65_536, 65_537, 131_073, 1_048_576] {
                 assert_eq!(moves(false, &[&word], &[&vec![b'a'; length]]), 2 * length as u64 - 31);
             }
         });
@@ -482,7 +490,7 @@ mod tests {
             let (list, store, _) = small();
             let bad = [&list[..], &[0]].concat();
             for (list, store, length, code) in
-                [(&list, &store[..], 135, 9), (&list, &store[1..], 5000, 5), (&bad, &store[..], 5000, 1)]
+                [(&list, &store[..], 137, 9), (&list, &store[1..], 5000, 5), (&bad, &store[..], 5000, 1)]
             {
                 let (mut told, mut moves) = (1 << 40, 1 << 41);
                 assert_eq!(raw::scan(list, store, &mut vec![7; length], (&mut told, &mut moves)), code);
@@ -494,8 +502,90 @@ mod tests {
     #[test]
     fn the_bound_of_a_scan() {
         let (list, store, _) = small();
-        assert_eq!(scan_bound(&list, &store), 8 + 9 + 32 * 3 + 2 * (9 * 3 + 2 * 100));
+        assert_eq!(scan_bound(&list, &store), 8 + 9 + 32 * 3 + 2 * (11 * 3 + 3 * 100));
         assert_eq!(scan_bound(&[], &[]), 8);
+    }
+
+    /// Document 01's bodies under the old mark, and request 105's under the new one: the same list.
+    #[test]
+    fn an_index_under_the_old_mark() {
+        with_stack(|| {
+            let (list, store, recipes) = small();
+            let mut old = [&b"DM1\n\x03\0\0\0"[..], &list].concat();
+            for (key, size, offset, length) in [(1, 3, 113, 7), (2, 4, 120, 10), (3, 1, 130, 6)] {
+                old.extend([&[key; 20][..], &[size, 0, 0, 0, offset, 0, 0, 0, length, 0, 0, 0]].concat());
+            }
+            old.extend([0, 1, 2, 0, 0, 0, 0, 0, 1, 0, 1, 1, 0, 0, 1, 0, 2, 0, 0, 3, 1, 0, 3]);
+            assert_eq!((old.len(), check_index(&old)), (136, Ok(())));
+            let new = scan(&list, &store).unwrap().index;
+            assert_eq!(join(&old, &recipes), join(&new, &recipes));
+            assert_eq!(count(&old, &recipes), Ok(3));
+            assert_eq!(find_body(&old, &[2; 20]), Ok(&old[120..130]));
+            assert_eq!((Form::of(&old), Form::of(&new)), (forms::FORMS[0], NEWEST));
+            // Each mark has its longest chunk.
+            old[17 + 22] = 1;
+            assert_eq!(check_index(&old).unwrap_err().code, 11);
+        });
+    }
+
+    /// Every chunk length at which the library's windows of 65,536 bytes begin and end, and the longest: with the keyword at each border.
+    #[test]
+    fn chunks_of_several_windows() {
+        with_stack(|| {
+            let list = keyword_list(false, &[b"aab", b"a"]).unwrap();
+            for length in [65_535, 65_536, 65_537, 131_071, 131_072, 131_073, 1_048_575, 1_048_576] {
+                let mut chunk = vec![b'.'; length];
+                let ends = (1..=length / 65_536).map(|k| 65_536 * k).filter(|end| end + 2 <= length).chain([3, length]);
+                let mut ends: Vec<usize> = ends.flat_map(|end| [end, end + 1, end + 2]).filter(|end| *end <= length).collect();
+                ends.sort();
+                ends.iter().for_each(|end| chunk[end - 3..*end].copy_from_slice(b"aab"));
+                let want: Vec<u32> = (0..length - 2).filter(|at| chunk[*at..].starts_with(b"aab")).map(|at| at as u32).collect();
+                let recipes = [&[1, 0, 0, 0, 1, 0, 0, 0][..], &[0; 20]].concat();
+                let found = search(&list, &store_of(&[&chunk]), &recipes).unwrap();
+                let of = |word: u8| found.iter().filter(move |o| o.keyword == word).map(|o| o.offset);
+                assert_eq!(of(0).collect::<Vec<_>>(), want, "{length}");
+                assert_eq!(of(1).count(), chunk.iter().filter(|b| **b == b'a').count());
+            }
+            assert_eq!(check_store(&store_of(&[&vec![0; 1_048_577]])).unwrap_err().code, 7);
+        });
+    }
+
+    /// As many occurrences as a chunk can have: the exact count takes 3 bytes.
+    #[test]
+    fn an_occurrence_at_each_byte_of_the_longest_chunk() {
+        with_stack(|| {
+            for length in [65_535, 65_536, 1_048_576] {
+                let (list, store) = (keyword_list(false, &[b"A"]).unwrap(), store_of(&[&vec![b'A'; length]]));
+                let index = scan(&list, &store).unwrap().index;
+                let body = find_body(&index, &[0; 20]).unwrap();
+                assert_eq!(body[..5], [0, 3, 0, 0, 255]);
+                assert_eq!((body.len(), NEWEST.field_at(body, 8)), (11 + 3 * length, length));
+                let recipes = [&[1, 0, 0, 0, 2, 0, 0, 0][..], &[0; 40]].concat();
+                assert_eq!(count(&index, &recipes), Ok(2 * length as u64));
+                assert_eq!(scan_into(&list, &store, &mut vec![0; index.len() - 1]).unwrap_err().code, 9);
+            }
+        });
+    }
+
+    /// 4,096 chunks of the longest length end beyond 32 bits.
+    #[test]
+    fn a_store_that_ends_beyond_32_bits() {
+        with_stack(|| {
+            let directory = |last: u32| {
+                let mut store = [&b"DV1\n"[..], &4_096u32.to_le_bytes()].concat();
+                for k in 0..4_096u32 {
+                    let offset = 114_696 + 1_048_576 * u64::from(k);
+                    let size = if k < 4_095 { 1_048_576 } else { last };
+                    store.extend([&k.to_le_bytes().repeat(5)[..], &(offset as u32).to_le_bytes(), &size.to_le_bytes()].concat());
+                }
+                store
+            };
+            let code = |last: u32| check_store(&directory(last)).unwrap_err().code;
+            assert_eq!((code(1_048_576), code(933_880), code(933_879), code(1_048_577)), (20, 20, 7, 7));
+            let (list, _, recipes) = small();
+            assert_eq!(search(&list, &directory(933_880), &recipes), Err(Error::new(20).into()));
+            assert_eq!(find_chunk(&directory(933_880), &[1; 20]).unwrap_err().code, 20);
+        });
     }
 
     #[test]
@@ -506,7 +596,7 @@ mod tests {
             let chunk = find_chunk(&store, &[2; 20]).unwrap();
             assert_eq!((chunk, chunk.as_ptr()), (&b"ABAX"[..], store[95..].as_ptr()));
             let body = find_body(&index, &[3; 20]).unwrap();
-            assert_eq!((body, body.as_ptr()), (&index[130..], index[130..].as_ptr()));
+            assert_eq!((body, body.as_ptr()), (&index[132..], index[132..].as_ptr()));
             assert_eq!(find_chunk(&store, &[4; 20]).unwrap_err().code, 15);
             assert_eq!(find_body(&index, &[4; 3]).unwrap_err().code, 19);
         });
@@ -520,14 +610,14 @@ mod tests {
             assert_eq!(keyword_list(true, &[b"Ab", b"aB"]).unwrap_err().code, 4);
             assert_eq!(keyword_list(true, &[&[b'a'; 300]]).unwrap_err().code, 3);
             assert_eq!(check_store(&store[1..]).unwrap_err().code, 5);
-            assert_eq!(check_index(&index[..135]).unwrap_err().code, 11);
-            let mut short = [7; 135];
+            assert_eq!(check_index(&index[..137]).unwrap_err().code, 11);
+            let mut short = [7; 137];
             assert_eq!(scan_into(&list, &store, &mut short).unwrap_err().code, 9);
-            assert_eq!(short, [7; 135]);
+            assert_eq!(short, [7; 137]);
             assert_eq!(count(&index, &recipes[1..]).unwrap_err().code, 14);
             let mut index_buffer = [7; 140];
             let refused = search_into(&list, &store, &recipes, &mut index_buffer, &mut [0; 26]);
-            assert_eq!(refused, Err(SearchError::Join { index_length: 136, error: Error::new(18) }));
+            assert_eq!(refused, Err(SearchError::Join { index_length: 138, error: Error::new(18) }));
             assert_eq!(refused.unwrap_err().to_string(), "join: refused 18: the list of occurrences is longer than the buffer");
             let refused = search_into(&list, &store[..8], &recipes, &mut index_buffer, &mut []);
             assert_eq!(refused, Err(SearchError::Scan(Error::new(6))));
@@ -566,11 +656,29 @@ mod tests {
         assert_eq!(names, declared(include_str!("ffi.rs"), "fn vault_"));
     }
 
+    /// A number as people write it.
+    fn thousands(number: usize) -> String {
+        match number {
+            0..=999 => number.to_string(),
+            _ => format!("{},{:03}", thousands(number / 1000), number % 1000),
+        }
+    }
+
+    #[test]
+    fn the_limits_that_sentences_name() {
+        for code in [6, 10] {
+            assert!(Error::new(code).meaning.contains(&format!("above {}", thousands(forms::MOST_CHUNKS))));
+        }
+        assert!(Error::new(7).meaning.contains(&format!("not 1 to {} ", thousands(forms::LONGEST_CHUNK))));
+        assert!(Error::new(20).meaning.contains(&format!("beyond {} bytes", thousands(forms::LONGEST_STORE as usize))));
+        forms::FORMS.iter().for_each(|form| assert!(Error::new(10).meaning.contains(&form.name())));
+    }
+
     #[test]
     fn every_refusal_has_its_sentence() {
-        for code in 1..=19 {
-            assert!(!Error::new(code).meaning.contains("doesn't name"));
+        for code in 1..=20 {
+            assert!(!Error::new(code).meaning.contains("don't name"));
         }
-        assert!(Error::new(20).meaning.contains("doesn't name"));
+        assert!(Error::new(21).meaning.contains("don't name"));
     }
 }

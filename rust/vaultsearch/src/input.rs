@@ -31,10 +31,10 @@ pub const LIST: Kind = Kind { what: "a text list of keywords", most: 1 << 20, de
 /// 65,535 paths of 4,096 bytes, all escaped.
 pub const NAMES: Kind = Kind { what: "a list of file names", most: 1 << 30, decided: |_| false };
 
-/// A header of 8 bytes, 65,000 entries of 28 bytes, 65,000 chunks of 65,535 bytes.
+/// The last end that a store may have. A longer file is not read, though its directory alone would tell 7 or 20.
 pub const STORE: Kind = Kind {
     what: "a store",
-    most: 8 + 65_000 * (28 + 65_535),
+    most: vault::forms::LONGEST_STORE,
     decided: |first| vault::check_store(first).is_err_and(|error| error.code == 5),
 };
 

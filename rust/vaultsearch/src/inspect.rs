@@ -5,6 +5,7 @@ use crate::failure::Failure;
 use crate::input;
 use crate::{output, text};
 use std::path::Path;
+use vault::forms::{Form, NEWEST};
 
 /// What a check prints, and the first refusal.
 #[derive(Default)]
@@ -72,7 +73,7 @@ impl Session<'_> {
     fn check_index(&self, path: &Path, report: &mut Report) -> Done {
         let index = self.read(path, &input::INDEX)?;
         let verdict = self.progress.step("checking the index", 0, || vault::check_index(&index));
-        report.tell(text::path(path), verdict.map(|()| format!("{} chunks", count_at(&index, 4))));
+        report.tell(text::path(path), verdict.map(|()| format!("{} chunks, {}", count_at(&index, 4), mark_of(&index))));
         if self.arguments.entries && verdict.is_ok() {
             report.text.push_str(&entries(&index, 8 + list_length(&index), 32, 24, 28));
         }
@@ -107,7 +108,8 @@ impl Session<'_> {
                 let body = vault::find_body(&index, &key).map_err(refused(text::path(path)))?;
                 let start = body.as_ptr() as usize - index.as_ptr() as usize;
                 let keywords = vault::keywords_of(vault::keywords_in_index(&index));
-                self.found(body, &format!("body of {} bytes at {start}\n{}", body.len(), explained(body, &keywords)))
+                let said = explained(&Form::of(&index), body, &keywords);
+                self.found(body, &format!("body of {} bytes at {start}, {}\n{said}", body.len(), mark_of(&index)))
             }
             _ => Err(Failure::Usage("lookup wants one of --store FILE and --index FILE".into())),
         }
@@ -119,6 +121,15 @@ impl Session<'_> {
             Some(path) => output::write(Some(path), |out| out.write_all(bytes)),
             None => output::standard(|out| out.write_all(text.as_bytes())),
         }
+    }
+}
+
+/// What a good index's mark says of it.
+fn mark_of(index: &[u8]) -> String {
+    let form = Form::of(index);
+    match form == NEWEST {
+        true => format!("mark {}", form.name()),
+        false => format!("mark {} (older; a scan writes {})", form.name(), NEWEST.name()),
     }
 }
 
@@ -149,10 +160,10 @@ fn from_hex(text: &str) -> Option<Vec<u8>> {
     Some(digits.chunks(2).map(|two| 16 * two[0] + two[1]).collect())
 }
 
-/// What a good body says, a line for each keyword that it has a record of.
-fn explained(body: &[u8], keywords: &[&[u8]]) -> String {
+/// What a good body of that form says, a line for each keyword that it has a record of.
+fn explained(form: &Form, body: &[u8], keywords: &[&[u8]]) -> String {
     let mut text = String::new();
-    let two = |at: usize| usize::from(body[at]) + 256 * usize::from(body[at + 1]);
+    let width = form.width;
     let mut at = 0;
     while at < body.len() {
         let (k, kind) = (usize::from(body[at]), body[at + 1]);
@@ -160,13 +171,14 @@ fn explained(body: &[u8], keywords: &[&[u8]]) -> String {
             0 => (body[at + 2] % 2, body[at + 2] / 2),
             _ => (body[at + 2], body[at + 3]),
         };
+        let head = at + Form::HEAD;
         let (first, count) = match kind {
             0 => (at + 3, 0),
-            1 => (at + 5, usize::from(body[at + 4])),
-            2 => (at + 7, usize::from(body[at + 4])),
-            _ => (at + 9, two(at + 7)),
+            1 => (head, usize::from(body[at + 4])),
+            2 => (head + width, usize::from(body[at + 4])),
+            _ => (head + 2 * width, form.field_at(body, head + width)),
         };
-        let shown: Vec<String> = (0..count.min(20)).map(|o| two(first + 2 * o).to_string()).collect();
+        let shown: Vec<String> = (0..count.min(20)).map(|o| form.field_at(body, first + width * o).to_string()).collect();
         let more = if count > 20 { " .." } else { "" };
         let word = keywords.get(k).map_or(String::new(), |word| text::ascii(word));
         text.push_str(&format!(
@@ -175,8 +187,8 @@ fn explained(body: &[u8], keywords: &[&[u8]]) -> String {
         ));
         at = match kind {
             0 => at + 3,
-            1 => at + 7,
-            _ => first + 2 * count,
+            1 => head + width,
+            _ => first + width * count,
         };
     }
     if text.is_empty() {

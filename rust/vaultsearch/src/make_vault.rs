@@ -17,6 +17,7 @@ use crate::{identity, input, text};
 use std::collections::HashMap;
 use std::io::{self, Write};
 use std::path::{Path, PathBuf};
+use vault::forms::{LONGEST_CHUNK, LONGEST_STORE, MOST_CHUNKS};
 
 type Fingerprint = [u8; 20];
 
@@ -26,14 +27,17 @@ pub enum Cut {
     Content(usize),
 }
 
+/// The largest size of cuts by content, whose chunks have up to four times as many bytes.
+const LARGEST_CONTENT: usize = LONGEST_CHUNK.div_ceil(4);
+
 /// How a vault is cut; refuses sizes that the formats don't take.
 pub fn cut_of(name: Option<&str>, size: Option<usize>) -> Result<Cut, Failure> {
     let size = size.unwrap_or(8192);
     match name.unwrap_or("content") {
-        "fixed" if (64..=65_535).contains(&size) => Ok(Cut::Fixed(size)),
-        "content" if (64..=16_384).contains(&size) => Ok(Cut::Content(size)),
-        "fixed" => Err(Failure::Usage("--size is 64 to 65535 with --cut fixed".into())),
-        "content" => Err(Failure::Usage("--size is 64 to 16384 with --cut content".into())),
+        "fixed" if (64..=LONGEST_CHUNK).contains(&size) => Ok(Cut::Fixed(size)),
+        "content" if (64..=LARGEST_CONTENT).contains(&size) => Ok(Cut::Content(size)),
+        "fixed" => Err(Failure::Usage(format!("--size is 64 to {LONGEST_CHUNK} with --cut fixed"))),
+        "content" => Err(Failure::Usage(format!("--size is 64 to {LARGEST_CONTENT} with --cut content"))),
         other => Err(Failure::Usage(format!("--cut is content or fixed, not {other}"))),
     }
 }
@@ -65,7 +69,7 @@ fn chunks<'a>(data: &'a [u8], cut: Cut, gear: &'a [u64; 256]) -> impl Iterator<I
 
 /// The length of the first chunk of `rest`.
 fn content_length(rest: &[u8], size: usize, gear: &[u64; 256]) -> usize {
-    let (least, most) = ((size / 4).max(31), (4 * size).min(65_535));
+    let (least, most) = ((size / 4).max(31), (4 * size).min(LONGEST_CHUNK));
     let bits = usize::BITS - (size - least).leading_zeros() - 1;
     let mut hash = 0u64;
     for (at, b) in rest.iter().enumerate().take(most) {
@@ -120,8 +124,14 @@ impl Builder {
             let last = u32::from_le_bytes([key[16], key[17], key[18], key[19]]).wrapping_add(1);
             key[16..].copy_from_slice(&last.to_le_bytes());
         }
-        if self.chunks.len() == 65_000 {
+        if self.chunks.len() == MOST_CHUNKS {
             return Err(Failure::File("more than 65,000 chunks: give a larger --size, or fewer files".into()));
+        }
+        let end = 8 + 28 * (self.chunks.len() as u64 + 1) + self.stored + chunk.len() as u64;
+        if end > LONGEST_STORE {
+            return Err(Failure::File(
+                "a store of more than 4,294,967,295 bytes: make several vaults of fewer files each".into(),
+            ));
         }
         let none = |_| Failure::memory("the vault", self.stored + chunk.len() as u64);
         let mut copy = Vec::new();
@@ -251,17 +261,45 @@ mod tests {
 
     #[test]
     fn cuts_cover_the_file_and_keep_their_lengths() {
-        let data = text(300_000);
-        for cut in [Cut::Fixed(64), Cut::Fixed(65_535), Cut::Content(64), Cut::Content(8192), Cut::Content(16_384)] {
+        let data = text(3_000_000);
+        for cut in
+            [Cut::Fixed(64), Cut::Fixed(LONGEST_CHUNK), Cut::Content(64), Cut::Content(8192), Cut::Content(LARGEST_CONTENT)]
+        {
             let gear = gear();
             let chunks: Vec<&[u8]> = chunks(&data, cut, &gear).collect();
             assert!(chunks.concat() == data);
             for (k, chunk) in chunks.iter().enumerate() {
-                assert!((1..=65_535).contains(&chunk.len()));
+                assert!((1..=LONGEST_CHUNK).contains(&chunk.len()));
                 assert!(chunk.len() >= 31 || k + 1 == chunks.len());
             }
         }
         assert_eq!(chunks(&[], Cut::Content(64), &gear()).count(), 0);
+    }
+
+    /// Content that never says so is cut at the longest chunk.
+    #[test]
+    fn the_longest_chunks() {
+        let (data, gear) = (vec![b'A'; 2 * LONGEST_CHUNK + 100], gear());
+        for cut in [Cut::Fixed(LONGEST_CHUNK), Cut::Content(LARGEST_CONTENT)] {
+            let lengths: Vec<usize> = chunks(&data, cut, &gear).map(<[u8]>::len).collect();
+            assert_eq!(lengths, [1_048_576, 1_048_576, 100]);
+        }
+        let size = |name: &str, size: usize| cut_of(Some(name), Some(size)).is_ok();
+        assert!(size("fixed", 1_048_576) && !size("fixed", 1_048_577) && size("content", 262_144) && !size("content", 262_145));
+    }
+
+    /// A store ends within 32 bits: the entry of the next chunk counts too.
+    #[test]
+    fn the_longest_store() {
+        for (room, fits) in [(28 + 100, true), (28 + 99, false), (0, false)] {
+            let mut builder = Builder { stored: LONGEST_STORE - 8 - room, ..Builder::default() };
+            let added = builder.add_file(&[b'A'; 100], Cut::Fixed(100), &gear());
+            match added {
+                Ok(()) => assert!(fits),
+                Err(Failure::File(why)) => assert!(!fits && why.contains("make several vaults"), "{why}"),
+                Err(_) => panic!("another failure"),
+            }
+        }
     }
 
     #[test]

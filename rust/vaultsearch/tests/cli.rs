@@ -102,21 +102,143 @@ fn the_help_says_what_folds() {
 }
 
 #[test]
+fn the_help_names_the_limits() {
+    let (_, help, _) = Folder::new("limits-told").run("--help");
+    let thousands = |number: u64| {
+        let digits = number.to_string();
+        let parts: Vec<&str> = digits.as_bytes().rchunks(3).rev().map(|part| std::str::from_utf8(part).unwrap()).collect();
+        parts.join(",")
+    };
+    let (chunk, chunks) = (vault::forms::LONGEST_CHUNK, vault::forms::MOST_CHUNKS);
+    for said in [
+        format!("{} chunks of 1 to {} bytes in a store", thousands(chunks as u64), thousands(chunk as u64)),
+        format!("{} of store", thousands(vault::forms::LONGEST_STORE)),
+        format!("64 to {}\n      (fixed: to {chunk})", chunk.div_ceil(4)),
+    ] {
+        assert!(help.contains(&said), "{said}");
+    }
+}
+
+#[test]
 fn an_index_is_kept_and_joined() {
     let folder = Folder::new("index");
-    folder.prints("scan store.bin --words words.bin -o index.bin", "index.bin: 136 bytes for a store of 100 bytes, 10 moves\n");
-    assert_eq!(folder.read("index.bin")[113..120], [0, 1, 2, 0, 0, 0, 0]);
+    folder.prints("scan store.bin --words words.bin -o index.bin", "index.bin: 138 bytes for a store of 100 bytes, 10 moves\n");
+    assert_eq!(folder.read("index.bin")[..4], *b"DM2\n");
+    assert_eq!(folder.read("index.bin")[113..121], [0, 1, 2, 0, 0, 0, 0, 0]);
     folder.prints("join index.bin recipes.bin --format plain", "finds 3\n0 1 0\n0 3 0\n1 0 1\n");
-    let good = "store.bin: good, 3 chunks\nindex.bin: good, 3 chunks\nrecipes.bin: good, 3 files, 3 occurrences\n";
+    let good = "store.bin: good, 3 chunks\nindex.bin: good, 3 chunks, mark DM2\nrecipes.bin: good, 3 files, 3 occurrences\n";
     folder.prints("check --store store.bin --index index.bin --recipes recipes.bin", good);
     let key = "02".repeat(20);
     folder.prints(&format!("lookup --store store.bin {key}"), "chunk of 4 bytes at 95\nABAX\n");
     folder.prints(&format!("lookup --store store.bin {key} -o chunk"), "");
     assert_eq!(folder.read("chunk"), b"ABAX");
-    let explained = "body of 10 bytes at 120\nkeyword 0 (ABA): prefix 0, suffix 1, 1 inside: 0\nkeyword 1 (AA): prefix 0, suffix 1, 0 inside: \n";
-    folder.prints(&format!("lookup --index index.bin {key}"), explained);
+    let explained = "keyword 0 (ABA): prefix 0, suffix 1, 1 inside: 0\nkeyword 1 (AA): prefix 0, suffix 1, 0 inside: \n";
+    let body = format!("body of 11 bytes at 121, mark DM2\n{explained}");
+    folder.prints(&format!("lookup --index index.bin {key}"), &body);
     folder.refuses(&format!("lookup --store store.bin {}", "04".repeat(20)), 15, "not there");
     folder.refuses("lookup --index index.bin 0102", 19, "20 bytes");
+}
+
+/// Document 01's index, which an earlier version wrote.
+fn old_index() -> Vec<u8> {
+    let mut index = [&b"DM1\n\x03\0\0\0"[..], &[2, 0, 3, 0x41, 0x42, 0x41, 2, 0x41, 0x41]].concat();
+    for (key, size, offset, length) in [(1, 3, 113, 7), (2, 4, 120, 10), (3, 1, 130, 6)] {
+        index.extend([&[key; 20][..], &[size, 0, 0, 0, offset, 0, 0, 0, length, 0, 0, 0]].concat());
+    }
+    index.extend([0, 1, 2, 0, 0, 0, 0, 0, 1, 0, 1, 1, 0, 0, 1, 0, 2, 0, 0, 3, 1, 0, 3]);
+    index
+}
+
+#[test]
+fn an_index_under_the_old_mark() {
+    let folder = Folder::new("old-mark");
+    folder.write("old.bin", &old_index());
+    folder.prints("join old.bin recipes.bin --format plain", "finds 3\n0 1 0\n0 3 0\n1 0 1\n");
+    folder.prints("join old.bin recipes.bin --count", "3\n");
+    let good = "old.bin: good, 3 chunks, mark DM1 (older; a scan writes DM2)\nrecipes.bin: good, 3 files, 3 occurrences\n";
+    folder.prints("check --index old.bin --recipes recipes.bin", good);
+    let (_, entries, _) = folder.run("check --index old.bin --entries");
+    assert!(entries.ends_with(&format!("{}\t130\t6\n", "03".repeat(20))), "{entries}");
+    let body = "body of 10 bytes at 120, mark DM1 (older; a scan writes DM2)\nkeyword 0 (ABA): prefix 0, suffix 1, 1 inside: 0\nkeyword 1 (AA): prefix 0, suffix 1, 0 inside: \n";
+    folder.prints(&format!("lookup --index old.bin {}", "02".repeat(20)), body);
+    // Its chunks have at most 65,535 bytes, those of the newest mark 1,048,576; the bodies of one are not good under the other.
+    for (mark, size, code) in [
+        (b"DM1\n", 65_535u32, 0),
+        (b"DM1\n", 65_536, 11),
+        (b"DM2\n", 65_536, 0),
+        (b"DM2\n", 1_048_576, 0),
+        (b"DM2\n", 1_048_577, 11),
+        (b"DM3\n", 1, 10),
+    ] {
+        let entry = [&[1; 20][..], &size.to_le_bytes(), &[44, 0, 0, 0, 0, 0, 0, 0]].concat();
+        folder.write("long.bin", &[&mark[..], &[1, 0, 0, 0, 1, 0, 1, 0x41], &entry].concat());
+        let (status, out, err) = folder.run("check --index long.bin");
+        assert_eq!(status, code, "{out}{err}");
+    }
+    folder.write("old.bin", &[b"DM2\n", &old_index()[4..]].concat());
+    folder.refuses("join old.bin recipes.bin", 13, "written form");
+}
+
+/// A chunk of 1,048,576 bytes, from plain files to the list, by both cuts: also with an occurrence at each byte.
+#[test]
+fn the_longest_chunk_end_to_end() {
+    let folder = Folder::new("longest");
+    let mut data = vec![b'.'; 2 * 1_048_576 + 7];
+    let at = [0, 65_533, 65_536, 131_069, 1_048_569, 1_048_574, 2_097_148, 2_097_153];
+    at.iter().for_each(|at| data[*at..*at + 5].copy_from_slice(b"video"));
+    // 65,533 to 65,538 crosses the first window, and the one behind it is cut by it.
+    let want: Vec<usize> = at.into_iter().filter(|at| data[*at..].starts_with(b"video")).collect();
+    assert!(want.len() >= 6);
+    folder.write("film", &data);
+    let rows: String = want.iter().map(|at| format!("0 {at} 0\n")).collect();
+    for cut in ["fixed --size 1048576", "content --size 262144"] {
+        let (status, out, err) = folder.run(&format!("make-vault -o v --cut {cut} film"));
+        assert_eq!(status, 0, "{err}");
+        assert!(!cut.starts_with("fixed") || out.contains("in 3 chunks of "), "{out}");
+        folder.prints("search v/store.bin v/recipes.bin --word video --format plain", &format!("finds {}\n{rows}", want.len()));
+    }
+    folder.write("film", &[b'A'; 1_048_576]);
+    assert_eq!(folder.run("make-vault -o v --cut fixed --size 1048576 film").0, 0);
+    let (status, out, err) = folder.run("scan v/store.bin --word A -o index.bin");
+    assert!(status == 0 && out.ends_with(", 2097151 moves\n"), "{out}{err}");
+    assert_eq!(folder.read("index.bin").len(), 8 + 4 + 32 + 11 + 3 * 1_048_576);
+    folder.prints("join index.bin v/recipes.bin --count", "1048576\n");
+    let (status, out, _) = folder.run("join index.bin v/recipes.bin --format plain");
+    assert!(status == 0 && out.starts_with("finds 1048576\n0 0 0\n") && out.ends_with("\n0 1048575 0\n"));
+    // One byte more is no chunk, and no size.
+    let long = [&b"DV1\n\x01\0\0\0"[..], &[7; 20], &[36, 0, 0, 0, 1, 0, 0x10, 0], &[b'A'; 1_048_577]].concat();
+    folder.write("long.bin", &long);
+    folder.refuses("check --store long.bin", 7, "not 1 to 1,048,576");
+    assert_eq!(folder.run("make-vault -o v --cut fixed --size 1048577 film").0, 64);
+    assert_eq!(folder.run("make-vault -o v --cut content --size 262145 film").0, 64);
+}
+
+/// A store of 4,096 of the longest chunks: only its directory is there.
+#[test]
+fn a_store_that_ends_beyond_32_bits() {
+    let folder = Folder::new("beyond");
+    let directory = |last: u32| {
+        let mut store = [&b"DV1\n"[..], &4_096u32.to_le_bytes()].concat();
+        for k in 0..4_096u32 {
+            let (offset, size) = (114_696 + 1_048_576 * u64::from(k), if k < 4_095 { 1_048_576 } else { last });
+            store.extend([&k.to_le_bytes().repeat(5)[..], &(offset as u32).to_le_bytes(), &size.to_le_bytes()].concat());
+        }
+        store
+    };
+    folder.write("beyond.bin", &directory(933_880));
+    let meaning = "beyond 4,294,967,295 bytes, more than one store may have: part the backup into several stores";
+    folder.refuses("check --store beyond.bin", 20, meaning);
+    folder.refuses("search beyond.bin recipes.bin --words words.bin", 20, meaning);
+    folder.refuses("scan beyond.bin --words words.bin -o index.bin", 20, meaning);
+    folder.refuses(&format!("lookup --store beyond.bin {}", "01".repeat(20)), 20, meaning);
+    let (_, _, err) = folder.run("search beyond.bin recipes.bin --words words.bin");
+    assert!(err.contains("beyond.bin: refused 20: "), "it names the store: {err}");
+    assert!(!folder.0.join("index.bin").exists());
+    // An end at 4,294,967,295 isn't beyond it; the chunks are absent.
+    folder.write("beyond.bin", &directory(933_879));
+    folder.refuses("check --store beyond.bin", 7, "doesn't end where the store does");
+    let (_, help, _) = folder.run("--help");
+    assert!(help.contains("1 to 20  refused") && help.contains("part the backup into several stores"));
 }
 
 #[test]
@@ -178,7 +300,7 @@ fn every_refusal_is_told() {
     }
     for (code, bytes, meaning) in [
         (10, store.clone(), "not an index"),
-        (11, index[..135].to_vec(), "doesn't end"),
+        (11, index[..137].to_vec(), "doesn't end"),
         (12, [&index[..49], &[1; 20], &index[69..]].concat(), "twice"),
         (13, with(&index, 113, 9), "written form"),
     ] {
@@ -235,7 +357,7 @@ fn a_vault_of_plain_files() {
     folder.write("in/a", &[text(3000), b"the keyword".to_vec(), text(9000)].concat());
     folder.write("in/empty", b"");
     folder.write("in/sub/b", &[b"the keyword".to_vec(), text(9000)].concat());
-    for cut in ["content --size 256", "fixed --size 64", "fixed --size 65535"] {
+    for cut in ["content --size 256", "fixed --size 64", "fixed --size 65535", "fixed --size 1048576", "content --size 262144"] {
         let (status, _, err) = folder.run(&format!("make-vault -o v --cut {cut} in"));
         assert_eq!(status, 0, "{err}");
         let found = "file\toffset\tkeyword\ttext\tname\n0\t3000\t0\tthe keyword\tin/a\n2\t0\t0\tthe keyword\tin/sub/b\n";

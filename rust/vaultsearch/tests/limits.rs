@@ -67,9 +67,9 @@ fn lengths_are_tested_before_reading() {
         (531, "$V search store.bin recipes.bin --words long"),
         ((1 << 20) + 1, "$V search store.bin recipes.bin --list long"),
         ((1 << 30) + 1, "$V search store.bin recipes.bin --words words.bin --names long"),
-        (4_261_595_009, "$V search long recipes.bin --words words.bin"),
-        (4_261_595_009, "$V scan long --words words.bin -o out"),
-        (4_261_595_009, "$V check --store long"),
+        (4_294_967_296, "$V search long recipes.bin --words words.bin"),
+        (4_294_967_296, "$V scan long --words words.bin -o out"),
+        (4_294_967_296, "$V check --store long"),
         (8_589_934_591, "$V join long recipes.bin"),
         (8_589_934_591, "$V check --index long"),
     ] {
@@ -151,7 +151,7 @@ fn a_list_that_no_memory_holds() {
     folder.prints("join index.bin recipes.bin --count", &format!("{count}\n"));
 }
 
-/// 6.5 MB of A, of which 16 keywords make an index of 210 MB. The stand-in makes an index before it asks for room.
+/// 6.5 MB of A, of which 16 keywords make an index of 315 MB. The stand-in makes an index before it asks for room.
 #[test]
 #[cfg_attr(feature = "mock", ignore)]
 fn an_index_that_no_memory_holds() {

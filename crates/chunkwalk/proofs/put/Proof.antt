@@ -1,130 +1,121 @@
 -- `chunkwalk::put` meets its contract: by an even mark the log is empty and the mark has the last node; else the walk tells both (Walking).
 -- Assumes nothing.
-use denote.Ref.{now}
+use mathlib.Core.Path.{_∙_}
 use borrow.Author.Needs.{needs}
-use Rattle.chunkwalk.proofs.Walking.{can-walk, walk-node, walk-part, walk-part-length, walk-part-room, sources, mark-node, mark-none}
-use Rattle.chunkwalk.proofs.Walking.{written-none, written-walked}
+use Rattle.chunkwalk.proofs.Walking.{none-tells, written-none, written-odd}
 use Rattle.chunkwalk.proofs.put.Statement.{statement}
 use Rattle.chunkwalk.proofs.put.Tie as tie
 
--- where the function starts, and where the walk is done
+-- where the function starts
 abbrev unwalked : tie.Then1 → tie.Start
 unwalked c = c .before .before .before .before .before .before .before .before .before .before .before
 
-abbrev outset : tie.After-walk-lanes → tie.Start
-outset w = w .before .before .before .before .before .before .before .before .before .before .before .before .before .before .before .before
+abbrev outset : tie.Else1 → tie.Start
+outset c = c .before .before .before .before .before .before .before .before .before .before .before
 
-abbrev walked : tie.After-put-body-arg3 → tie.After-walk-lanes
-walked c = c .before .before .before .before .before .before .before .before .before
+-- where the body is written
+abbrev short : tie.After-slice-known11 → tie.After-put-short
+short c = c .before .before .before .before .before .before .before .before .before .before
+
+abbrev long : tie.After-slice-known16 → tie.After-put-long
+long c = c .before .before .before .before .before .before .before .before .before .before
 
 cast-node : tie.Need-cast-node
 cast-node c = search needs
 
-slice-reshare-prefix-put-body : tie.Need-slice-reshare-prefix-put-body
-slice-reshare-prefix-put-body c = search needs
-
-slice-aggregate-put-body : tie.Need-slice-aggregate-put-body
-slice-aggregate-put-body c = search needs
-
-put-body-requires : tie.Need-put-body-requires
-put-body-requires c κs =
-    let t = c .before .before in
-    let s = unwalked t in (
-      sources (s .pre .0) (s .args .chunk .now) (s .pre .1) _ _
-          (mark-none (s .pre .0) (s .args .chunk .now) (s .pre .1) (s .args .mark) (t .if1 .taken) (s .pre .2))
-          (mark-node (s .pre .0) (s .args .chunk .now) (s .pre .1) (s .args .mark) (t .if1 .taken) (s .pre .2)),
-      s .pre .3,
-    )
+put-unwalked-requires : tie.Need-put-unwalked-requires
+put-unwalked-requires c κs =
+    let t = c .before in
+    let s = unwalked t in
+    (none-tells (s .pre .0) (s .args .chunk .now) (s .pre .1) (s .args .mark) (t .if1 .taken) (s .pre .2), s .pre .3)
 
 same-length : tie.Need-same-length
-same-length c = search needs
-
-same-length-2 : tie.Need-same-length-2
-same-length-2 c = search needs
+same-length c = c .before .before .put-unwalked .kept .0
 
 returns : tie.Need-returns
 returns c =
-    let b = c .before .before in
-    let t = b .before .before .before in
-    let s = unwalked t in (
-      b .put-body .ensures .0,
-      written-none (s .pre .0) (s .args .chunk .now) (s .pre .1) (s .args .mark) (t .if1 .taken) (s .pre .2) (b .put-body .result) (b .put-body .ensures .1),
+    let p = c .before .before in
+    let t = p .before .before in
+    let s = unwalked t in
+    let r = p .put-unwalked in (
+      r .ensures .0,
+      written-none (s .pre .0) (s .args .chunk .now) (s .pre .1) (s .args .mark) (t .if1 .taken) (s .pre .2) (r .result) (r .ensures .1),
     )
 
-walk-lanes-requires : tie.Need-walk-lanes-requires
-walk-lanes-requires c κs =
-    let s = c .before .before .before .before .before .before .before .before .before .before .before .before .before .before .before in
-    can-walk (s .pre .0) (s .args .chunk .now) (s .pre .1)
+put-short-requires : tie.Need-put-short-requires
+put-short-requires c κs =
+    let t = c .before .before .before .before .before in
+    let s = outset (t .before) in
+    (s .pre .0, s .pre .1, t .if2 .taken, s .pre .3)
 
-slice-reshare-prefix-put-body-2 : tie.Need-slice-reshare-prefix-put-body-2
-slice-reshare-prefix-put-body-2 c =
-    let w = walked c in
-    let s = outset w in
-    walk-part-room (s .pre .0) (s .args .chunk .now) (s .pre .1) (w .walk-lanes .result) (w .walk-lanes .ensures .0) (s .args .log .now)
-    (w .walk-lanes .last .1 .1 .1 .1 .1 .0) (w .walk-lanes .ensures .1)
-
-slice-aggregate-put-body-2 : tie.Need-slice-aggregate-put-body-2
-slice-aggregate-put-body-2 c =
-    let w = walked (c .before) in
-    let s = outset w in
-    walk-part-length (s .pre .0) (s .args .chunk .now) (s .pre .1) (w .walk-lanes .result) (w .walk-lanes .ensures .0) (s .args .log .now)
-    (w .walk-lanes .last .1 .1 .1 .1 .1 .0) (w .walk-lanes .ensures .1)
-
-put-body-requires-2 : tie.Need-put-body-requires-2
-put-body-requires-2 c κs =
-    let w = walked (c .before) in
-    let s = outset w in (
-      sources (s .pre .0) (s .args .chunk .now) (s .pre .1) _ (w .walk-lanes .result .node)
-          (walk-part (s .pre .0) (s .args .chunk .now) (s .pre .1) (w .walk-lanes .result) (w .walk-lanes .ensures .0) (s .args .log .now)
-          (w .walk-lanes .last .1 .1 .1 .1 .1 .0) (w .walk-lanes .ensures .1))
-          (walk-node (s .pre .0) (s .args .chunk .now) (s .pre .1) (w .walk-lanes .result) (w .walk-lanes .ensures .0)),
-      s .pre .3,
-    )
+same-length-2 : tie.Need-same-length-2
+same-length-2 c = short c .put-short .kept .0
 
 same-length-3 : tie.Need-same-length-3
-same-length-3 c = search needs
+same-length-3 c = short c .put-short .kept .1 .1 .1 .1 .1 .1 .1 .0
 
 same-length-4 : tie.Need-same-length-4
-same-length-4 c = search needs
+same-length-4 c = short c .put-short .kept .1 .1 .1 .1 .1 .1 .1 .1 .0
 
 same-length-5 : tie.Need-same-length-5
-same-length-5 c = search needs
+same-length-5 c = short c .put-short .kept .1 .1 .1 .1 .1 .1 .1 .1 .1 .0
 
 same-length-6 : tie.Need-same-length-6
-same-length-6 c = search needs
-
-same-length-7 : tie.Need-same-length-7
-same-length-7 c = search needs
+same-length-6 c = short c .put-short .kept .1 .1 .1 .1 .1 .1 .1 .1 .1 .1 .0
 
 returns-2 : tie.Need-returns-2
 returns-2 c =
-    let b = c .before .before in
-    let w = walked (b .before .before) in
-    let s = outset w in
-    let e = w .before .before .before .before .before in (
-      b .put-body2 .ensures .0,
-      written-walked (s .pre .0) (s .args .chunk .now) (s .pre .1) (s .args .mark) (e .if1 .left) (w .walk-lanes .result) (w .walk-lanes .ensures .0)
-          (b .put-body2 .result) (b .put-body2 .ensures .1),
-    )
+    let p = short c in
+    let e = p .before .before .before .before .before .before .before in
+    let a = outset e .args in
+    (p .put-short .ensures .0, p .put-short .ensures .1 ∙ written-odd (a .list .now) (a .chunk .now) (a .mark) (e .if1 .left))
+
+put-long-requires : tie.Need-put-long-requires
+put-long-requires c κs =
+    let s = outset (c .before .before .before .before .before .before) in
+    (s .pre .0, s .pre .1, s .pre .3)
+
+same-length-7 : tie.Need-same-length-7
+same-length-7 c = long c .put-long .kept .0
+
+same-length-8 : tie.Need-same-length-8
+same-length-8 c = long c .put-long .kept .1 .1 .1 .1 .1 .1 .1 .0
+
+same-length-9 : tie.Need-same-length-9
+same-length-9 c = long c .put-long .kept .1 .1 .1 .1 .1 .1 .1 .1 .0
+
+same-length-10 : tie.Need-same-length-10
+same-length-10 c = long c .put-long .kept .1 .1 .1 .1 .1 .1 .1 .1 .1 .0
+
+same-length-11 : tie.Need-same-length-11
+same-length-11 c = long c .put-long .kept .1 .1 .1 .1 .1 .1 .1 .1 .1 .1 .0
+
+returns-3 : tie.Need-returns-3
+returns-3 c =
+    let p = long c in
+    let e = p .before .before .before .before .before .before .before in
+    let a = outset e .args in
+    (p .put-long .ensures .0, p .put-long .ensures .1 ∙ written-odd (a .list .now) (a .chunk .now) (a .mark) (e .if1 .left))
 
 pub put-spec : {M : Type 1} → statement M
 put-spec =
     tie.close
     (tie.spec
     cast-node
-    slice-reshare-prefix-put-body
-    slice-aggregate-put-body
-    put-body-requires
+    put-unwalked-requires
     same-length
-    same-length-2
     returns
-    walk-lanes-requires
-    slice-reshare-prefix-put-body-2
-    slice-aggregate-put-body-2
-    put-body-requires-2
+    put-short-requires
+    same-length-2
     same-length-3
     same-length-4
     same-length-5
     same-length-6
+    returns-2
+    put-long-requires
     same-length-7
-    returns-2)
+    same-length-8
+    same-length-9
+    same-length-10
+    same-length-11
+    returns-3)

@@ -1,52 +1,30 @@
 -- `records::body_size` meets its contract. The invariant: the size so far and that of what is left are the body's. Assumes nothing.
-use mathlib.Core.Path.{_≡_, refl, sym, ap, _∙_}
-use Prim.Native.Nat.{ℕ, _+_, _*_, _-_, _≤_, _<_}
+use mathlib.Core.Path.{_≡_, ap, _∙_}
+use Prim.Native.Nat.{_+_, _*_, _-_, _≤_, _<_}
 use native.Mathlib.Nat.{zero-add}
 use native.Mathlib.Omega.{arith}
 use borrow.Author.Needs.{needs}
 use lib.ListN.{length}
 use Rattle.spec.specs.Form.{newest}
 use Rattle.spec.specs.Scan.{scanBody}
-use Rattle.records.specs.Bodies.{Tells}
-use Rattle.records.proofs.BodyLaws.{bodyRest, rest-start, rest-none, record-step, record-most, keywords-few, lens}
-use Rattle.records.proofs.Telling.{sources-fit, sources-tell}
+use Rattle.records.proofs.BodyLaws.{bodyRest, rest-start, rest-none, recordMost, record-step, record-most, keywords-few}
 use Rattle.records.proofs.body_size.Statement.{statement}
 use Rattle.records.proofs.body_size.Tie as tie
 
 abbrev Inv-loop : tie.InvT-loop
-Inv-loop list words chunk log ends tails last count tally size₀ k₀ size k =
-    (k ≤ count) × (size + length (bodyRest list chunk k) ≡ length (scanBody newest list chunk)) × (size ≤ 131079 * k)
+Inv-loop list words chunk tails last tally count size₀ k₀ size k =
+    (k ≤ count) × (size + length (bodyRest list chunk k) ≡ length (scanBody newest list chunk)) × (size ≤ recordMost * k)
 
 abbrev μ-loop : tie.MeasureT-loop
-μ-loop list words chunk log ends tails last count tally size₀ k₀ size k = count - k
-
-slice-aggregate-tally-of : tie.Need-slice-aggregate-tally-of Inv-loop μ-loop
-slice-aggregate-tally-of c = search needs
-
-tally-of-requires : tie.Need-tally-of-requires Inv-loop μ-loop
-tally-of-requires c κs =
-    let s = c .before .before .before .before .before .before .before in
-    let a = s .args in (
-      lens (a .list .now) (a .words) (s .pre .reads),
-      sources-fit (a .list .now) (a .words) (a .chunk .now) (a .log .now) (a .ends .now) (a .tails .now) (a .last) (s .pre),
-    )
-
--- the tally and the last node tell the records
-told : (c : tie.In-loop Inv-loop μ-loop) → let a = c .before .before .before .before .before .before .before .before .before .before .args in
-    Tells (a .list .now) (a .words) (a .chunk .now) (a .tails .now) (a .last) (c .before .before .tally-of .result)
-told c =
-    let s = c .before .before .before .before .before .before .before .before .before .before in
-    let a = s .args in
-    let t = c .before .before .tally-of in
-    sources-tell (a .list .now) (a .words) (a .chunk .now) (a .log .now) (a .ends .now) (a .tails .now) (a .last) (s .pre) (t .result) (t .ensures)
+μ-loop list words chunk tails last tally count size₀ k₀ size k = count - k
 
 loop-holds : tie.Need-loop-holds Inv-loop μ-loop
 loop-holds c =
-    let a = c .before .before .before .before .before .before .before .before .args in
+    let a = c .before .before .before .args in
     (omega arith, zero-add _ ∙ ap length (rest-start (a .list .now) (a .chunk .now)), omega arith)
 
 summary-of-requires : tie.Need-summary-of-requires Inv-loop μ-loop
-summary-of-requires c κs = (told c, c .loop-test .taken)
+summary-of-requires c κs = (c .before .before .before .before .before .pre, c .loop-test .taken)
 
 start-size-requires : tie.Need-start-size-requires Inv-loop μ-loop
 start-size-requires c κs = search needs
@@ -55,13 +33,13 @@ listed-of-requires : tie.Need-listed-of-requires Inv-loop μ-loop
 listed-of-requires c κs = search needs
 
 -- the record measured is the first of what is left
-step : (c : tie.After-listed-of Inv-loop μ-loop) → let i = c .before .before .before in let a = i .before .before .before .before .before .before .before .before .before .before .args in let k = i .before .loop .k in
+step : (c : tie.After-listed-of Inv-loop μ-loop) → let i = c .before .before .before in let a = i .before .before .before .before .before .args in let k = i .before .loop .k in
     (length (bodyRest (a .list .now) (a .chunk .now) k)
-    ≡ c .before .start-size .result + 2 * c .listed-of .result + length (bodyRest (a .list .now) (a .chunk .now) (k + 1)))
-    × (c .before .start-size .result + 2 * c .listed-of .result ≤ 131079)
+    ≡ c .before .start-size .result + newest .width * c .listed-of .result + length (bodyRest (a .list .now) (a .chunk .now) (k + 1)))
+    × (c .before .start-size .result + newest .width * c .listed-of .result ≤ recordMost)
 step c =
     let i = c .before .before .before in
-    let s = i .before .before .before .before .before .before .before .before .before .before in
+    let s = i .before .before .before .before .before in
     let a = s .args in
     let k = i .before .loop .k in
     let m = c .before .before .summary-of in
@@ -75,7 +53,7 @@ step c =
 
 few : (c : tie.In-loop Inv-loop μ-loop) → c .before .loop .k < 16
 few c =
-    let s = c .before .before .before .before .before .before .before .before .before .before in
+    let s = c .before .before .before .before .before in
     omega (arith, c .loop-test .taken, keywords-few (s .args .list .now) (s .args .words) (s .pre .reads))
 
 mul-size : tie.Need-mul-size Inv-loop μ-loop
@@ -101,7 +79,7 @@ loop-again c =
 
 returns : tie.Need-returns Inv-loop μ-loop
 returns c =
-    let s = c .before .before .before .before .before .before .before .before .before .before in
+    let s = c .before .before .before .before .before in
     let a = s .args in
     let l = c .before .loop in
     omega (arith, l .inv .1, ap length (rest-none (a .list .now) (a .words) (s .pre .reads) (a .chunk .now) (l .k) (c .loop-test .left)))
@@ -112,8 +90,6 @@ body-size-spec =
     (tie.spec
     Inv-loop
     μ-loop
-    slice-aggregate-tally-of
-    tally-of-requires
     loop-holds
     summary-of-requires
     start-size-requires

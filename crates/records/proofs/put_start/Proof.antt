@@ -1,12 +1,14 @@
 -- `records::put_start` meets its contract. Assumes nothing.
 use mathlib.Core.Path.{_≡_, sym, ap, _∙_}
 use mathlib.Core.Bool.{true, false}
-use Prim.Native.Nat.{ℕ, _+_, _≤_, _<_}
+use Prim.Native.Nat.{ℕ, _≤_, _<_}
 use native.Mathlib.Omega.{arith}
 use lib.ListN.{length}
 use Rattle.spec.specs.Form.{newest}
-use Rattle.records.specs.Summaries.{emptyIn, tinyIn, headPart, Wrote}
+use Rattle.records.specs.Summaries.{emptyIn, tinyIn}
 use Rattle.records.proofs.Starts.{
+  headSize,
+  startMost,
   tiny-prefix-most,
   tiny-suffix-most,
   start-tiny,
@@ -68,7 +70,7 @@ returns-2 c = λ n.
 
 -- a full record's head has room, and its exact count
 room : (c : tie.Else2) → let b = c .before .before .before .before .before in
-    (7 ≤ length (b .args .out .now)) × (254 < b .args .s .count → 9 ≤ length (b .args .out .now))
+    (headSize ≤ length (b .args .out .now)) × (254 < b .args .s .count → startMost ≤ length (b .args .out .now))
 room c =
     let b = c .before .before .before .before .before in
     let s = b .args .s in (

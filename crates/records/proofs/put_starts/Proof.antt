@@ -1,6 +1,5 @@
--- `records::put_starts` meets its contract. The invariant: with the lists of the keywords below k and what is left, the buffer is as promised.
--- Assumes nothing.
-use mathlib.Core.Path.{_≡_, refl, sym, ap, _∙_}
+-- `records::put_starts` meets its contract. The invariant: the starts of the keywords below k stand at their places. Assumes nothing.
+use mathlib.Core.Path.{_≡_, sym, ap, ap₂, _∙_}
 use Prim.Native.Nat.{ℕ, _+_, _*_, _-_, _≤_, _<_}
 use native.Mathlib.Nat.{zero-add}
 use native.Mathlib.Omega.{arith}
@@ -9,16 +8,21 @@ use borrow.Rule.Slice.PartMut.{midOf}
 use lib.ListN.{length}
 use Rattle.spec.specs.Bytes.{splice}
 use Rattle.spec.specs.Form.{newest}
-use Rattle.records.specs.Bodies.{foundAt, listOf}
+use Rattle.records.specs.Bodies.{startOf, listOf, placeOf}
+use Rattle.records.specs.Patches.{patched}
 use Rattle.records.specs.Summaries.{summaryOf, startBytes}
 use Rattle.records.specs.declared.Summary.{Summary}
-use Rattle.records.proofs.BodyLaws.{startOf, start-is, lists-is, keywords-few, found-prefix, found-suffix}
-use Rattle.records.proofs.Beginning.{Begins, begins-start, begins-room, begins-turn, begins-end, part-room}
+use Rattle.records.proofs.BodyLaws.{start-is, lists-is, keywords-few, found-prefix, found-suffix}
+use Rattle.records.proofs.Beginning.{part-room, place-start, place-next, place-most, begun-length, begun-start, begun-turn, Cursors, cursors-start, cursors-turn, started-is}
 use Rattle.records.proofs.put_starts.Statement.{statement}
 use Rattle.records.proofs.put_starts.Tie as tie
 
 abbrev Inv-loop : tie.InvT-loop
-Inv-loop out₀ list words chunk tails last tally count cursors₀ size₀ k₀ out cursors size k = (k ≤ count) × Begins list chunk k out₀ out cursors size
+Inv-loop out₀ list words chunk tails last tally count cursors₀ size₀ k₀ out cursors size k =
+    (k ≤ count)
+    × (out ≡ patched k (placeOf list chunk) (startOf list chunk) out₀)
+    × (size ≡ placeOf list chunk k)
+    × Cursors list chunk k cursors
 
 abbrev μ-loop : tie.MeasureT-loop
 μ-loop out₀ list words chunk tails last tally count cursors₀ size₀ k₀ out cursors size k = count - k
@@ -28,6 +32,14 @@ few c =
     let s = c .before .before .before .before .before .before in
     omega (arith, c .loop-test .taken, keywords-few (s .args .list .now) (s .args .words) (s .pre .0 .reads))
 
+-- the buffer stays as long as it was
+long : (c : tie.In-loop Inv-loop μ-loop) → length (c .before .loop .out) ≡ length (c .before .before .before .before .before .before .args .out .now)
+long c =
+    let s = c .before .before .before .before .before .before in
+    let a = s .args in
+    let l = c .before .loop in
+    ap length (l .inv .1) ∙ begun-length (a .list .now) (a .words) (s .pre .0 .reads) (a .chunk .now) (a .out .now) (s .pre .1) (l .k) (l .inv .0)
+
 -- the record of keyword k has room
 room : (c : tie.In-loop Inv-loop μ-loop) → let l = c .before .loop in let a = c .before .before .before .before .before .before .args in
     l .size + length (startOf (a .list .now) (a .chunk .now) (l .k)) + length (listOf (a .list .now) (a .chunk .now) (l .k)) ≤ length (l .out)
@@ -35,11 +47,23 @@ room c =
     let s = c .before .before .before .before .before .before in
     let a = s .args in
     let l = c .before .loop in
-    begins-room (a .list .now) (a .chunk .now) (a .words) (s .pre .0 .reads) (l .k) (c .loop-test .taken) (a .out .now) (l .out) (l .cursors) (l .size)
-    (l .inv .1) (s .pre .1)
+    omega (
+      arith,
+      place-most (a .list .now) (a .words) (s .pre .0 .reads) (a .chunk .now) (l .k) (c .loop-test .taken),
+      l .inv .2,
+      long c,
+      s .pre .1,
+    )
 
 loop-holds : tie.Need-loop-holds Inv-loop μ-loop
-loop-holds c = let a = c .before .before .before .before .args in (omega arith, begins-start (a .list .now) (a .chunk .now) (a .out .now))
+loop-holds c =
+    let s = c .before .before .before .before in
+    let a = s .args in (
+      omega arith,
+      begun-start (a .list .now) (a .words) (s .pre .0 .reads) (a .chunk .now) (a .out .now) (s .pre .1),
+      sym (place-start (a .list .now) (a .words) (s .pre .0 .reads) (a .chunk .now)),
+      cursors-start (a .list .now) (a .chunk .now),
+    )
 
 summary-of-requires : tie.Need-summary-of-requires Inv-loop μ-loop
 summary-of-requires c κs = (c .before .before .before .before .before .before .pre .0, c .loop-test .taken)
@@ -90,7 +114,7 @@ add-end : tie.Need-add-end Inv-loop μ-loop
 add-end c =
     let p = c .before .before in
     let i = p .before .before .before in
-    omega (arith, ended p, room i, i .before .loop .inv .1 .room)
+    omega (arith, ended p, room i, long i)
 
 mul-cursors : tie.Need-mul-cursors Inv-loop μ-loop
 mul-cursors c = omega (arith, few (c .before .before .before .before .before))
@@ -103,7 +127,7 @@ listed-of-requires c κs = search needs
 
 -- how long its list is
 list : (c : tie.After-listed-of Inv-loop μ-loop) → let i = c .before .before .before .before .before .before in let a = i .before .before .before .before .before .before .args in
-    2 * c .listed-of .result ≡ length (listOf (a .list .now) (a .chunk .now) (i .before .loop .k))
+    newest .width * c .listed-of .result ≡ length (listOf (a .list .now) (a .chunk .now) (i .before .loop .k))
 list c =
     let m = c .before .before .before .before .before in
     let i = m .before in
@@ -113,10 +137,12 @@ list c =
     (m .summary-of .result) (m .summary-of .ensures) (c .listed-of .result) (c .listed-of .ensures)
 
 mul-size : tie.Need-mul-size Inv-loop μ-loop
-mul-size c = omega (arith, list c, room (c .before .before .before .before .before .before))
+mul-size c = let i = c .before .before .before .before .before .before in omega (arith, list c, room i, long i)
 
 add-size : tie.Need-add-size Inv-loop μ-loop
-add-size c = omega (arith, list c, ended (c .before .before .before), room (c .before .before .before .before .before .before))
+add-size c =
+    let i = c .before .before .before .before .before .before in
+    omega (arith, list c, ended (c .before .before .before), room i, long i)
 
 add-k : tie.Need-add-k Inv-loop μ-loop
 add-k c = omega (arith, few (c .before .before .before .before .before .before))
@@ -134,22 +160,31 @@ loop-again c =
     let l = i .before .loop in
     let w = p .put-start in (
       omega (arith, i .loop-test .taken),
-      begins-turn (a .list .now) (a .chunk .now) (a .words) (s .pre .0 .reads) (l .k) (i .loop-test .taken) (a .out .now) (l .out) (l .cursors) (l .size)
-          (l .inv .1) (s .pre .1) (w .last .0) (l .size + w .result) (l .size + w .result + 2 * c .listed-of .result)
-          (w .ensures 0 .written ∙ ap (splice (midOf (l .size) (length (l .out) - l .size) (l .out)) 0) (starts m 0)) (w .kept .0)
-          (ap (λ (x : ℕ). l .size + x) (ended p)) (ap (λ (x : ℕ). l .size + w .result + x) (list c)) (few i),
+      begun-turn (a .list .now) (a .words) (s .pre .0 .reads) (a .chunk .now) (a .out .now) (s .pre .1) (l .k) (l .out) (w .last .0) (l .size)
+          (i .loop-test .taken) (l .inv .1) (l .inv .2)
+          (w .ensures 0 .written ∙ ap (splice (midOf (l .size) (length (l .out) - l .size) (l .out)) 0) (starts m 0)),
+      omega (arith, ended p, list c, l .inv .2, place-next (a .list .now) (a .words) (s .pre .0 .reads) (a .chunk .now) (l .k)),
+      cursors-turn (a .list .now) (a .words) (s .pre .0 .reads) (a .chunk .now) (l .k) (l .cursors) (l .size + w .result) (i .loop-test .taken)
+          (ap₂ {C = ℕ} (λ x y. x + y) (l .inv .2) (ended p)) (l .inv .3),
     )
 
 same-length : tie.Need-same-length Inv-loop μ-loop
-same-length c = c .before .loop .inv .1 .room
+same-length c =
+    let s = c .before .before .before .before .before .before in
+    let a = s .args in
+    let l = c .before .loop in
+    ap length (l .inv .1) ∙ begun-length (a .list .now) (a .words) (s .pre .0 .reads) (a .chunk .now) (a .out .now) (s .pre .1) (l .k) (l .inv .0)
 
 returns : tie.Need-returns Inv-loop μ-loop
 returns c =
     let s = c .before .before .before .before .before .before in
     let a = s .args in
     let l = c .before .loop in
-    begins-end (a .list .now) (a .chunk .now) (a .words) (s .pre .0 .reads) (l .k) (a .out .now) (l .out) (l .cursors) (l .size)
-    (l .inv .0) (c .loop-test .left) (s .pre .1) (l .inv .1)
+    let z : l .k ≡ a .words .count = omega (arith, l .inv .0, c .loop-test .left) in (
+      rw z at (l .inv .1),
+      started-is (a .list .now) (a .words) (s .pre .0 .reads) (a .chunk .now) (l .k) (l .size) (l .cursors) (l .inv .0) (c .loop-test .left) (l .inv .2)
+          (l .inv .3),
+    )
 
 pub put-starts-spec : {M : Type 1} → statement M
 put-starts-spec =

@@ -1,13 +1,11 @@
-use borrow.Author.Needs.{needs}
 -- `records::tally_of` meets its contract. The invariant: the entries from i on are counted. Assumes nothing.
-use mathlib.Core.Path.{_≡_, refl, sym, ap, _∙_}
-use mathlib.Core.List.{List}
-use Prim.Native.Nat.{ℕ, suc, _+_, _-_, _/_, _^_, _≤_, _<_}
+use borrow.Author.Needs.{needs}
+use mathlib.Core.Path.{_≡_}
+use Prim.Native.Nat.{ℕ, _-_, _≤_, _<_}
 use native.Mathlib.Omega.{arith}
 use lib.ListN.{length, getD, drop, length-drop}
 use Rattle.records.specs.Log.{numberIn, placeIn, setAt, Fits}
-use Rattle.records.specs.Tallies.{Tallied}
-use Rattle.records.proofs.Tallying.{tally-none, tally-more, count-most}
+use Rattle.records.proofs.Tallying.{Tallied, tally-none, tally-more, count-most, tallied-is}
 use Rattle.records.proofs.tally_of.Statement.{statement}
 use Rattle.records.proofs.tally_of.Tie as tie
 use Rattle.records.proofs.tally_of.Reads as reads
@@ -111,7 +109,7 @@ returns c =
     let l = c .before .loop in
     let a = c .before .before .before .before .before .args in
     let z : l .i ≡ 0 = omega arith in
-    rw z at (l .inv .1)
+    tallied-is (a .ends .now) (a .len .now) (a .log .now) (record { counts = l .counts; firsts = l .firsts }) (rw z at (l .inv .1))
 
 pub tally-of-spec : {M : Type 1} → statement M
 tally-of-spec =

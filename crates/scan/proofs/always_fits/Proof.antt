@@ -1,7 +1,7 @@
 -- `scan::always_fits` meets its contract: the bound is a number of 64 bits (Fits). Assumes nothing.
 use native.Mathlib.Omega.{arith}
 use borrow.Author.Needs.{needs}
-use Rattle.scan.proofs.Fits.{count-few, share-few, shares-few, most-is, fits-not, fits-so}
+use Rattle.scan.proofs.Fits.{count-few, store-few, share-few, shares-few, most-is, fits-not, fits-so}
 use Rattle.scan.proofs.always_fits.Statement.{statement}
 use Rattle.scan.proofs.always_fits.Tie as tie
 
@@ -18,7 +18,7 @@ mul-most-2 : tie.Need-mul-most-2
 mul-most-2 c = omega (arith, count-few (c .pre))
 
 mul-most-3 : tie.Need-mul-most-3
-mul-most-3 c = search needs
+mul-most-3 c = omega (arith, store-few (c .pre))
 
 add-most-3 : tie.Need-add-most-3
 add-most-3 c = omega (arith, share-few (c .pre))

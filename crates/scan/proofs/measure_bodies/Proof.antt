@@ -24,7 +24,7 @@ Inv-loop list words store count table ends tails log₀ run1₀ run2₀ run3₀ 
     × (length marks ≡ length marks₀)
     × (size + length (bodiesFrom newest list store j) ≡ length (bodiesFrom newest list store 0))
     × (moves + movesLeft store (movesAt list store) j ≡ movesLeft store (movesAt list store) 0)
-    × (moves ≤ 131070 * j)
+    × (moves ≤ 2097152 * j)
     × Marked list store marks j
 
 abbrev μ-loop : tie.MeasureT-loop
@@ -62,7 +62,7 @@ chunk-at-requires : tie.Need-chunk-at-requires Inv-loop μ-loop
 chunk-at-requires i κs = record { checked = outset i .pre .walks .checked; within = within i }
 
 -- the chunk is short
-short : (c : tie.After-chunk-at Inv-loop μ-loop) → length (c .chunk-at .result .now) ≤ 65535
+short : (c : tie.After-chunk-at Inv-loop μ-loop) → length (c .chunk-at .result .now) ≤ 1048576
 short c =
     let i = c .before in
     let s = outset i in
@@ -107,7 +107,7 @@ module _ (m : tie.After-measure Inv-loop μ-loop) where
   mark-is : m .measure .result .mark ≡ markOf list (chunkAt store j)
   mark-is = measured-mark list (chunked .chunk-at .result .now) (m .measure .result) (m .measure .ensures) ∙ ap (markOf list) (chunked .chunk-at .ensures .0)
 
-  moves-few : m .measure .result .moves ≤ 131070
+  moves-few : m .measure .result .moves ≤ 2097152
   moves-few =
       omega (
         arith,

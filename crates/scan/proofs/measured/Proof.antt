@@ -1,8 +1,7 @@
 -- `scan::measured` meets its contract: a law for each way out (Answers). Assumes nothing.
-use mathlib.Core.Path.{_≡_, refl, sym}
+use mathlib.Core.Path.{_≡_, refl, sym, _∙_}
 use Prim.Native.Nat.{ℕ, _+_, _*_}
 use native.Mathlib.Omega.{arith}
-use borrow.Author.Needs.{needs}
 use lib.ListN.{length}
 use Rattle.chunkwalk.proofs.Walking.{equipped-on}
 use Rattle.scan.proofs.Answers.{scan-short, scan-large, scan-done}
@@ -11,7 +10,7 @@ use Rattle.scan.proofs.Moves.{marked-usable}
 use Rattle.scan.proofs.measured.Statement.{statement}
 use Rattle.scan.proofs.measured.Tie as tie
 
--- where the function starts, and where the bodies are measured; the index's length
+-- where the function starts, and where the bodies are measured
 abbrev begun : tie.After-measure-bodies-arg5 → tie.Start
 begun c = c .before .before .before .before .before .before .before .before .before .before .before .before .before .before .before .before
 
@@ -24,6 +23,17 @@ summed c = c .before .before .before .before .before .before .before .before .be
 abbrev walked : tie.After-struct-known → tie.After-measure-bodies
 walked c = summed (c .before)
 
+-- at the end: where the index was written, and where the bodies were measured before it
+abbrev indexed : tie.After-slice-known16 → tie.After-put-index
+indexed c = c .before .before .before .before .before .before .before .before .before .before
+
+abbrev refitted : tie.After-slice-known16 → tie.Else2
+refitted c = indexed c .before .before .before .before .before .before .before
+
+abbrev first : tie.After-slice-known16 → tie.After-measure-bodies
+first c = walked (refitted c .before .before)
+
+-- the index's length
 abbrev len : tie.After-struct-known → ℕ
 len c =
     let m = walked c in
@@ -50,19 +60,19 @@ add-len-3 c =
     omega (arith, s .good .1 .0, count-few w, size-few w (m .measure-bodies .result .size) (m .measure-bodies .ensures .0))
 
 same-length : tie.Need-same-length
-same-length c = search needs
+same-length c = walked (c .before) .measure-bodies .kept .1 .1 .1 .1 .1 .1 .1 .0
 
 same-length-2 : tie.Need-same-length-2
-same-length-2 c = search needs
+same-length-2 c = walked (c .before) .measure-bodies .kept .1 .1 .1 .1 .1 .1 .1 .1 .0
 
 same-length-3 : tie.Need-same-length-3
-same-length-3 c = search needs
+same-length-3 c = walked (c .before) .measure-bodies .kept .1 .1 .1 .1 .1 .1 .1 .1 .1 .0
 
 same-length-4 : tie.Need-same-length-4
-same-length-4 c = search needs
+same-length-4 c = walked (c .before) .measure-bodies .kept .1 .1 .1 .1 .1 .1 .1 .1 .1 .1 .0
 
 same-length-5 : tie.Need-same-length-5
-same-length-5 c = search needs
+same-length-5 c = walked (c .before) .measure-bodies .kept .1 .1 .1 .1 .1 .1 .1 .1 .1 .1 .1 .0
 
 returns : tie.Need-returns
 returns c =
@@ -73,19 +83,19 @@ returns c =
     (len-is (s .pre .0 .walks) (m .measure-bodies .result .size) (m .measure-bodies .ensures .0)) (c .if1 .taken)
 
 same-length-6 : tie.Need-same-length-6
-same-length-6 c = search needs
+same-length-6 c = walked (c .before .before) .measure-bodies .kept .1 .1 .1 .1 .1 .1 .1 .0
 
 same-length-7 : tie.Need-same-length-7
-same-length-7 c = search needs
+same-length-7 c = walked (c .before .before) .measure-bodies .kept .1 .1 .1 .1 .1 .1 .1 .1 .0
 
 same-length-8 : tie.Need-same-length-8
-same-length-8 c = search needs
+same-length-8 c = walked (c .before .before) .measure-bodies .kept .1 .1 .1 .1 .1 .1 .1 .1 .1 .0
 
 same-length-9 : tie.Need-same-length-9
-same-length-9 c = search needs
+same-length-9 c = walked (c .before .before) .measure-bodies .kept .1 .1 .1 .1 .1 .1 .1 .1 .1 .1 .0
 
 same-length-10 : tie.Need-same-length-10
-same-length-10 c = search needs
+same-length-10 c = walked (c .before .before) .measure-bodies .kept .1 .1 .1 .1 .1 .1 .1 .1 .1 .1 .1 .0
 
 returns-2 : tie.Need-returns-2
 returns-2 c =
@@ -115,27 +125,27 @@ put-index-requires c κs =
     }
 
 same-length-11 : tie.Need-same-length-11
-same-length-11 c = search needs
+same-length-11 c = indexed c .put-index .kept .0
 
 same-length-12 : tie.Need-same-length-12
-same-length-12 c = search needs
+same-length-12 c = indexed c .put-index .kept .1 .1 .1 .1 .1 .1 .1 .1 .0 ∙ first c .measure-bodies .kept .1 .1 .1 .1 .1 .1 .1 .0
 
 same-length-13 : tie.Need-same-length-13
-same-length-13 c = search needs
+same-length-13 c = indexed c .put-index .kept .1 .1 .1 .1 .1 .1 .1 .1 .1 .0 ∙ first c .measure-bodies .kept .1 .1 .1 .1 .1 .1 .1 .1 .0
 
 same-length-14 : tie.Need-same-length-14
-same-length-14 c = search needs
+same-length-14 c = indexed c .put-index .kept .1 .1 .1 .1 .1 .1 .1 .1 .1 .1 .0 ∙ first c .measure-bodies .kept .1 .1 .1 .1 .1 .1 .1 .1 .1 .0
 
 same-length-15 : tie.Need-same-length-15
-same-length-15 c = search needs
+same-length-15 c = indexed c .put-index .kept .1 .1 .1 .1 .1 .1 .1 .1 .1 .1 .1 .0 ∙ first c .measure-bodies .kept .1 .1 .1 .1 .1 .1 .1 .1 .1 .1 .0
 
 same-length-16 : tie.Need-same-length-16
-same-length-16 c = search needs
+same-length-16 c = first c .measure-bodies .kept .1 .1 .1 .1 .1 .1 .1 .1 .1 .1 .1 .0
 
 returns-3 : tie.Need-returns-3
 returns-3 c =
-    let w = c .before .before .before .before .before .before .before .before .before .before in
-    let e2 = w .before .before .before .before .before .before .before in
+    let w = indexed c in
+    let e2 = refitted c in
     let e1 = e2 .before in
     let m = walked (e1 .before) in
     let s = outset m in

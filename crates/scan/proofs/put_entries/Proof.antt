@@ -39,7 +39,7 @@ Inv-loop out₀ list words store count table ends tails log₀ run1₀ run2₀ r
     ≡ splice out₀ (8 + length list) (tailBytes newest list store))
     × Lengths log₀ run1₀ run2₀ run3₀ log run1 run2 run3
     × (moves + movesLeft store (writtenAt list store marks) k ≡ movesLeft store (writtenAt list store marks) 0)
-    × (moves ≤ 131070 * k)
+    × (moves ≤ 2097152 * k)
 
 abbrev μ-loop : tie.MeasureT-loop
 μ-loop out₀ list words store count table ends tails log₀ run1₀ run2₀ run3₀ marks start at₀ moves₀ k₀ out log run1 run2 run3 at moves k = count - k
@@ -78,7 +78,7 @@ module _ (i : tie.In-loop Inv-loop μ-loop) where
   entry-room = omega (arith, room, i .loop-test .taken, i .before .loop .inv .0 .2)
 
 -- the chunk is short
-short : (c : tie.After-chunk-at Inv-loop μ-loop) → length (c .chunk-at .result .now) ≤ 65535
+short : (c : tie.After-chunk-at Inv-loop μ-loop) → length (c .chunk-at .result .now) ≤ 1048576
 short c =
     let i = c .before in
     let w = outset i .pre .measures .walks in
@@ -174,7 +174,7 @@ module _ (b : tie.After-put Inv-loop μ-loop) where
       written-moves (list (turn b)) (now (chunked .chunk-at .result)) mark (b .put .result) (b .put .ensures .1)
       ∙ ap (λ chunk. walkedMoves (list (turn b)) chunk mark) (chunked .chunk-at .ensures .0)
 
-  moves-few : b .put .result .moves ≤ 131070
+  moves-few : b .put .result .moves ≤ 2097152
   moves-few =
       omega (
         arith,

@@ -19,6 +19,9 @@ listed e = e .before .before .before .before .before .before .before
 abbrev outset : tie.After-copy → tie.Start
 outset u = u .before .before .before .before .before .before .before .before .before .before .before .before .before .before
 
+abbrev appended : tie.After-slice-known13 → tie.After-put-entries
+appended c = c .before .before .before .before .before .before .before .before .before .before
+
 slice-aggregate-copy : tie.Need-slice-aggregate-copy
 slice-aggregate-copy c = search needs
 
@@ -46,23 +49,26 @@ put-entries-requires c κs =
     }
 
 same-length : tie.Need-same-length
-same-length c = search needs
+same-length c =
+    let w = listed (appended c .before) in
+    let v = counted w in
+    appended c .put-entries .kept .0 ∙ w .copy2 .kept .0 ∙ v .write .kept .0 ∙ marked v .copy .kept .0
 
 same-length-2 : tie.Need-same-length-2
-same-length-2 c = search needs
+same-length-2 c = appended c .put-entries .kept .1 .1 .1 .1 .1 .1 .1 .1 .0
 
 same-length-3 : tie.Need-same-length-3
-same-length-3 c = search needs
+same-length-3 c = appended c .put-entries .kept .1 .1 .1 .1 .1 .1 .1 .1 .1 .0
 
 same-length-4 : tie.Need-same-length-4
-same-length-4 c = search needs
+same-length-4 c = appended c .put-entries .kept .1 .1 .1 .1 .1 .1 .1 .1 .1 .1 .0
 
 same-length-5 : tie.Need-same-length-5
-same-length-5 c = search needs
+same-length-5 c = appended c .put-entries .kept .1 .1 .1 .1 .1 .1 .1 .1 .1 .1 .1 .0
 
 returns : tie.Need-returns
 returns c =
-    let e = c .before .before .before .before .before .before .before .before .before .before in
+    let e = appended c in
     let w = listed (e .before) in
     let v = counted w in
     let u = marked v in

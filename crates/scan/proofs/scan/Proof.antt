@@ -1,14 +1,10 @@
 -- `scan::scan` meets its contract: the arrays are made and filled, and `scanned` answers. Assumes nothing.
 use mathlib.Core.Path.{_≡_, sym, _∙_}
-use Prim.Native.Nat.{ℕ}
-use native.Mathlib.Omega.{arith}
-use borrow.Author.Needs.{needs}
-use lib.ListN.{length-replicate}
 use Rattle.spec.proofs.KeywordLaws.{keyword-front}
 use Rattle.spec.proofs.StoreLaws.{store-good}
 use Rattle.scan.specs.Layout.{Walks}
 use Rattle.scan.proofs.Answers.{scan-refused}
-use Rattle.scan.proofs.Arrays.{walks-read, can-make, can-measure, table-empty, table-room, odd-ones}
+use Rattle.scan.proofs.Arrays.{walks-read, can-make, can-measure, made, made-kept, table-empty, odd-ones}
 use Rattle.scan.proofs.Parts.{Passed, passed-both}
 use Rattle.scan.proofs.scan.Statement.{statement}
 use Rattle.scan.proofs.scan.Tie as tie
@@ -21,7 +17,7 @@ abbrev counted : tie.After-build → tie.After-chunk-count
 counted b = b .before .before .before .before
 
 slice-aggregate-scannable : tie.Need-slice-aggregate-scannable
-slice-aggregate-scannable c = length-replicate {A = ℕ} 131328 0
+slice-aggregate-scannable c = made 131328 0
 
 scannable-requires : tie.Need-scannable-requires
 scannable-requires c κs = table-empty
@@ -30,7 +26,7 @@ returns : tie.Need-returns
 returns c =
     let s = c .before .before in
     let a = s .before .before .before .before .before .args in
-    let f = scan-refused (a .list .now) (a .store .now) (s .scannable .result) (s .scannable .ensures) (a .out .now) (omega arith) in
+    let f = scan-refused (a .list .now) (a .store .now) (s .scannable .result) (s .scannable .ensures) (a .out .now) (c .if1 .taken) in
     (f .answered, f .bytes)
 
 -- both checks passed
@@ -49,42 +45,42 @@ walks : (c : tie.After-chunk-count) → let a = outset (c .before .before) .args
 walks c = walks-read (checks (c .before .before)) (c .before .parse .ensures) (c .chunk-count .ensures)
 
 slice-aggregate-build : tie.Need-slice-aggregate-build
-slice-aggregate-build c = let s = c .before .before .before .before .before in sym (s .scannable .kept .1 .1 .0 ∙ length-replicate {A = ℕ} 131328 0)
+slice-aggregate-build c = let s = c .before .before .before .before .before .scannable in made-kept 131328 0 (s .last .1 .1 .0) (s .kept .1 .1 .0)
 
 slice-aggregate-build-2 : tie.Need-slice-aggregate-build-2
-slice-aggregate-build-2 c = search needs
+slice-aggregate-build-2 c = made 513 0
 
 slice-aggregate-build-3 : tie.Need-slice-aggregate-build-3
-slice-aggregate-build-3 c = search needs
+slice-aggregate-build-3 c = made 8208 0
 
 build-requires : tie.Need-build-requires
 build-requires c κs =
     let s = c .before .before .before .before .before .before .before .scannable in
-    can-make (walks (c .before .before .before)) (s .last .1 .1 .0) (table-room (s .last .1 .1 .0) (s .kept .1 .1 .0))
+    can-make (walks (c .before .before .before)) (s .last .1 .1 .0) (s .kept .1 .1 .0)
 
 slice-aggregate-scanned : tie.Need-slice-aggregate-scanned
-slice-aggregate-scanned c = search needs
+slice-aggregate-scanned c = let b = c .before .before .before .before .before in let s = counted b .before .before .before .before .scannable in made-kept 131328 0 (b .build .last .1 .1 .0) (b .build .kept .1 .1 .0 ∙ s .kept .1 .1 .0)
 
 slice-aggregate-scanned-2 : tie.Need-slice-aggregate-scanned-2
-slice-aggregate-scanned-2 c = search needs
+slice-aggregate-scanned-2 c = let b = c .before .before .before .before .before .before .build in made-kept 513 0 (b .last .1 .1 .1 .0) (b .kept .1 .1 .1 .0)
 
 slice-aggregate-scanned-3 : tie.Need-slice-aggregate-scanned-3
-slice-aggregate-scanned-3 c = search needs
+slice-aggregate-scanned-3 c = let b = c .before .before .before .before .before .before .before .build in made-kept 8208 0 (b .last .1 .1 .1 .1 .0) (b .kept .1 .1 .1 .1 .0)
 
 slice-aggregate-scanned-4 : tie.Need-slice-aggregate-scanned-4
-slice-aggregate-scanned-4 c = search needs
+slice-aggregate-scanned-4 c = made 65536 0
 
 slice-aggregate-scanned-5 : tie.Need-slice-aggregate-scanned-5
-slice-aggregate-scanned-5 c = search needs
+slice-aggregate-scanned-5 c = made 16384 0
 
 slice-aggregate-scanned-6 : tie.Need-slice-aggregate-scanned-6
-slice-aggregate-scanned-6 c = search needs
+slice-aggregate-scanned-6 c = made 16384 0
 
 slice-aggregate-scanned-7 : tie.Need-slice-aggregate-scanned-7
-slice-aggregate-scanned-7 c = search needs
+slice-aggregate-scanned-7 c = made 16384 0
 
 slice-aggregate-scanned-8 : tie.Need-slice-aggregate-scanned-8
-slice-aggregate-scanned-8 c = search needs
+slice-aggregate-scanned-8 c = made 65000 1
 
 scanned-requires : tie.Need-scanned-requires
 scanned-requires c κs =
@@ -94,13 +90,13 @@ scanned-requires c κs =
     let e = counted b .before .before in
     let s = e .before .before .scannable in (
       can-measure (walks (counted b)) (s .last .1 .1 .0) (r .last .1 .1 .0) (r .last .1 .1 .1 .0) (r .last .1 .1 .1 .1 .0) 1
-          (table-room (s .last .1 .1 .0) (s .kept .1 .1 .0)) (q .0) (q .1 .0) (q .1 .1),
+          (s .kept .1 .1 .0) (q .0) (q .1 .0) (q .1 .1),
       odd-ones 65000,
       sym (s .ensures) ∙ e .if1 .left,
     )
 
 same-length : tie.Need-same-length
-same-length c = search needs
+same-length c = c .before .before .before .before .before .before .before .scanned .kept .0
 
 returns-2 : tie.Need-returns-2
 returns-2 c = let f = c .before .before .before .before .before .before .before .scanned .ensures in (f .answered, f .bytes)

@@ -1,7 +1,6 @@
 -- `scan::scanned` meets its contract: by odd marks every chunk is walked once (Moves); else `measured` answers. Assumes nothing.
 use mathlib.Core.Path.{_≡_, refl, sym, _∙_}
 use native.Mathlib.Omega.{arith}
-use borrow.Author.Needs.{needs}
 use Prim.Native.Nat.{_≤_}
 use lib.ListN.{length}
 use Rattle.spec.specs.Form.{newest}
@@ -17,6 +16,13 @@ use Rattle.scan.proofs.scanned.Tie as tie
 -- where the function starts
 abbrev outset : tie.After-always-fits → tie.Start
 outset f = f .before .before .before .before .before .before .before .before .before .before .before .before
+
+-- where an answer was found, by one walk or by `measured`
+abbrev indexed : tie.After-slice-known11 → tie.After-put-index
+indexed c = c .before .before .before .before .before .before .before .before .before .before
+
+abbrev answered : tie.After-slice-known17 → tie.After-measured
+answered c = c .before .before .before .before .before .before .before .before .before .before .before .before
 
 always-fits-requires : tie.Need-always-fits-requires
 always-fits-requires c κs = c .before .before .before .before .before .before .before .before .before .before .before .pre .0 .walks
@@ -45,26 +51,26 @@ put-index-requires c κs =
     }
 
 same-length : tie.Need-same-length
-same-length c = search needs
+same-length c = indexed c .put-index .kept .0
 
 same-length-2 : tie.Need-same-length-2
-same-length-2 c = search needs
+same-length-2 c = indexed c .put-index .kept .1 .1 .1 .1 .1 .1 .1 .1 .0
 
 same-length-3 : tie.Need-same-length-3
-same-length-3 c = search needs
+same-length-3 c = indexed c .put-index .kept .1 .1 .1 .1 .1 .1 .1 .1 .1 .0
 
 same-length-4 : tie.Need-same-length-4
-same-length-4 c = search needs
+same-length-4 c = indexed c .put-index .kept .1 .1 .1 .1 .1 .1 .1 .1 .1 .1 .0
 
 same-length-5 : tie.Need-same-length-5
-same-length-5 c = search needs
+same-length-5 c = indexed c .put-index .kept .1 .1 .1 .1 .1 .1 .1 .1 .1 .1 .1 .0
 
 same-length-6 : tie.Need-same-length-6
-same-length-6 c = search needs
+same-length-6 c = refl
 
 returns : tie.Need-returns
 returns c =
-    let w = c .before .before .before .before .before .before .before .before .before .before in
+    let w = indexed c in
     let t = w .before .before .before .before .before .before .before in
     let s = outset (t .before) in
     let a = s .args in
@@ -77,25 +83,25 @@ measured-requires : tie.Need-measured-requires
 measured-requires c κs = let s = outset (c .before .before .before .before .before .before .before) in (s .pre .0, s .pre .2)
 
 same-length-7 : tie.Need-same-length-7
-same-length-7 c = search needs
+same-length-7 c = answered c .measured .kept .0
 
 same-length-8 : tie.Need-same-length-8
-same-length-8 c = search needs
+same-length-8 c = answered c .measured .kept .1 .1 .1 .1 .1 .1 .1 .1 .0
 
 same-length-9 : tie.Need-same-length-9
-same-length-9 c = search needs
+same-length-9 c = answered c .measured .kept .1 .1 .1 .1 .1 .1 .1 .1 .1 .0
 
 same-length-10 : tie.Need-same-length-10
-same-length-10 c = search needs
+same-length-10 c = answered c .measured .kept .1 .1 .1 .1 .1 .1 .1 .1 .1 .1 .0
 
 same-length-11 : tie.Need-same-length-11
-same-length-11 c = search needs
+same-length-11 c = answered c .measured .kept .1 .1 .1 .1 .1 .1 .1 .1 .1 .1 .1 .0
 
 same-length-12 : tie.Need-same-length-12
-same-length-12 c = search needs
+same-length-12 c = answered c .measured .kept .1 .1 .1 .1 .1 .1 .1 .1 .1 .1 .1 .1 .0
 
 returns-2 : tie.Need-returns-2
-returns-2 c = c .before .before .before .before .before .before .before .before .before .before .before .before .measured .ensures
+returns-2 c = answered c .measured .ensures
 
 pub scanned-spec : {M : Type 1} → statement M
 scanned-spec =

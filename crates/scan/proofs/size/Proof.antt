@@ -1,15 +1,14 @@
 -- `scan::size` meets its contract: the arrays are made and filled, and the bodies measured. Assumes nothing.
 use mathlib.Core.Path.{_≡_, sym, _∙_}
-use Prim.Native.Nat.{ℕ, _+_, _*_, _≤_}
+use Prim.Native.Nat.{_+_, _*_, _<_}
 use native.Mathlib.Omega.{arith}
-use borrow.Author.Needs.{needs}
-use lib.ListN.{length, length-replicate}
+use lib.ListN.{length}
 use Rattle.spec.proofs.KeywordLaws.{keyword-front}
 use Rattle.spec.proofs.StoreLaws.{store-good}
 use Rattle.scan.specs.Layout.{Walks}
 use Rattle.scan.proofs.Answers.{size-refused, size-done}
-use Rattle.scan.proofs.Arrays.{walks-read, can-make, can-measure, table-empty, table-room}
-use Rattle.scan.proofs.Fits.{count-few, size-few, len-is}
+use Rattle.scan.proofs.Arrays.{walks-read, can-make, can-measure, made, made-kept, table-empty}
+use Rattle.scan.proofs.Fits.{front-fits, entries-fit, directory-fits, whole-fits, len-is}
 use Rattle.scan.proofs.Parts.{Passed, passed-both}
 use Rattle.scan.proofs.size.Statement.{statement}
 use Rattle.scan.proofs.size.Tie as tie
@@ -21,8 +20,12 @@ outset e = e .before .before .before .before .before .before
 abbrev counted : tie.After-build → tie.After-chunk-count
 counted b = b .before .before .before .before
 
+-- the list is short, as every slice is
+short : (s : tie.Start) → length (s .args .list .now) * 1 < 9223372036854775808
+short s = omega (arith, s .good .0)
+
 slice-aggregate-scannable : tie.Need-slice-aggregate-scannable
-slice-aggregate-scannable c = length-replicate {A = ℕ} 131328 0
+slice-aggregate-scannable c = made 131328 0
 
 scannable-requires : tie.Need-scannable-requires
 scannable-requires c κs = table-empty
@@ -31,7 +34,7 @@ returns : tie.Need-returns
 returns c =
     let s = c .before .before in
     let a = s .before .before .before .before .args in
-    size-refused (a .list .now) (a .store .now) (s .scannable .result) (s .scannable .ensures) (omega arith)
+    size-refused (a .list .now) (a .store .now) (s .scannable .result) (s .scannable .ensures) (c .if1 .taken)
 
 -- both checks passed
 checks : (e : tie.Else1) → let a = outset e .args in Passed (a .list .now) (a .store .now)
@@ -49,42 +52,42 @@ walks : (c : tie.After-chunk-count) → let a = outset (c .before .before) .args
 walks c = walks-read (checks (c .before .before)) (c .before .parse .ensures) (c .chunk-count .ensures)
 
 slice-aggregate-build : tie.Need-slice-aggregate-build
-slice-aggregate-build c = let s = c .before .before .before .before .before in sym (s .scannable .kept .1 .1 .0 ∙ length-replicate {A = ℕ} 131328 0)
+slice-aggregate-build c = let s = c .before .before .before .before .before .scannable in made-kept 131328 0 (s .last .1 .1 .0) (s .kept .1 .1 .0)
 
 slice-aggregate-build-2 : tie.Need-slice-aggregate-build-2
-slice-aggregate-build-2 c = search needs
+slice-aggregate-build-2 c = made 513 0
 
 slice-aggregate-build-3 : tie.Need-slice-aggregate-build-3
-slice-aggregate-build-3 c = search needs
+slice-aggregate-build-3 c = made 8208 0
 
 build-requires : tie.Need-build-requires
 build-requires c κs =
     let s = c .before .before .before .before .before .before .before .scannable in
-    can-make (walks (c .before .before .before)) (s .last .1 .1 .0) (table-room (s .last .1 .1 .0) (s .kept .1 .1 .0))
+    can-make (walks (c .before .before .before)) (s .last .1 .1 .0) (s .kept .1 .1 .0)
 
 slice-aggregate-measure-bodies : tie.Need-slice-aggregate-measure-bodies
-slice-aggregate-measure-bodies c = search needs
+slice-aggregate-measure-bodies c = let b = c .before .before .before .before in let s = counted b .before .before .before .before .scannable in made-kept 131328 0 (b .build .last .1 .1 .0) (b .build .kept .1 .1 .0 ∙ s .kept .1 .1 .0)
 
 slice-aggregate-measure-bodies-2 : tie.Need-slice-aggregate-measure-bodies-2
-slice-aggregate-measure-bodies-2 c = search needs
+slice-aggregate-measure-bodies-2 c = let b = c .before .before .before .before .before .build in made-kept 513 0 (b .last .1 .1 .1 .0) (b .kept .1 .1 .1 .0)
 
 slice-aggregate-measure-bodies-3 : tie.Need-slice-aggregate-measure-bodies-3
-slice-aggregate-measure-bodies-3 c = search needs
+slice-aggregate-measure-bodies-3 c = let b = c .before .before .before .before .before .before .build in made-kept 8208 0 (b .last .1 .1 .1 .1 .0) (b .kept .1 .1 .1 .1 .0)
 
 slice-aggregate-measure-bodies-4 : tie.Need-slice-aggregate-measure-bodies-4
-slice-aggregate-measure-bodies-4 c = search needs
+slice-aggregate-measure-bodies-4 c = made 65536 0
 
 slice-aggregate-measure-bodies-5 : tie.Need-slice-aggregate-measure-bodies-5
-slice-aggregate-measure-bodies-5 c = search needs
+slice-aggregate-measure-bodies-5 c = made 16384 0
 
 slice-aggregate-measure-bodies-6 : tie.Need-slice-aggregate-measure-bodies-6
-slice-aggregate-measure-bodies-6 c = search needs
+slice-aggregate-measure-bodies-6 c = made 16384 0
 
 slice-aggregate-measure-bodies-7 : tie.Need-slice-aggregate-measure-bodies-7
-slice-aggregate-measure-bodies-7 c = search needs
+slice-aggregate-measure-bodies-7 c = made 16384 0
 
 slice-aggregate-measure-bodies-8 : tie.Need-slice-aggregate-measure-bodies-8
-slice-aggregate-measure-bodies-8 c = search needs
+slice-aggregate-measure-bodies-8 c = made 65000 0
 
 measure-bodies-requires : tie.Need-measure-bodies-requires
 measure-bodies-requires c κs =
@@ -93,35 +96,35 @@ measure-bodies-requires c κs =
     let q = r .ensures .1 in
     let s = counted b .before .before .before .before .scannable in
     can-measure (walks (counted b)) (s .last .1 .1 .0) (r .last .1 .1 .0) (r .last .1 .1 .1 .0) (r .last .1 .1 .1 .1 .0) 0
-    (table-room (s .last .1 .1 .0) (s .kept .1 .1 .0)) (q .0) (q .1 .0) (q .1 .1)
+    (s .kept .1 .1 .0) (q .0) (q .1 .0) (q .1 .1)
 
--- where the bodies are measured; the list is short, as every slice is, and so are the sums
+-- where the bodies are measured, and before
 abbrev filled : tie.After-measure-bodies → tie.After-build
 filled m = m .before .before .before .before .before .before .before .before .before .before .before .before
 
 abbrev begun : tie.After-measure-bodies → tie.Start
 begun m = outset (counted (filled m) .before .before)
 
-few : (m : tie.After-measure-bodies) → (counted (filled m) .chunk-count .result ≤ 65000) × (m .measure-bodies .result .size ≤ 2097264 * 65000)
-few m =
-    let w = walks (counted (filled m)) in
-    (count-few w, size-few w (m .measure-bodies .result .size) (m .measure-bodies .ensures .0))
+abbrev summed : tie.After-marks2 → tie.After-measure-bodies
+summed c = c .before .before .before .before .before
 
 add-whole : tie.Need-add-whole
-add-whole c = omega (arith, begun (c .before .before .before .before .before) .good .0)
+add-whole c = let m = summed c in front-fits (walks (counted (filled m))) (short (begun m))
 
 mul-whole : tie.Need-mul-whole
-mul-whole c = omega (arith, few (c .before .before .before .before .before) .0)
+mul-whole c = entries-fit (walks (counted (filled (summed c))))
 
 add-whole-2 : tie.Need-add-whole-2
-add-whole-2 c = let m = c .before .before .before .before .before in omega (arith, begun m .good .0, few m .0)
+add-whole-2 c = let m = summed c in directory-fits (walks (counted (filled m))) (short (begun m))
 
 add-whole-3 : tie.Need-add-whole-3
-add-whole-3 c = let m = c .before .before .before .before .before .before in omega (arith, begun m .good .0, few m .0, few m .1)
+add-whole-3 c =
+    let m = summed (c .before) in
+    whole-fits (walks (counted (filled m))) (m .measure-bodies .result .size) (m .measure-bodies .ensures .0) (short (begun m))
 
 returns-2 : tie.Need-returns-2
 returns-2 c =
-    let m = c .before .before .before .before .before .before in
+    let m = summed (c .before) in
     let n = counted (filled m) in
     let e = n .before .before in
     let a = outset e .args in

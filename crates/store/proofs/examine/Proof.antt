@@ -22,7 +22,7 @@ header c = (c .before .before .if1 .left, sym (c .before .marked .ensures) ∙ n
 returns : tie.Need-returns
 returns c =
     let a = c .before .before .before .args in
-    refused-early (now (a .store)) (now (a .chains)) 5 (short (now (a .store)) (c .if1 .taken)) (omega arith) (omega arith)
+    refused-early (now (a .store)) (now (a .chains)) 5 (short (now (a .store)) (c .if1 .taken)) (λ z. omega arith) (λ z. omega arith)
 
 marked-requires : tie.Need-marked-requires
 marked-requires c κs = search needs
@@ -31,7 +31,7 @@ returns-2 : tie.Need-returns-2
 returns-2 c =
     let a = c .before .before .before .before .before .args in
     let none = sym (c .before .marked .ensures) ∙ not-true (c .before .marked .result) (c .if2 .taken) in
-    refused-early (now (a .store)) (now (a .chains)) 5 (unmarked (now (a .store)) (c .before .before .if1 .left) none) (omega arith) (omega arith)
+    refused-early (now (a .store)) (now (a .chains)) 5 (unmarked (now (a .store)) (c .before .before .if1 .left) none) (λ z. omega arith) (λ z. omega arith)
 
 chunk-count-requires : tie.Need-chunk-count-requires
 chunk-count-requires c κs = search needs
@@ -43,7 +43,7 @@ returns-3 c =
     let h = header opened in
     let n = c .before .chunk-count in
     refused-early (now (a .store)) (now (a .chains)) 6
-    (many (now (a .store)) (h .0) (h .1) (n .result) (n .ensures) (c .if3 .taken)) (omega arith) (omega arith)
+    (many (now (a .store)) (h .0) (h .1) (n .result) (n .ensures) (c .if3 .taken)) (λ z. omega arith) (λ z. omega arith)
 
 mul-if4 : tie.Need-mul-if4
 mul-if4 c = search needs
@@ -59,7 +59,7 @@ returns-4 c =
     let h = header opened in
     let n = counted .chunk-count in
     refused-early (now (a .store)) (now (a .chains)) 6
-    (cut (now (a .store)) (h .0) (h .1) (n .result) (n .ensures) (c .before .if3 .left) (c .if4 .taken)) (omega arith) (omega arith)
+    (cut (now (a .store)) (h .0) (h .1) (n .result) (n .ensures) (c .before .if3 .left) (c .if4 .taken)) (λ z. omega arith) (λ z. omega arith)
 
 entries-requires : tie.Need-entries-requires
 entries-requires c κs = search needs

@@ -6,7 +6,7 @@ use Rattle.tests_plain.proofs.case.room.Statement.{statement}
 use Rattle.tests_plain.proofs.case.room.Tie as tie
 
 returns : tie.Need-returns
-returns c = sym (length-replicate {A = ℕ} 148700 0)
+returns c = sym (length-replicate {A = ℕ} 168700 0)
 
 pub room-spec : {M : Type 1} → statement M
 room-spec = tie.close (tie.spec returns)

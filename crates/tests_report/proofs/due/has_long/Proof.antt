@@ -5,10 +5,10 @@ use Rattle.tests_report.proofs.due.has_long.Statement.{statement}
 use Rattle.tests_report.proofs.due.has_long.Tie as tie
 
 abbrev Inv-loop : tie.InvT-loop
-Inv-loop f n c₀ c = (c ≤ n)
+Inv-loop f n size c₀ c = (c ≤ n)
 
 abbrev μ-loop : tie.MeasureT-loop
-μ-loop f n c₀ c = n - c
+μ-loop f n size c₀ c = n - c
 
 loop-holds : tie.Need-loop-holds Inv-loop μ-loop
 loop-holds c = search needs

@@ -8,10 +8,10 @@ use Rattle.tests_vaults.proofs.encode.put_bodies.Statement.{statement}
 use Rattle.tests_vaults.proofs.encode.put_bodies.Tie as tie
 
 abbrev Inv-loop : tie.InvT-loop
-Inv-loop out₀ start m n words at₀ c₀ out at c = (c ≤ n) × (length out ≡ length out₀)
+Inv-loop out₀ start form m n words at₀ c₀ out at c = (c ≤ n) × (length out ≡ length out₀)
 
 abbrev μ-loop : tie.MeasureT-loop
-μ-loop out₀ start m n words at₀ c₀ out at c = n - c
+μ-loop out₀ start form m n words at₀ c₀ out at c = n - c
 
 mul-plus : tie.Need-mul-plus Inv-loop μ-loop
 mul-plus c = search needs

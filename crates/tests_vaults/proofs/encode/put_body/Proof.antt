@@ -8,10 +8,10 @@ use Rattle.tests_vaults.proofs.encode.put_body.Statement.{statement}
 use Rattle.tests_vaults.proofs.encode.put_body.Tie as tie
 
 abbrev Inv-loop : tie.InvT-loop
-Inv-loop out₀ at m c n size a₀ k₀ out a k = (k ≤ n) × (length out ≡ length out₀)
+Inv-loop out₀ at form m c n size a₀ k₀ out a k = (k ≤ n) × (length out ≡ length out₀)
 
 abbrev μ-loop : tie.MeasureT-loop
-μ-loop out₀ at m c n size a₀ k₀ out a k = n - k
+μ-loop out₀ at form m c n size a₀ k₀ out a k = n - k
 
 chunk-size-requires : tie.Need-chunk-size-requires Inv-loop μ-loop
 chunk-size-requires c κs = search needs

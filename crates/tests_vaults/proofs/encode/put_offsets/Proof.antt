@@ -8,10 +8,10 @@ use Rattle.tests_vaults.proofs.encode.put_offsets.Statement.{statement}
 use Rattle.tests_vaults.proofs.encode.put_offsets.Tie as tie
 
 abbrev Inv-loop : tie.InvT-loop
-Inv-loop out₀ at m c k size a₀ p₀ out a p = (p ≤ size) × (length out ≡ length out₀)
+Inv-loop out₀ at form m c k size a₀ p₀ out a p = (p ≤ size) × (length out ≡ length out₀)
 
 abbrev μ-loop : tie.MeasureT-loop
-μ-loop out₀ at m c k size a₀ p₀ out a p = size - p
+μ-loop out₀ at form m c k size a₀ p₀ out a p = size - p
 
 loop-holds : tie.Need-loop-holds Inv-loop μ-loop
 loop-holds c = search needs

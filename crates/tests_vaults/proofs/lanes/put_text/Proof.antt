@@ -12,11 +12,8 @@ Inv-loop m₀ c size seed at₀ s₀ i₀ m at s i = (i ≤ size) × (length m �
 abbrev μ-loop : tie.MeasureT-loop
 μ-loop m₀ c size seed at₀ s₀ i₀ m at s i = size - i
 
-size-at-requires : tie.Need-size-at-requires Inv-loop μ-loop
-size-at-requires c κs = search needs
-
-put-2-requires : tie.Need-put-2-requires Inv-loop μ-loop
-put-2-requires c κs = search needs
+put-size-requires : tie.Need-put-size-requires Inv-loop μ-loop
+put-size-requires c κs = search needs
 
 loop-holds : tie.Need-loop-holds Inv-loop μ-loop
 loop-holds c = search needs
@@ -48,8 +45,7 @@ put-text-spec =
     (tie.spec
     Inv-loop
     μ-loop
-    size-at-requires
-    put-2-requires
+    put-size-requires
     loop-holds
     next-requires
     put-piece-requires

@@ -22,11 +22,8 @@ next-requires c κs = search needs
 chunk-length-requires : tie.Need-chunk-length-requires Inv-loop μ-loop
 chunk-length-requires c κs = search needs
 
-size-at-requires : tie.Need-size-at-requires Inv-loop μ-loop
-size-at-requires c κs = search needs
-
-put-2-requires : tie.Need-put-2-requires Inv-loop μ-loop
-put-2-requires c κs = search needs
+put-size-requires : tie.Need-put-size-requires Inv-loop μ-loop
+put-size-requires c κs = search needs
 
 chunk-at-requires : tie.Need-chunk-at-requires Inv-loop μ-loop
 chunk-at-requires c κs = search needs
@@ -58,8 +55,7 @@ make-chunks-spec =
     loop-holds
     next-requires
     chunk-length-requires
-    size-at-requires
-    put-2-requires
+    put-size-requires
     chunk-at-requires
     spell-requires
     add-c

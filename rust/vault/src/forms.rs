@@ -1,0 +1,79 @@
+//! What the formats bound, and what an index's mark says: the one place in which the wrapper, the command line and the benchmark have it.
+
+/// How an index of some mark is written.
+#[derive(Clone, Copy, Debug, PartialEq, Eq)]
+pub struct Form {
+    pub mark: [u8; 4],
+    /// Bytes of a field: an offset inside a chunk, or an exact count.
+    pub width: usize,
+    /// The longest chunk that it has a body of.
+    pub longest_chunk: usize,
+}
+
+/// The forms that the library reads, the oldest first.
+pub const FORMS: [Form; 2] =
+    [Form { mark: *b"DM1\n", width: 2, longest_chunk: 65_535 }, Form { mark: *b"DM2\n", width: 3, longest_chunk: 1_048_576 }];
+
+/// The form that a scan writes.
+pub const NEWEST: Form = FORMS[FORMS.len() - 1];
+
+/// The longest chunk that a store has.
+pub const LONGEST_CHUNK: usize = NEWEST.longest_chunk;
+
+/// The most chunks that a store or an index has.
+pub const MOST_CHUNKS: usize = 65_000;
+
+/// The longest store: no chunk ends beyond it (refusal 20), and the last one ends the store.
+pub const LONGEST_STORE: u64 = 4_294_967_295;
+
+impl Form {
+    /// The form of an index that [`check_index`](crate::check_index) accepts; of other bytes, the newest.
+    pub fn of(index: &[u8]) -> Form {
+        FORMS.into_iter().find(|form| index.starts_with(&form.mark)).unwrap_or(NEWEST)
+    }
+
+    /// What the mark says, without the line feed.
+    pub fn name(&self) -> String {
+        self.mark[..3].escape_ascii().to_string()
+    }
+
+    /// The bytes of a field.
+    pub fn field(&self, number: usize) -> Vec<u8> {
+        number.to_le_bytes()[..self.width].to_vec()
+    }
+
+    /// The field at a place of a good body.
+    pub fn field_at(&self, body: &[u8], at: usize) -> usize {
+        body[at..at + self.width].iter().rev().fold(0, |number, b| 256 * number + usize::from(*b))
+    }
+
+    /// Bytes of a record before its fields: keyword, kind, prefix, suffix, count.
+    pub const HEAD: usize = 5;
+}
+
+#[cfg(test)]
+mod tests {
+    use super::*;
+
+    #[test]
+    fn fields() {
+        for form in FORMS {
+            for number in [0, 1, 255, 256, 258, 65_535, form.longest_chunk] {
+                let body = [&[7][..], &form.field(number), &[9]].concat();
+                assert_eq!((body.len(), form.field_at(&body, 1)), (2 + form.width, number));
+            }
+        }
+        assert_eq!(FORMS[0].field(0x0102), [2, 1]);
+        assert_eq!(NEWEST.field(0x010203), [3, 2, 1]);
+        assert_eq!(NEWEST.field(LONGEST_CHUNK), [0, 0, 0x10]);
+    }
+
+    #[test]
+    fn by_the_mark() {
+        for form in FORMS {
+            assert_eq!(Form::of(&[&form.mark[..], &[0; 4]].concat()), form);
+        }
+        assert_eq!((FORMS[0].name(), NEWEST.name()), ("DM1".into(), "DM2".into()));
+        assert_eq!((Form::of(b"DM1\n\0\0\0\0").width, NEWEST.mark), (2, [0x44, 0x4D, 0x32, 0x0A]));
+    }
+}
