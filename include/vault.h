@@ -9,6 +9,9 @@
  * C0 to DE except D7 (hexadecimal) compare as the byte 20 (hexadecimal) higher, so that A to Z and the accented capitals of Latin-1 (ISO/IEC
  * 8859-1) meet their small letters; D7, DF, F7 and FF compare as themselves. An index that an earlier version, which folded 41 to 5A only, wrote with
  * flag 1 has to be scanned anew: no call can tell it from a new one or refuses it for its age, and a join of it may lack occurrences.
+ * The chunks of a store lie behind its directory, in the directory's order, and do not overlap. Between these, and behind the last one, the store may have
+ * holes: unused bytes, of any number and content. On two accepted stores that differ only there, with the same other arguments and buffers of equal
+ * length, every call answers and writes the same. Chunks end within 4,294,967,295 bytes; the store itself may be longer.
  * A chunk has 1 to 1,048,576 bytes. An index begins with its mark: a scan writes 44 4D 32 0A (hexadecimal; DM2), with which each offset inside a chunk
  * and each exact count takes 3 bytes. An index with the older mark 44 4D 31 0A (DM1) is read too by every call that takes an index: there these
  * fields take 2 bytes, and a chunk has at most 65,535.
@@ -34,8 +37,9 @@ extern "C" {
 /* A keyword list: 1 to 4. With fold flag 1, two keywords that differ only in case, as above, are alike (4). */
 uint8_t vault_check_keywords(const uint8_t *list, size_t list_length);
 
-/* A store: 5 to 8, and 20, an entry that ends beyond 4,294,967,295: entry by entry its length and its offset (7), then its end (20); behind
- * the entries the last end (7), then 8. */
+/* A store: 5 to 8, and 20, an entry that ends beyond 4,294,967,295: entry by entry its length and its offset (7: one before the end of the entry before,
+ * of the first before the directory's), then its end (20); behind the entries the last end (7: one beyond the store's), then 8. A store without chunks
+ * may have any length from 8 on. */
 uint8_t vault_check_store(const uint8_t *store, size_t store_length);
 
 /* A match index, under either mark: 10, 1 to 4, 11 to 13. */
@@ -59,7 +63,7 @@ uint8_t vault_scan_size(const uint8_t *list, size_t list_length, const uint8_t *
  * only; else once to measure and, where a keyword occurs in it, to write. Writing walks a chunk of at most 65,536 bytes once and a longer one
  * twice; moves are counted for one walk. For c chunks the bound is
  *   8 + list_length + 32 c + keywords x (11 c + 3 x store_length),
- * where that is at most 4,294,967,295. Answer, index and moves are the same either way. */
+ * holes counted, where that is at most 4,294,967,295. Answer, index and moves are the same either way. */
 uint8_t vault_scan(const uint8_t *list, size_t list_length, const uint8_t *store, size_t store_length,
                    uint8_t *out, size_t out_length, uint64_t *length, uint64_t *moves);
 
@@ -75,7 +79,8 @@ uint8_t vault_join(const uint8_t *index, size_t index_length, const uint8_t *rec
 
 /* ---- lookups by a fingerprint of 20 bytes */
 
-/* The chunk in a store: 0 when found, or 5 to 8, 20, 19, 15; where it starts in the store and how long it is, both 0 on a refusal. */
+/* The chunk in a store: 0 when found, or 5 to 8, 20, 19, 15; where it starts in the store and how long it is, without the hole behind it; both 0 on a
+ * refusal. */
 uint8_t vault_find_chunk(const uint8_t *store, size_t store_length, const uint8_t *key, size_t key_length);
 uint64_t vault_chunk_start(const uint8_t *store, size_t store_length, const uint8_t *key, size_t key_length);
 uint64_t vault_chunk_length(const uint8_t *store, size_t store_length, const uint8_t *key, size_t key_length);

@@ -4,6 +4,7 @@ use mathlib.Core.List.{[], _∷_, _++_}
 use Prim.Native.Nat.{ℕ}
 use Rattle.spec.specs.Search.{occurrencesIn, occurrencesInAll, restored, directSearch, searchJoinCode, searchCode}
 use Rattle.theory.specs.Cases.{store, keywords, recipes}
+use Rattle.theory.specs.Holes.{holedStore}
 use Rattle.theory.proofs.Cases.{definitions}
 use Rattle.spec.specs.Program.{decimalWithin, decimal, occurrenceText, occurrencesText, listText, refusedText, tooLongText, searchText, programText}
 
@@ -24,6 +25,11 @@ pub small-vault : programText store keywords recipes
     ++ (0x31 ∷ 0x20 ∷ 0x30 ∷ 0x20 ∷ 0x31 ∷ 0x0A ∷ [])
 unfolding texts
 small-vault = refl
+
+-- request #106: the same with holes in the store
+pub small-vault-with-holes : programText holedStore keywords recipes ≡ programText store keywords recipes
+unfolding texts
+small-vault-with-holes = refl
 
 -- refused 1
 pub no-files : programText [] [] [] ≡ 0x72 ∷ 0x65 ∷ 0x66 ∷ 0x75 ∷ 0x73 ∷ 0x65 ∷ 0x64 ∷ 0x20 ∷ 0x31 ∷ 0x0A ∷ []

@@ -1,7 +1,7 @@
--- The bound by which a scan writes in one walk. The idea: a store that passed its check is short, so the bound is a number of 64 bits; and an index is never
--- longer than its bound. Assumes nothing.
+-- The bound by which a scan writes in one walk. The idea: of a store within 32 bits the bound is a number of 64 bits, of a longer one it is beyond 32;
+-- and an index is never longer than its bound. Assumes nothing.
 use mathlib.Core.Path.{_≡_, sym, ap₂, _∙_}
-use mathlib.Core.Bool.{Bool, true, false, _&&_}
+use mathlib.Core.Bool.{Bool, true, false, _&&_, and-false}
 use mathlib.Core.List.{List}
 use Prim.Native.Nat.{ℕ, _+_, _*_, _≤_, _<_}
 use native.Mathlib.Nat.{mul-le-mul-right}
@@ -11,7 +11,6 @@ use mir.Val.{Fits}
 use lib.ListN.{length}
 use lib.Dec.{leb}
 use borrow.Author.Tests.{le-leb, lt-leb, leb-true}
-use Rattle.spec.specs.Store.{chunkCount}
 use Rattle.spec.specs.Form.{newest}
 use Rattle.spec.specs.Scan.{scanIndex}
 use Rattle.spec.proofs.StoreLaws.{store-good}
@@ -25,24 +24,28 @@ module _ {list : List ℕ} {words : Keywords} {store : List ℕ} {count : ℕ} (
   pub count-few : count ≤ 65000
   count-few = omega (arith, w .counted, store-good store (w .checked) .few)
 
-  -- a store that passed its check is short
-  pub store-few : length store ≤ 4294967295
-  store-few = store-good store (w .checked) .short
-
   -- what one keyword can take of the bound, and all of them
-  pub share-few : 11 * count + 3 * length store ≤ 11 * 65000 + 3 * 4294967295
-  share-few = omega (arith, count-few, store-few)
+  module _ (short : length store ≤ 4294967295) where
+    pub share-few : 11 * count + 3 * length store ≤ 11 * 65000 + 3 * 4294967295
+    share-few = omega (arith, count-few, short)
 
-  pub shares-few : words .count * (11 * count + 3 * length store) ≤ 16 * (11 * 65000 + 3 * 4294967295)
-  shares-few =
-      let few : words .count * (11 * count + 3 * length store) ≤ 16 * (11 * count + 3 * length store) =
-      mul-le-mul-right (11 * count + 3 * length store) (parsed list words (w .reads) .few) in
-      omega (arith, few, share-few)
+    pub shares-few : words .count * (11 * count + 3 * length store) ≤ 16 * (11 * 65000 + 3 * 4294967295)
+    shares-few =
+        let few : words .count * (11 * count + 3 * length store) ≤ 16 * (11 * count + 3 * length store) =
+        mul-le-mul-right (11 * count + 3 * length store) (parsed list words (w .reads) .few) in
+        omega (arith, few, share-few)
 
   pub most-is : 8 + length list + 32 * count + words .count * (11 * count + 3 * length store) ≡ mostBytes list store
   unfolding mostBytes
   most-is =
       ap₂ {C = ℕ} (λ n k. 8 + length list + 32 * n + k * (11 * n + 3 * length store)) (w .counted) (parsed list words (w .reads) .counts)
+
+  -- the bound of a longer store is beyond 32 bits
+  pub fits-never : 4294967295 < length store → (room : ℕ) → false ≡ (leb (mostBytes list store) room && leb (mostBytes list store) 4294967295)
+  fits-never h room =
+      let one : 1 * (11 * count + 3 * length store) ≤ words .count * (11 * count + 3 * length store) =
+      mul-le-mul-right (11 * count + 3 * length store) (parsed list words (w .reads) .nonempty) in
+      sym (rw (lt-leb (mostBytes list store) 4294967295 (omega (arith, one, most-is)), and-false))
 
   -- the comparison, by the way taken
   module _ (most room : ℕ) (e : most ≡ mostBytes list store) where

@@ -8,7 +8,7 @@ use native.Mathlib.Omega.{arith}
 use lib.ListN.{length, getD, length-append}
 use Rattle.spec.specs.Bytes.{leBytes, joined}
 use Rattle.spec.specs.Directory.{directoryEnd, sizeAt, offsetAt}
-use Rattle.spec.specs.Store.{storeLayout, storeKeys, chunkCount, chunkAt, storeCode}
+use Rattle.spec.specs.Store.{storeLayout, storeKeys, chunkCount, chunkAt, chunkEnd, storeCode}
 use Rattle.spec.specs.Outcome.{firstOf, firstCode, whole}
 use Rattle.spec.specs.Keywords.{countOf, keywordCode, keywordFrontCode}
 use Rattle.spec.specs.Form.{Form, newest}
@@ -120,33 +120,32 @@ module _ (list store : List ℕ) (good : storeCode store ≡ 0) where
     abbrev share : ℕ → ℕ → ℕ
     share n at = 11 * n + 3 * (length store - at)
 
-    bodies-share : (n k at : ℕ) → n + k ≡ chunkCount store → (0 < n → offsetAt storeLayout store k ≡ at)
+    bodies-share : (n k at : ℕ) → n + k ≡ chunkCount store → (0 < n → at ≤ offsetAt storeLayout store k)
         → length (bodiesFrom newest list store k) ≤ words .count * share n at
-    bodies-share zero k at e o = omega (arith, ap length (bodies-end newest list store k (omega arith)))
-    bodies-share (suc n) k at e o =
+    bodies-share zero k at e from = omega (arith, ap length (bodies-end newest list store k (omega arith)))
+    bodies-share (suc n) k at e from =
         let g = store-good store good in
         let l : k < chunkCount store = omega arith in
-        let size = sizeAt storeLayout store k in
-        let next : 0 < n → offsetAt storeLayout store (k + 1) ≡ at + size =
-        λ h. rw add-one (g .entries .next k (omega arith) (omega arith)) ∙ ap (λ (x : ℕ). x + size) (o (omega arith)) in
+        let end = chunkEnd store k in
+        let next : 0 < n → end ≤ offsetAt storeLayout store (k + 1) = λ h. rw add-one (g .chunks .next k (omega arith) (omega arith)) in
         let one = body-most list words reads (chunkAt store k) in
         let long = chunk-length store g k l in
-        let inside = g .entries .within k (omega arith) (omega arith) .1 in
-        let split : share (suc n) at ≡ (11 + 3 * length (chunkAt store k)) + share n (at + size) = omega (arith, long, inside, o (omega arith)) in
+        let inside = g .chunks .within k (omega arith) (omega arith) .1 in
+        let split : (11 + 3 * length (chunkAt store k)) + share n end ≤ share (suc n) at = omega (arith, long, inside, from (omega arith)) in
         omega (
           arith,
           bodies-length newest list store k l,
           one,
-          bodies-share n (k + 1) (at + size) (omega arith) next,
-          ap (λ (x : ℕ). words .count * x) split,
-          mul-add (words .count) (11 + 3 * length (chunkAt store k)) (share n (at + size)),
+          bodies-share n (k + 1) end (omega arith) next,
+          mul-le-mul-left (words .count) split,
+          mul-add (words .count) (11 + 3 * length (chunkAt store k)) (share n end),
         )
 
     pub index-most : words .count ≡ countOf list → length (scanIndex newest list store) ≤ mostBytes list store
     unfolding mostBytes
     index-most c =
         let first = directoryEnd storeLayout (chunkCount store) in
-        let b = bodies-share (chunkCount store) 0 first (omega arith) (store-good store good .entries .first) in
+        let b = bodies-share (chunkCount store) 0 first (omega arith) (λ h. store-good store good .chunks .within 0 (omega arith) (omega arith) .0) in
         let more : words .count * share (chunkCount store) first ≤ words .count * (11 * chunkCount store + 3 * length store) =
         mul-le-mul-left (words .count) (omega arith) in
         omega (arith, index-length, b, more, ap (λ (x : ℕ). x * (11 * chunkCount store + 3 * length store)) c)

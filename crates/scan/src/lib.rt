@@ -251,7 +251,8 @@ fn put_index(
 
 // ---- the scan
 
-// Whether the buffer has room for the index, whatever the chunks hold, so that nothing is measured before.
+// Whether the buffer has room for the index, whatever the chunks hold, so that nothing is measured before. With holes a store may have more than
+// 32 bits of bytes; the bound then has too.
 fn always_fits(
     list: &[u8],
     words: keywords::Keywords,
@@ -263,6 +264,9 @@ fn always_fits(
     ensures { λ r. ⌜ r ≡ (leb (mostBytes (now (list .entry)) (now (store .entry))) room && leb
         (mostBytes (now (list .entry)) (now (store .entry))) 4294967295) ⌝ }
 {
+    if LARGEST < store.len() {
+        return false;
+    }
     let most = 8 + list.len() + 32 * count + words.count * (11 * count + 3 * store.len());
     if room < most {
         return false;

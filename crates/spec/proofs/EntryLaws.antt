@@ -18,7 +18,7 @@ use Rattle.spec.proofs.Codes.{last-whole, or-left, or-right}
 use Rattle.spec.proofs.Same.{same-eq, same-refl, same-not}
 
 -- what holds of the first of a range, and of those after it
-range-cons : (P : ℕ → Type 0) (k n : ℕ) → P k → ((e : ℕ) → suc k ≤ e → e < suc k + n → P e) → (e : ℕ) → k ≤ e → e < k + suc n → P e
+pub range-cons : (P : ℕ → Type 0) (k n : ℕ) → P k → ((e : ℕ) → suc k ≤ e → e < suc k + n → P e) → (e : ℕ) → k ≤ e → e < k + suc n → P e
 range-cons P k n p h e l m = go (eq-or-lt-of-le l)
   where
     go : (k ≡ e) ⊎ (k < e) → P e

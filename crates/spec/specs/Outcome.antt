@@ -30,7 +30,7 @@ storeMarkWrong = 5
 abbrev pub storeDirectoryCut : ℕ
 storeDirectoryCut = 6
 
--- An entry of the store has a wrong length or offset, or the last end is not the store's.
+-- An entry of the store has a wrong length or offset, or the last end is beyond the store's.
 abbrev pub storeEntryWrong : ℕ
 storeEntryWrong = 7
 

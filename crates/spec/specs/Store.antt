@@ -31,17 +31,32 @@ pub record Chunk : Type 0 where
   pub key : List ℕ
   pub bytes : List ℕ
 
--- An entry for each chunk: fingerprint (20), offset (4), length L (4); the chunks lie one after the other from `at` on.
-unfoldable pub storeDirectoryBytes : ℕ → List Chunk → List ℕ
-storeDirectoryBytes at [] = []
-storeDirectoryBytes at (c ∷ cs) = c .key ++ leBytes 4 at ++ leBytes 4 (length (c .bytes)) ++ storeDirectoryBytes (at + length (c .bytes)) cs
+-- A chunk as it lies in a store: behind unused bytes, a hole (request #106), or behind none.
+pub record Placed : Type 0 where
+  pub hole : List ℕ
+  pub chunk : Chunk
 
--- Mark, chunk count, directory, chunks.
+-- An entry for each chunk: fingerprint (20), offset (4), length L (4); holes and chunks lie one after the other from `at` on.
+unfoldable pub storeDirectoryBytes : ℕ → List Placed → List ℕ
+storeDirectoryBytes at [] = []
+storeDirectoryBytes at (p ∷ ps) =
+    p .chunk .key ++ leBytes 4 (at + length (p .hole)) ++ leBytes 4 (length (p .chunk .bytes))
+    ++ storeDirectoryBytes (at + length (p .hole) + length (p .chunk .bytes)) ps
+
+-- Mark, chunk count, directory, the chunks with the holes before them; behind the last chunk a hole more.
+unfoldable pub placedBytes : List Placed → List ℕ → List ℕ
+placedBytes placed hole =
+    storeMark ++ leBytes 4 (length placed)
+    ++ storeDirectoryBytes (8 + 28 * length placed) placed
+    ++ joined (map (λ p. p .hole ++ p .chunk .bytes) placed)
+    ++ hole
+
+-- Without holes, as document 01 has it.
+abbrev pub gapless : Chunk → Placed
+gapless c = record { hole = []; chunk = c }
+
 unfoldable pub storeBytes : List Chunk → List ℕ
-storeBytes chunks =
-    storeMark ++ leBytes 4 (length chunks)
-    ++ storeDirectoryBytes (8 + 28 * length chunks) chunks
-    ++ joined (map (λ c. c .bytes) chunks)
+storeBytes chunks = placedBytes (map gapless chunks) []
 
 -- ---- reading
 
@@ -62,14 +77,15 @@ chunksOf store = each (λ k. chunkAt store k ∷ []) 0 (chunkCount store)
 abbrev pub chunkEnd : List ℕ → ℕ → ℕ
 chunkEnd store k = offsetAt storeLayout store k + sizeAt storeLayout store k
 
--- Entry by entry, n of them from entry k on: a length L out of range, an offset that is not where the one before ended (`at`), an end beyond
--- 4,294,967,295 (request #105); then a last end that is not the end of the store.
+-- Entry by entry, n of them from entry k on: a length L out of range, an offset before the end of the one before (`at`; of the first, before the
+-- directory's end), an end beyond 4,294,967,295 (request #105); then a last end beyond the store's. Bytes behind the directory that no entry points to
+-- are holes: before, between and behind the chunks (request #106).
 abbrev pub chunksCode : List ℕ → ℕ → ℕ → ℕ → ℕ
-chunksCode store zero k at = firstOf ((not (eqb at (length store)), storeEntryWrong) ∷ [])
+chunksCode store zero k at = firstOf ((ltb (length store) at, storeEntryWrong) ∷ [])
 chunksCode store (suc n) k at =
     firstOf
     ((eqb (sizeAt storeLayout store k) 0 || ltb (newest .longestChunk) (sizeAt storeLayout store k), storeEntryWrong)
-    ∷ (not (eqb (offsetAt storeLayout store k) at), storeEntryWrong)
+    ∷ (ltb (offsetAt storeLayout store k) at, storeEntryWrong)
     ∷ (ltb largest32 (chunkEnd store k), storeEntryBeyond)
     ∷ whole (chunksCode store n (suc k) (chunkEnd store k))
     ∷ [])

@@ -1,7 +1,7 @@
 -- The answers of the store check and of a lookup, each by the tests that led there. Assumes nothing.
-use mathlib.Core.Path.{_≡_, refl, sym, ap, ap₂, _∙_}
+use mathlib.Core.Path.{_≡_, sym, ap, ap₂, _∙_}
 use mathlib.Core.Logic.{_≢_}
-use mathlib.Core.Bool.{Bool, true, false, cond, _||_, not}
+use mathlib.Core.Bool.{Bool, true, false, cond, _||_}
 use mathlib.Core.List.{List, [], _∷_}
 use Prim.Native.Nat.{ℕ, zero, suc, _+_, _*_, _-_, _≤_, _<_}
 use native.Mathlib.Nat.{add-sub-cancel-left}
@@ -38,10 +38,10 @@ next-not-8 false false false (suc x) h e = h (rw (lt-ltb 0 (suc x) (omega arith)
 
 -- none is that of a duplicate
 chunks-not-8 : (store : List ℕ) (n k at : ℕ) → chunksCode store n k at ≢ 8
-chunks-not-8 store zero k at = last-not-8 (not (eqb at (length store)))
+chunks-not-8 store zero k at = last-not-8 (ltb (length store) at)
 chunks-not-8 store (suc n) k at =
     next-not-8 (eqb (sizeAt storeLayout store k) 0 || ltb (newest .longestChunk) (sizeAt storeLayout store k))
-    (not (eqb (offsetAt storeLayout store k) at)) (ltb largest32 (chunkEnd store k)) (chunksCode store n (suc k) (chunkEnd store k))
+    (ltb (offsetAt storeLayout store k) at) (ltb largest32 (chunkEnd store k)) (chunksCode store n (suc k) (chunkEnd store k))
     (chunks-not-8 store n (suc k) (chunkEnd store k))
 
 -- ---- the store check
@@ -134,7 +134,7 @@ module _ (store : List ℕ) (k : ℕ) (entry : StoreEntry store k) where
   entry-room = omega (arith, entry .within, store-good store (entry .checked) .room)
 
   pub chunk-room : offsetAt storeLayout store k + lengthAt storeLayout store k ≤ length store
-  chunk-room = store-good store (entry .checked) .entries .within k (omega arith) (omega (arith, entry .within)) .1
+  chunk-room = store-good store (entry .checked) .chunks .within k (omega arith) (omega (arith, entry .within)) .1
 
   pub key-is : part store (8 + 28 * k) 20 ≡ getD (storeKeys store) k []
   unfolding storeKeys

@@ -35,7 +35,8 @@ const LONGEST: usize = 1048576;
 
 const LARGEST: usize = 4294967295;
 
-// The entries: each one's length, offset and end; then the last end. The number of the first that is wrong.
+// The entries: each one's length, offset (at or after the end before) and end; then the last end, which may lie before the store's. The number of the
+// first that is wrong.
 fn entries(store: &[u8], count: usize) -> u8
     requires { ⌜ 8 + 28 * count ≤ length (now store) ⌝ }
     ensures { λ r. ⌜ r ≡ chunksCode (now (store .entry)) count 0 (8 + 28 * count) ⌝ }
@@ -53,7 +54,7 @@ fn entries(store: &[u8], count: usize) -> u8
         if LONGEST < size {
             return 7;
         }
-        if offset != at {
+        if offset < at {
             return 7;
         }
         if LARGEST < end {
@@ -62,7 +63,7 @@ fn entries(store: &[u8], count: usize) -> u8
         at = end;
         k = next;
     }
-    if at != store.len() {
+    if store.len() < at {
         return 7;
     }
     0

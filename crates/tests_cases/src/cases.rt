@@ -4,12 +4,13 @@ use tests_plain::case;
 use tests_plain::case::check_code;
 use tests_plain::records::note_all;
 use tests_report::kinds::see;
+use tests_report::kinds::see_holes;
 use tests_report::kinds::see_lanes;
 use tests_report::moves::put_moves;
 use tests_report::tally;
 use tests_report::tally::bump;
 use tests_report::tally::expect;
-use tests_report::tally::torn_place;
+use tests_report::tally::store_place;
 use tests_runs::lookups::lookups;
 use tests_runs::runs::checks;
 use tests_runs::runs::join_runs;
@@ -102,8 +103,15 @@ fn run_torn(counts: &mut [u64], f: &[u8], n: usize, buffer: &mut [u8]) {
     checks(counts, f);
     lookups(counts, f, n);
     scan_runs(counts, f, buffer);
-    bump(counts, torn_place(check_code(f, 1)));
+    bump(counts, store_place(check_code(f, 1)));
     bump(counts, tally::CASES);
+}
+
+// The holes of a store that is accepted.
+fn see_accepted(counts: &mut [u64], m: &[u8], f: &[u8]) {
+    if check_code(f, 1) == 0 {
+        see_holes(counts, m, f);
+    }
 }
 
 // The store of vault number n, torn.
@@ -114,6 +122,7 @@ pub(crate) fn torn(counts: &mut [u64], n: usize, f: &mut [u8], buffer: &mut [u8]
     encode(f, NEW, &m);
     put_torn(f, next((n % 1000000) as u64 + 5));
     run_torn(counts, f, n, buffer);
+    see_accepted(counts, &m, f);
 }
 
 // Index number n at the borders of the marks; m is the small vault.

@@ -1,4 +1,5 @@
-// Vaults whose stores are written again with their chunks in another order: reversed, rotated, shuffled.
+// Vaults whose stores are written again with their chunks in another order: reversed, rotated, shuffled; and with holes of their own, in which
+// what stood there before is left.
 use tests_plain::bytes::copy;
 use tests_plain::bytes::get;
 use tests_plain::bytes::get_4;
@@ -16,9 +17,10 @@ use tests_report::report::report_cases;
 use tests_runs::pairs::checks_both;
 use tests_runs::pairs::lookups_both;
 use tests_runs::pairs::runs_both;
-use tests_runs::pairs::saw_both;
+use tests_runs::pairs::saw_orders;
 use tests_runs::pairs::scan_index;
 use tests_vaults::fill::put_scanned;
+use tests_vaults::holes::hole_length;
 use tests_vaults::make::make;
 
 const VAULTS: usize = 1200;
@@ -86,11 +88,17 @@ fn put_chunk(g: &mut [u8], f: &[u8], p: usize, c: usize, at: usize) -> usize {
     plus(at, size)
 }
 
-fn put_chunks(g: &mut [u8], f: &[u8], order: &[u8], n: usize) {
-    let mut at = 8 + 28 * (n % 16);
+// Chunks and holes; where the last hole ends.
+fn put_chunks(g: &mut [u8], f: &[u8], order: &[u8], n: usize, seed: u64) -> usize {
+    let bits = pick(seed, 8);
+    let mut s = seed;
+    let mut at = plus(8 + 28 * (n % 16), hole_length(bits, 0, n, s));
     for p in 0..n {
-        at = put_chunk(g, f, p, num(order, p), at);
+        s = next(s);
+        let end = put_chunk(g, f, p, num(order, p), at);
+        at = plus(end, hole_length(bits, plus(p, 1), n, s));
     }
+    at
 }
 
 // g becomes f with the n chunks of its store in another order.
@@ -99,25 +107,26 @@ fn reorder(g: &mut [u8], f: &[u8], way: usize, n: usize, seed: u64) {
     put_order(&mut order, way, n);
     shuffle_if(&mut order, way, n, seed);
     copy(g, 0, f, 0, case::row_at(f, 0));
-    put_chunks(g, f, &order, n);
+    let end = put_chunks(g, f, &order, n, next(seed));
+    case::put_length(g, 1, plus(case::STORE, end));
 }
 
 // ---- the cases
 
-// Every operation on both.
-fn run_all(counts: &mut [u64], f: &[u8], g: &[u8], a: &mut [u8], b: &mut [u8]) {
+// Every operation on both, once g's index is what the scan of its store writes.
+pub(crate) fn run_pair(counts: &mut [u64], f: &[u8], g: &mut [u8], a: &mut [u8], b: &mut [u8]) {
+    scan_index(g, b);
     checks_both(counts, f, g);
     runs_both(counts, f, g, a, b);
     lookups_both(counts, f, g);
-    saw_both(counts, f, g);
 }
 
 // Case number j: f's store in the order number j % 3.
 fn run_order(counts: &mut [u64], j: usize, f: &[u8], g: &mut [u8], a: &mut [u8], b: &mut [u8]) {
     let n = get_4(case::store(f), 4) % 16;
     reorder(g, f, j % 3, n, next((j % 1000000) as u64 + 3));
-    scan_index(g, b);
-    run_all(counts, f, g, a, b);
+    run_pair(counts, f, g, a, b);
+    saw_orders(counts, f, g);
 }
 
 fn run_orders(counts: &mut [u64], i: usize, f: &[u8], g: &mut [u8], a: &mut [u8], b: &mut [u8]) {
@@ -127,12 +136,17 @@ fn run_orders(counts: &mut [u64], i: usize, f: &[u8], g: &mut [u8], a: &mut [u8]
     run_order(counts, plus(j, SHUFFLED), f, g, a, b);
 }
 
+// Vault number i, as a model and as a case.
+pub(crate) fn put_vault(i: usize, m: &mut [u8], f: &mut [u8], buffer: &mut [u8]) {
+    make(m, i);
+    put_scanned(f, m, buffer);
+    put_moves(f, m);
+}
+
 // Vault number i.
 fn run_vault(counts: &mut [u64], i: usize, f: &mut [u8], g: &mut [u8], a: &mut [u8], b: &mut [u8]) {
     let mut m = case::room();
-    make(&mut m, i);
-    put_scanned(f, &mut m, a);
-    put_moves(f, &m);
+    put_vault(i, &mut m, f, a);
     run_orders(counts, i, f, g, a, b);
 }
 

@@ -15,7 +15,7 @@ const SCANNED: usize = 2400;
 
 const INVENTED: usize = 1200;
 
-const PAIRS: usize = 3844;
+const PAIRS: usize = 4225;
 
 // Vault number i, scanned, joined and searched.
 fn run_scanned(counts: &mut [u64], f: &mut [u8], buffer: &mut [u8]) {
@@ -41,7 +41,7 @@ fn run_torn(counts: &mut [u64], f: &mut [u8], buffer: &mut [u8]) {
     }
 }
 
-// Every two faults, and every fault alone: pair number t is of faults t / 62 and t % 62.
+// Every two faults, and every fault alone: pair number t is of faults t / 65 and t % 65.
 fn run_faults(counts: &mut [u64], m: &[u8], f: &mut [u8], buffer: &mut [u8]) {
     let n = PAIRS;
     for t in 0..n {

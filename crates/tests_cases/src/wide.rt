@@ -1,5 +1,5 @@
-// The cases of request #105: chunks longer than a window of the scan's walk; stores that reach beyond 4,294,967,295; a chunk of the longest
-// length.
+// The cases of requests #105 and #106: chunks longer than a window of the scan's walk; stores told by their directories, some of which reach
+// beyond 4,294,967,295; a chunk of the longest length.
 use tests_plain::case;
 use tests_plain::case::check_code;
 use tests_plain::model;
@@ -8,9 +8,9 @@ use tests_report::moves::put_moves;
 use tests_report::report;
 use tests_report::report::report_cases;
 use tests_report::tally;
-use tests_report::tally::beyond_place;
 use tests_report::tally::bump;
 use tests_report::tally::expect;
+use tests_report::tally::store_place;
 use tests_runs::longest::longest_chunk;
 use tests_runs::lookups::lookups;
 use tests_runs::runs::checks;
@@ -54,7 +54,7 @@ fn run_wides(counts: &mut [u64], f: &mut [u8], buffer: &mut [u8]) {
     }
 }
 
-// ---- stores that reach beyond
+// ---- stores told by their directories
 
 // A store, checked, searched for chunks, scanned and searched.
 fn run_store(counts: &mut [u64], f: &[u8], n: usize, buffer: &mut [u8]) {
@@ -66,7 +66,7 @@ fn run_store(counts: &mut [u64], f: &[u8], n: usize, buffer: &mut [u8]) {
 
 fn saw_store(counts: &mut [u64], code: u8, told: u8) {
     expect(counts, code == told);
-    bump(counts, beyond_place(code));
+    bump(counts, store_place(code));
     bump(counts, tally::CASES);
 }
 
@@ -102,11 +102,8 @@ fn wides(counts: &mut [u64], f: &mut [u8], buffer: &mut [u8]) {
 fn beyonds(counts: &mut [u64], f: &mut [u8], buffer: &mut [u8]) {
     put_small(f, buffer);
     run_beyonds(counts, f, buffer);
-    report_cases(
-        b"stores of a directory alone, of 4,095 entries or more",
-        counts,
-    );
-    report::beyond(counts);
+    report_cases(b"stores told by their directories", counts);
+    report::stores(counts);
 }
 
 fn longest(counts: &mut [u64], buffer: &mut [u8]) {

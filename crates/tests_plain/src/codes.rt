@@ -96,27 +96,35 @@ fn entry_at(e: usize) -> usize {
     8 + 28 * (e % 65536)
 }
 
-// The length of the chunk that an entry tells.
-fn told_size(s: &[u8], entry: usize) -> usize {
-    get_4(s, plus(entry, 24))
+// Where the chunk that an entry tells starts, and where it ends.
+fn told_start(s: &[u8], entry: usize) -> usize {
+    get_4(s, plus(entry, 20))
 }
 
-// The number of an entry whose chunk must start at `at`: 7, 20 or 0.
+fn told_end(s: &[u8], entry: usize) -> usize {
+    plus(told_start(s, entry), get_4(s, plus(entry, 24)))
+}
+
+// The number of an entry whose chunk may start at `at` or behind it: 7, 20 or 0.
 fn entry_code(s: &[u8], at: usize, entry: usize) -> u8 {
-    let size = told_size(s, entry);
+    let size = get_4(s, plus(entry, 24));
     if size == 0 {
         return 7;
     }
     if 1048576 < size {
         return 7;
     }
-    if get_4(s, plus(entry, 20)) != at {
+    if told_start(s, entry) < at {
         return 7;
     }
-    if 4294967295 < plus(at, size) { 20 } else { 0 }
+    if 4294967295 < told_end(s, entry) {
+        20
+    } else {
+        0
+    }
 }
 
-// The number of the n entries: that of the first that has one; then 7 where the last chunk does not end the store.
+// The number of the n entries: that of the first that has one; then 7 where the last chunk ends beyond the store.
 fn entries_code(s: &[u8], n: usize) -> u8 {
     let mut at = entry_at(n);
     for e in 0..n {
@@ -124,9 +132,9 @@ fn entries_code(s: &[u8], n: usize) -> u8 {
         if code != 0 {
             return code;
         }
-        at = plus(at, told_size(s, entry_at(e)));
+        at = told_end(s, entry_at(e));
     }
-    if at == s.len() { 0 } else { 7 }
+    if s.len() < at { 7 } else { 0 }
 }
 
 fn any_twice(s: &[u8], n: usize) -> bool {

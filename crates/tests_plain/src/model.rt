@@ -1,5 +1,5 @@
-// A vault, apart from the formats, in one array of 120,700 bytes: counts, keywords, match records, files and chunks at fixed places. The first
-// chunk is the last in the array, so that it can be as long as a longer array allows.
+// A vault, apart from the formats, in one array of 120,700 bytes: counts, keywords, match records, files, chunks and the store's holes at fixed
+// places. The first chunk is the last in the array, so that it can be as long as a longer array allows.
 ghost use mathlib.Core.Path.{_≡_};
 ghost use lib.ListN.{length};
 use crate::bytes::get_3;
@@ -56,6 +56,18 @@ pub fn put_size(m: &mut [u8], c: usize, size: usize) {
 pub fn chunk_at(c: usize) -> usize {
     70000 + 4224 * (11 - c % 12)
 }
+
+// Hole c lies before chunk c in the store, or behind the last: its length and two numbers for what fills it, a byte each.
+pub fn hole_at(c: usize) -> usize {
+    600 + 3 * (c % 16)
+}
+
+pub fn hole_size(m: &[u8], c: usize) -> usize {
+    num(m, hole_at(c))
+}
+
+// What is added to each byte of the holes.
+pub const HOLE_SHIFT: usize = 590;
 
 // The record of chunk c and keyword k: prefix and suffix, a byte each; apart from that a byte for each offset p, 1 where it is recorded, in
 // chunks that are not long.

@@ -1,4 +1,5 @@
 // What is due: the numbers, values and bytes that an operation must answer on a case, and the comparison with what it answered.
+use crate::holes::chunk_count;
 use crate::lanes::is_linked;
 use crate::tally;
 use crate::tally::bump;
@@ -92,10 +93,6 @@ pub(crate) fn times(a: usize, b: usize) -> usize {
         n = plus(n, b);
     }
     n
-}
-
-fn chunk_count(f: &[u8]) -> usize {
-    get_4(case::store(f), 4)
 }
 
 // The bound: a scan into a buffer of this length, or a longer one, measures nothing before it writes.

@@ -1,4 +1,5 @@
 // The kinds of a case, by what is found in its model and its list, whatever it was made for.
+use crate::holes;
 use crate::lanes;
 use crate::tally::KINDS;
 use crate::tally::saw;
@@ -37,6 +38,13 @@ pub(crate) const WIDE: usize = 96;
 
 pub(crate) const ALL_WIDE: usize = 13;
 
+// Those by the holes of the store; the last is of stores without chunks.
+pub(crate) const HOLES: usize = 112;
+
+pub(crate) const ALL_HOLES: usize = 7;
+
+pub(crate) const CHUNK_HOLES: usize = 6;
+
 // For each kind, how many witnesses there are to try, in units of 64.
 const WITNESSES: [u8; 30] = [
     1,
@@ -74,6 +82,8 @@ const WITNESSES: [u8; 30] = [
 const LANE_WITNESSES: [u8; 17] = [1, 1, 1, 1, 1, 1, 1, 64, 2, 2, 8, 4, 4, 1, 1, 1, 1];
 
 const WIDE_WITNESSES: [u8; 13] = [1, 1, 1, 1, 1, 16, 1, 1, 8, 1, 1, 1, 1];
+
+const HOLE_WITNESSES: [u8; 7] = [1, 1, 1, 1, 96, 96, 1];
 
 // ---- files and chunks
 
@@ -416,7 +426,10 @@ fn shows(m: &[u8], f: &[u8], kind: usize, t: usize) -> bool {
     if kind < WIDE {
         return lanes::shows(m, f, less(kind, LANES), t);
     }
-    wide::shows(m, f, less(kind, WIDE), t)
+    if kind < HOLES {
+        return wide::shows(m, f, less(kind, WIDE), t);
+    }
+    holes::shows(m, f, less(kind, HOLES), t)
 }
 
 fn witnesses(kind: usize) -> usize {
@@ -426,7 +439,10 @@ fn witnesses(kind: usize) -> usize {
     if kind < WIDE {
         return 64 * (num(&LANE_WITNESSES, less(kind, LANES)) % 256);
     }
-    64 * (num(&WIDE_WITNESSES, less(kind, WIDE)) % 256)
+    if kind < HOLES {
+        return 64 * (num(&WIDE_WITNESSES, less(kind, WIDE)) % 256);
+    }
+    64 * (num(&HOLE_WITNESSES, less(kind, HOLES)) % 256)
 }
 
 fn is_of(m: &[u8], f: &[u8], kind: usize) -> bool {
@@ -447,17 +463,25 @@ fn see_from(counts: &mut [u64], m: &[u8], f: &[u8], first: usize, n: usize) {
     }
 }
 
+// Counts the kinds of a case by its holes.
+pub fn see_holes(counts: &mut [u64], m: &[u8], f: &[u8]) {
+    see_from(counts, m, f, HOLES, ALL_HOLES);
+}
+
 // Counts the kinds of a case.
 pub fn see(counts: &mut [u64], m: &[u8], f: &[u8]) {
     see_from(counts, m, f, 0, ALL);
+    see_holes(counts, m, f);
 }
 
 // Counts the kinds of a case with long chunks.
 pub fn see_lanes(counts: &mut [u64], m: &[u8], f: &[u8]) {
     see_from(counts, m, f, LANES, ALL_LANES);
+    see_holes(counts, m, f);
 }
 
 // Counts the kinds of a case with a chunk of about a window, or longer.
 pub fn see_wide(counts: &mut [u64], m: &[u8], f: &[u8]) {
     see_from(counts, m, f, WIDE, ALL_WIDE);
+    see_holes(counts, m, f);
 }

@@ -1,8 +1,8 @@
 // The kinds of a case with long chunks, by what is found in its model. A chunk of 256 bytes or more has four quarters, and 0 to 3 bytes behind.
 use crate::due::times;
+use crate::holes::chunk_bytes;
 use crate::kinds::is_chunk_of;
 use crate::moves::nodes;
-use tests_plain::bytes::get_4;
 use tests_plain::bytes::less;
 use tests_plain::bytes::plus;
 use tests_plain::case;
@@ -120,11 +120,7 @@ fn is_part(m: &[u8], j: usize, k: usize, end: bool) -> bool {
 
 // The moves are more than the bytes of the chunks, so links were followed.
 pub(crate) fn is_linked(f: &[u8]) -> bool {
-    let bytes = less(
-        case::length_of(f, 1),
-        8 + 28 * (get_4(case::store(f), 4) % 65536),
-    );
-    bytes < case::moves(f)
+    chunk_bytes(f) < case::moves(f)
 }
 
 // ---- all of them

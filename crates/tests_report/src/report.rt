@@ -36,10 +36,10 @@ pub fn report_cases(name: &[u8], counts: &mut [u64]) {
     }
 }
 
-// The kinds of the cases since the last such report.
-pub fn report_kinds(counts: &mut [u64]) {
-    kinds(counts);
-    tally::clear(counts, tally::KINDS, kinds::ALL);
+// n counters, since the last such report.
+fn report_lines(names: &[u8], counts: &mut [u64], from: usize, n: usize) {
+    lines(names, counts, from, n);
+    tally::clear(counts, from, n);
 }
 
 // Names, 40 bytes each.
@@ -97,16 +97,21 @@ const BUFFER_NAMES: [u8; 320] = *b"\
     a byte short, list of a search          \
     a byte short, index of a search         ";
 
-const TORN_NAMES: [u8; 200] = *b"\
+const HOLE_NAMES: [u8; 280] = *b"\
+    - without holes                         \
+    - with a hole before the first chunk    \
+    - with a hole between chunks            \
+    - with a hole behind the last chunk     \
+    - with a keyword from chunk into hole   \
+    - with a keyword from hole into chunk   \
+    - with a hole and no chunks             ";
+
+const STORE_NAMES: [u8; 240] = *b"\
     - accepted                              \
     - refused with 5                        \
     - refused with 6                        \
     - refused with 7                        \
-    - refused with 8                        ";
-
-const BEYOND_NAMES: [u8; 120] = *b"\
-    - refused with 6                        \
-    - refused with 7                        \
+    - refused with 8                        \
     - refused with 20                       ";
 
 const NUMBER_NAMES: [u8; 840] = *b"\
@@ -132,17 +137,28 @@ const NUMBER_NAMES: [u8; 840] = *b"\
     answered 19                             \
     answered 20                             ";
 
-fn kinds(counts: &[u64]) {
-    lines(&KIND_NAMES, counts, tally::KINDS, kinds::ALL);
+// The first n kinds by the holes.
+fn holes(counts: &mut [u64], n: usize) {
+    report_lines(&HOLE_NAMES, counts, plus(tally::KINDS, kinds::HOLES), n);
 }
 
-pub fn torn(counts: &[u64]) {
-    lines(&TORN_NAMES, counts, tally::TORN, 5);
+// The kinds of the cases.
+pub fn report_kinds(counts: &mut [u64]) {
+    report_lines(&KIND_NAMES, counts, tally::KINDS, kinds::ALL);
+    holes(counts, kinds::ALL_HOLES);
 }
 
-// Stores of a directory alone.
-pub fn beyond(counts: &[u64]) {
-    lines(&BEYOND_NAMES, counts, tally::BEYOND, 3);
+// Stores by their numbers.
+pub fn stores(counts: &mut [u64]) {
+    report_lines(&STORE_NAMES, counts, tally::STORES, 6);
+}
+
+// Torn stores by their numbers, and by the holes of those that are accepted.
+pub fn torn(counts: &mut [u64]) {
+    let accepted = count_at(counts, tally::STORES);
+    stores(counts);
+    line(b"torn stores accepted", accepted);
+    holes(counts, kinds::ALL_HOLES);
 }
 
 const LANE_NAMES: [u8; 680] = *b"\
@@ -165,13 +181,14 @@ const LANE_NAMES: [u8; 680] = *b"\
     - with fold flag 1                      ";
 
 // The kinds of the cases with long chunks.
-pub fn lanes(counts: &[u64]) {
+pub fn lanes(counts: &mut [u64]) {
     lines(
         &LANE_NAMES,
         counts,
         plus(tally::KINDS, kinds::LANES),
         kinds::ALL_LANES,
     );
+    holes(counts, kinds::CHUNK_HOLES);
 }
 
 const WIDE_NAMES: [u8; 520] = *b"\
@@ -190,13 +207,14 @@ const WIDE_NAMES: [u8; 520] = *b"\
     - with fold flag 1                      ";
 
 // The kinds of the cases with a chunk of about a window, or longer.
-pub fn wide(counts: &[u64]) {
+pub fn wide(counts: &mut [u64]) {
     lines(
         &WIDE_NAMES,
         counts,
         plus(tally::KINDS, kinds::WIDE),
         kinds::ALL_WIDE,
     );
+    holes(counts, kinds::CHUNK_HOLES);
 }
 
 const MOVE_NAMES: [u8; 440] = *b"\
@@ -210,18 +228,36 @@ const MOVE_NAMES: [u8; 440] = *b"\
     - of a chunk of 256 bytes or more       \
     - of a chunk longer than a window       \
     - with links followed                   \
-    - of two orders                         ";
+    - of two stores                         ";
 
-const ORDER_NAMES: [u8; 240] = *b"\
+const ORDER_NAMES: [u8; 160] = *b"\
     - with another order of the index       \
+    - with holes in neither                 \
+    - with holes in one                     \
+    - with holes in both                    ";
+
+const OTHER_HOLE_NAMES: [u8; 120] = *b"\
+    - with other bytes in their holes       \
+    - with more bytes behind                \
+    - with fewer bytes behind               ";
+
+const PAIR_NAMES: [u8; 200] = *b"\
     - that list occurrences                 \
     - that list none                        \
     - that the scan refuses                 \
     - that the join refuses                 \
-    answers of two orders compared          ";
+    answers of two stores compared          ";
 
-pub fn orders(counts: &[u64]) {
-    lines(&ORDER_NAMES, counts, tally::ORDERS, 6);
+// Stores in another order.
+pub fn orders(counts: &mut [u64]) {
+    lines(&ORDER_NAMES, counts, tally::ORDERS, 4);
+    report_lines(&PAIR_NAMES, counts, tally::PAIRS, 5);
+}
+
+// Stores with other holes.
+pub fn other_holes(counts: &mut [u64]) {
+    lines(&OTHER_HOLE_NAMES, counts, tally::OTHER_HOLES, 3);
+    report_lines(&PAIR_NAMES, counts, tally::PAIRS, 5);
 }
 
 const OUTPUT_NAMES: [u8; 160] = *b"\
@@ -237,8 +273,7 @@ const OUTPUT_BUFFER_NAMES: [u8; 120] = *b"\
 
 // The outputs since the last such report.
 pub fn outputs(counts: &mut [u64]) {
-    lines(&OUTPUT_NAMES, counts, tally::OUTPUTS, 4);
-    tally::clear(counts, tally::OUTPUTS, 4);
+    report_lines(&OUTPUT_NAMES, counts, tally::OUTPUTS, 4);
 }
 
 pub fn output_buffers(counts: &[u64]) {

@@ -3,19 +3,16 @@
 use tests_plain::bytes::less;
 use tests_plain::bytes::plus;
 
-pub fn torn_place(code: u8) -> usize {
-    plus(TORN, less(code as usize, 4))
-}
-
-pub fn beyond_place(code: u8) -> usize {
+// The counter of stores that give a number.
+pub fn store_place(code: u8) -> usize {
     if code == 20 {
-        return BEYOND + 2;
+        return STORES + 5;
     }
-    plus(BEYOND, less(code as usize, 6))
+    plus(STORES, less(code as usize, 4))
 }
 
 // Places of the counters: numbers 0 to 20, operations, differences, cases since the last line, kinds of cases (those of long chunks 64 behind,
-// those of chunks longer than a window 96 behind), kinds of buffers.
+// those of chunks longer than a window 96 behind, those by holes 112 behind), kinds of buffers.
 pub(crate) const OPERATIONS: usize = 32;
 
 pub(crate) const DIFFERENCES: usize = 42;
@@ -26,10 +23,8 @@ pub(crate) const KINDS: usize = 48;
 
 pub(crate) const BUFFERS: usize = 80;
 
-// Torn stores that gave 0, 5, 6, 7, 8; stores of a directory alone that gave 6, 7, 20.
-pub(crate) const TORN: usize = 88;
-
-pub(crate) const BEYOND: usize = 93;
+// Stores that gave 0, 5, 6, 7, 8, 20.
+pub(crate) const STORES: usize = 88;
 
 // Outputs of the search program: those that list occurrences, list none, tell a refusal, name a file; then by their buffers: long, exact, a
 // byte short.
@@ -37,17 +32,25 @@ pub const OUTPUTS: usize = 96;
 
 pub const OUTPUT_BUFFERS: usize = 100;
 
-// Stores in another order: those with another index, that list occurrences, list none, are refused by the scan, by the join; then the
-// answers that were compared.
+// Stores in another order: those with another index; with holes in neither, in one, in both.
 pub const ORDERS: usize = 104;
 
 // Scans whose moves were compared: all; into a buffer of the bound at which a scan measures nothing, a longer one, one a byte shorter, a
 // shorter one; of stores without chunks, with chunks below 256 bytes alone, with longer ones, with one longer than a window; with links
-// followed; of two orders.
+// followed; of two stores.
 pub const MOVES: usize = 132;
 
+// Stores with other holes: those with other bytes in them, with more bytes behind the last chunk, with fewer.
+pub const OTHER_HOLES: usize = 168;
+
+// Two stores, in another order or with other holes: those that list occurrences, list none, are refused by the scan, by the join; then the
+// answers that were compared.
+pub const PAIRS: usize = 172;
+
+pub const ANSWERS: usize = 176;
+
 // Room for the counters.
-pub const ALL: usize = 160;
+pub const ALL: usize = 180;
 
 // The operations.
 pub const KEYWORD_CHECK: usize = 0;

@@ -1,5 +1,6 @@
-// Runs of the library on two cases whose stores hold the same chunks in two orders (f and g): what it answers on g is compared with what it
-// answers on f, number, values and bytes. Buffers are filled with a pattern first, and those of a pair of runs have one length.
+// Runs of the library on two cases whose stores hold the same chunks (f and g), in two orders or with other holes: what it answers on g is
+// compared with what it answers on f, number, values and bytes. Buffers are filled with a pattern first, and those of a pair of runs have one
+// length. Where the stores have one directory, so that they differ in their holes alone, places and indexes are compared too.
 use crate::runs::code_of;
 use crate::runs::scanned_code;
 use crate::runs::scanned_length;
@@ -12,15 +13,19 @@ use spec::Outcome;
 use spec::Scanned;
 use tests_plain::bytes::copy;
 use tests_plain::bytes::fill;
+use tests_plain::bytes::get_4;
+use tests_plain::bytes::least;
 use tests_plain::bytes::less;
 use tests_plain::bytes::plus;
 use tests_plain::bytes::same;
 use tests_plain::case;
 use tests_report::due::PATTERN;
 use tests_report::due::bound;
+use tests_report::holes::has_hole;
 use tests_report::tally;
 use tests_report::tally::bump;
 use tests_report::tally::compared;
+use tests_report::tally::expect;
 use tests_report::tally::saw;
 use tests_vaults::encode::put_key;
 
@@ -72,7 +77,7 @@ fn paired(counts: &mut [u64], operation: usize, got: usize, expected: usize, res
         (expected % 1000 % 256) as u8,
         is_one(got, expected, rest),
     );
-    bump(counts, tally::ORDERS + 5);
+    bump(counts, tally::ANSWERS);
 }
 
 fn is_one(got: usize, expected: usize, rest: bool) -> bool {
@@ -87,6 +92,12 @@ fn same_bytes(a: &[u8], b: &[u8]) -> bool {
         return false;
     }
     same(a, 0, b, 0, b.len())
+}
+
+// The stores have one directory.
+fn only_holes_differ(f: &[u8], g: &[u8]) -> bool {
+    let n = 8 + 28 * (get_4(case::store(f), 4) % 16);
+    same(f, case::STORE, g, case::STORE, n)
 }
 
 // ---- a run of one case
@@ -118,13 +129,8 @@ fn search_front(f: &[u8], index: &mut [u8], n: usize, buffer: &mut [u8]) -> usiz
     NOT_RUN
 }
 
-fn search_room(f: &[u8], n: usize, buffer: &mut [u8]) -> usize {
-    let mut index = [0u8; 9000];
-    search_front(f, &mut index, n, buffer)
-}
-
 // Run number `way`; the index of a search has n bytes.
-fn run_one(way: usize, f: &[u8], n: usize, buffer: &mut [u8]) -> usize {
+fn run_one(way: usize, f: &[u8], index: &mut [u8], n: usize, buffer: &mut [u8]) -> usize {
     fill(buffer, PATTERN);
     if is_scan(way) {
         return scan_one(f, buffer);
@@ -132,13 +138,20 @@ fn run_one(way: usize, f: &[u8], n: usize, buffer: &mut [u8]) -> usize {
     if way < JOINS {
         return join_one(f, buffer);
     }
-    search_room(f, n, buffer)
+    search_front(f, index, n, buffer)
 }
 
 // Into the first `room` bytes of the buffer.
-fn run_front(way: usize, f: &[u8], n: usize, buffer: &mut [u8], room: usize) -> usize {
+fn run_front(
+    way: usize,
+    f: &[u8],
+    index: &mut [u8],
+    n: usize,
+    buffer: &mut [u8],
+    room: usize,
+) -> usize {
     if room <= buffer.len() {
-        return run_one(way, f, n, &mut buffer[..room]);
+        return run_one(way, f, index, n, &mut buffer[..room]);
     }
     NOT_RUN
 }
@@ -160,12 +173,23 @@ fn index_room(f: &[u8], way: usize) -> usize {
     less(case::length_of(f, 2), (way == SHORT_INDEX) as usize)
 }
 
-// From where on the buffers must be the same: from the start, but behind an index that was written, since indexes differ in their order.
-fn from_where(way: usize, answer: usize) -> usize {
+// From where on the buffers must be the same: from the start, but behind an index that was written where indexes differ in their order.
+fn from_where(way: usize, f: &[u8], g: &[u8], answer: usize) -> usize {
+    if only_holes_differ(f, g) {
+        return 0;
+    }
     if is_scan(way) {
         return answer / 1000 % 1000000;
     }
     0
+}
+
+// The indexes of two searches, which may differ in their order.
+fn same_indexes(f: &[u8], g: &[u8], a: &[u8], b: &[u8]) -> bool {
+    if only_holes_differ(f, g) {
+        return same_bytes(a, b);
+    }
+    true
 }
 
 fn operation_of(way: usize) -> usize {
@@ -187,15 +211,26 @@ fn is_moved(way: usize, answer: usize) -> bool {
     false
 }
 
+// The buffers' first `room` bytes are the same from an offset on.
+fn same_front(a: &[u8], b: &[u8], from: usize, room: usize) -> bool {
+    same(a, from, b, from, less(room, from))
+}
+
+fn run_paired(counts: &mut [u64], way: usize, got: usize, expected: usize, rest: bool) {
+    paired(counts, operation_of(way), got, expected, rest);
+    saw(counts, tally::MOVES + 10, is_moved(way, expected));
+}
+
 fn run_both(counts: &mut [u64], way: usize, f: &[u8], g: &[u8], a: &mut [u8], b: &mut [u8]) {
+    let mut index = [PATTERN; 9000];
+    let mut other = [PATTERN; 9000];
     let room = room_of(f, way);
     let n = index_room(f, way);
-    let expected = run_front(way, f, n, a, room);
-    let got = run_front(way, g, n, b, room);
-    let from = from_where(way, expected);
-    let ok = same(a, from, b, from, less(room, from));
-    paired(counts, operation_of(way), got, expected, ok);
-    saw(counts, tally::MOVES + 10, is_moved(way, expected));
+    let expected = run_front(way, f, &mut index, n, a, room);
+    let got = run_front(way, g, &mut other, n, b, room);
+    let ok = same_front(a, b, from_where(way, f, g, expected), room);
+    run_paired(counts, way, got, expected, ok);
+    expect(counts, same_indexes(f, g, &index, &other));
 }
 
 pub fn runs_both(counts: &mut [u64], f: &[u8], g: &[u8], a: &mut [u8], b: &mut [u8]) {
@@ -244,16 +279,41 @@ pub fn checks_both(counts: &mut [u64], f: &[u8], g: &[u8]) {
 
 // ---- lookups in both
 
-fn chunk_both(counts: &mut [u64], f: &[u8], g: &[u8], key: &[u8]) {
-    let expected = answer(store::find_chunk(f, key), 0, 0);
-    let got = answer(store::find_chunk(g, key), 0, 0);
+// The number of a lookup, with the place and the length where they must be the same.
+fn find_chunk(store: &[u8], key: &[u8], placed: bool) -> usize {
+    let code = store::find_chunk(store, key);
+    if placed {
+        return answer(
+            code,
+            store::chunk_start(store, key),
+            store::chunk_length(store, key),
+        );
+    }
+    answer(code, 0, 0)
+}
+
+fn find_body(index: &[u8], key: &[u8], placed: bool) -> usize {
+    let code = index::find_body(index, key);
+    if placed {
+        return answer(
+            code,
+            index::body_start(index, key),
+            index::body_length(index, key),
+        );
+    }
+    answer(code, 0, 0)
+}
+
+fn chunk_both(counts: &mut [u64], f: &[u8], g: &[u8], key: &[u8], placed: bool) {
+    let expected = find_chunk(f, key, placed);
+    let got = find_chunk(g, key, placed);
     let ok = same_bytes(store::chunk(f, key), store::chunk(g, key));
     paired(counts, tally::CHUNK_LOOKUP, got, expected, ok);
 }
 
-fn body_both(counts: &mut [u64], f: &[u8], g: &[u8], key: &[u8]) {
-    let expected = answer(index::find_body(f, key), 0, 0);
-    let got = answer(index::find_body(g, key), 0, 0);
+fn body_both(counts: &mut [u64], f: &[u8], g: &[u8], key: &[u8], placed: bool) {
+    let expected = find_body(f, key, placed);
+    let got = find_body(g, key, placed);
     let ok = same_bytes(index::body(f, key), index::body(g, key));
     paired(counts, tally::BODY_LOOKUP, got, expected, ok);
 }
@@ -261,9 +321,10 @@ fn body_both(counts: &mut [u64], f: &[u8], g: &[u8], key: &[u8]) {
 // Chunk and body under the fingerprint of chunk c.
 fn lookup_both(counts: &mut [u64], f: &[u8], g: &[u8], c: usize) {
     let mut key = [0u8; 20];
+    let placed = only_holes_differ(f, g);
     put_key(&mut key, 0, c);
-    chunk_both(counts, case::store(f), case::store(g), &key);
-    body_both(counts, case::index(f), case::index(g), &key);
+    chunk_both(counts, case::store(f), case::store(g), &key, placed);
+    body_both(counts, case::index(f), case::index(g), &key, placed);
 }
 
 // Every chunk that a vault may have, and one more.
@@ -293,20 +354,43 @@ pub fn scan_index(g: &mut [u8], buffer: &mut [u8]) {
 
 fn kind_of(f: &[u8]) -> usize {
     if case::scan_code(f) != 0 {
-        return 3;
+        return 2;
     }
     if case::join_code(f) != 0 {
-        return 4;
+        return 3;
     }
-    if case::count(f) == 0 { 2 } else { 1 }
+    (case::count(f) == 0) as usize
 }
 
-pub fn saw_both(counts: &mut [u64], f: &[u8], g: &[u8]) {
+fn saw_both(counts: &mut [u64], f: &[u8]) {
+    bump(counts, tally::PAIRS + kind_of(f) % 4);
+    bump(counts, tally::CASES);
+}
+
+// How many of the two stores have a hole.
+fn with_holes(f: &[u8], g: &[u8]) -> usize {
+    plus(has_hole(f) as usize, has_hole(g) as usize)
+}
+
+// Two orders.
+pub fn saw_orders(counts: &mut [u64], f: &[u8], g: &[u8]) {
     saw(
         counts,
         tally::ORDERS,
         !same_bytes(case::index(f), case::index(g)),
     );
-    bump(counts, tally::ORDERS + kind_of(f) % 5);
-    bump(counts, tally::CASES);
+    bump(counts, tally::ORDERS + 1 + with_holes(f, g) % 3);
+    saw_both(counts, f);
+}
+
+// Other holes, and nothing else.
+pub fn saw_holes(counts: &mut [u64], f: &[u8], g: &[u8]) {
+    let a = case::length_of(f, 1);
+    let b = case::length_of(g, 1);
+    let alike = same(f, case::STORE, g, case::STORE, least(a, b));
+    expect(counts, only_holes_differ(f, g));
+    saw(counts, tally::OTHER_HOLES, !alike);
+    saw(counts, tally::OTHER_HOLES + 1, a < b);
+    saw(counts, tally::OTHER_HOLES + 2, b < a);
+    saw_both(counts, f);
 }

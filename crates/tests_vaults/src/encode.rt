@@ -1,5 +1,6 @@
 // The model written as a case: the inputs in document 01's formats, the index under a mark. Functions that write one thing after the other
 // return the place behind.
+use crate::holes::put_hole;
 use tests_plain::bytes::copy;
 use tests_plain::bytes::less;
 use tests_plain::bytes::num;
@@ -72,17 +73,20 @@ pub fn put_mark(out: &mut [u8], at: usize, a: u8, number: usize, n: usize) {
     put_4(out, plus(at, 4), n);
 }
 
-fn put_store(out: &mut [u8], m: &[u8]) {
+// The store, with its holes.
+pub(crate) fn put_store(out: &mut [u8], m: &[u8]) {
     put_mark(out, STORE, 0x56, 1, chunks(m));
-    let end = put_chunks(out, m, chunks(m));
+    let last = put_chunks(out, m, chunks(m));
+    let end = put_hole(out, last, m, chunks(m));
     put_length(out, 1, plus(STORE, end));
 }
 
-// Entries and chunks; the offset behind the last chunk.
+// Entries and chunks, a hole before each; the offset behind the last chunk.
 fn put_chunks(out: &mut [u8], m: &[u8], n: usize) -> usize {
     let mut at = 8 + 28 * (n % 16);
     for c in 0..n {
-        at = put_chunk(out, at, m, c, chunk_size(m, c));
+        let start = put_hole(out, at, m, c);
+        at = put_chunk(out, start, m, c, chunk_size(m, c));
     }
     at
 }

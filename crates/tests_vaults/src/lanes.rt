@@ -1,5 +1,6 @@
 // Vaults of chunks around the lengths at which the scan's walk changes: below 256 bytes it has one lane, from there on four, one for each
 // quarter, and 0 to 3 bytes behind them. Keywords stand across the quarters' borders, from their starts on and up to their ends.
+use crate::holes::draw_holes;
 use crate::make::make_keywords;
 use crate::make::spell;
 use crate::small::put_words;
@@ -189,4 +190,5 @@ pub fn make_long(m: &mut [u8], t: usize) {
     put_family(m, t / 10 % 7, seed);
     put_chunks(m, size_of(t % 10), 40 + t / 3 % 2 * 260, next(seed));
     put_files(m);
+    draw_holes(m, next(next(next(seed))));
 }

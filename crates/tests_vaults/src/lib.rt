@@ -1,9 +1,10 @@
-// The vaults that the tests run: generated from a seed, with long chunks, torn, damaged, at the longest length, and their inputs in document
-// 01's formats.
+// The vaults that the tests run: generated from a seed, with long chunks, with holes, torn, damaged, at the longest length, and their inputs in
+// document 01's formats.
 // Test support: proved safe and ending, with contracts only where a proof needs one.
 pub mod encode;
 pub mod faults;
 pub mod fill;
+pub mod holes;
 pub mod lanes;
 pub mod long;
 pub mod make;

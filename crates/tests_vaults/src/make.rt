@@ -1,4 +1,5 @@
 // A vault's model, filled from a seed.
+use crate::holes::draw_holes;
 use tests_plain::bytes::get;
 use tests_plain::bytes::least;
 use tests_plain::bytes::less;
@@ -180,8 +181,8 @@ fn make_counts(m: &mut [u8], kind: usize, seed: u64) -> u64 {
     d
 }
 
-// Vault number n, of one of eight kinds: counts, keywords, chunks, files.
-pub fn make(m: &mut [u8], n: usize) {
+// Counts, keywords, chunks, files, of one of eight kinds; the seed behind.
+fn make_model(m: &mut [u8], n: usize) -> u64 {
     let kind = n % 8;
     let a = make_counts(m, kind, next(next((n % 1000000) as u64 + 1)));
     let alphabet = alphabet_of(kind, next(a));
@@ -193,7 +194,13 @@ pub fn make(m: &mut [u8], n: usize) {
         most_of(kind, chunks(m)),
         named(n, chunks(m)),
         c,
-    );
+    )
+}
+
+// Vault number n.
+pub fn make(m: &mut [u8], n: usize) {
+    let seed = make_model(m, n);
+    draw_holes(m, next(seed));
 }
 
 // ---- made-up records

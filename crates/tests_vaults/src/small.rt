@@ -1,4 +1,6 @@
 // Small vaults, as models: the one of document 01, and the ones whose moves READING 69 tells.
+use crate::holes::EVERYWHERE;
+use crate::holes::make_holes;
 use tests_plain::bytes::copy;
 use tests_plain::bytes::num;
 use tests_plain::bytes::plus;
@@ -48,13 +50,13 @@ pub fn small(m: &mut [u8]) {
 
 // ---- vaults whose moves are told
 
-// Each with one chunk, and each under both fold flags; one of three chunks behind them.
-pub const TOLD: usize = 16;
+// Each with one chunk, and each under both fold flags; one of three chunks behind them; all of them once more, with holes.
+pub const TOLD: usize = 32;
 
 // The moves of vault number v: DEDE, DEDUP, DEDUPX with the keywords DEDUP and UP; AAAAAA, AAAX with AAAA; AAAA, BBBB with A; the first three
 // as the chunks of one store.
 pub fn told_moves(v: usize) -> usize {
-    num(b"\x05\x05\x08\x08\x07\x07\x04\x12", v / 2)
+    num(b"\x05\x05\x08\x08\x07\x07\x04\x12", v / 2 % 8)
 }
 
 fn told_words(m: &mut [u8], i: usize) {
@@ -100,12 +102,19 @@ fn told_chunks(m: &mut [u8], i: usize) {
     put(m, 2, told_count(i));
 }
 
+fn told_holes(m: &mut [u8], v: usize) {
+    if 16 <= v {
+        make_holes(m, EVERYWHERE, (v % 1000) as u64);
+    }
+}
+
 // One file, of the first chunk.
 pub fn told(m: &mut [u8], v: usize) {
-    let i = v / 2;
+    let i = v / 2 % 8;
     told_words(m, i);
     told_chunks(m, i);
     put(m, 1, (v % 2) as u8);
     put(m, 3, 1);
     copy(m, file_at(0), b"\x01\x00", 0, 2);
+    told_holes(m, v);
 }

@@ -12,6 +12,7 @@ use tests_plain::model::keyword_at;
 use tests_plain::model::keyword_size;
 use tests_plain::model::keywords;
 use tests_plain::model::put_size;
+use tests_vaults::holes::draw_holes;
 use tests_vaults::lanes::cut;
 use tests_vaults::lanes::put_family;
 use tests_vaults::lanes::put_files;
@@ -108,4 +109,5 @@ pub fn make_wide(m: &mut [u8], t: usize) {
     put_size(m, 0, size);
     put_chunks(m, t, size, next(next((t % 1000000) as u64 + 31)));
     put_files(m);
+    draw_holes(m, next(next((t % 1000000) as u64 + 41)));
 }

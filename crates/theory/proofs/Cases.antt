@@ -6,7 +6,7 @@ use Rattle.spec.specs.Bytes.{leValue, leBytes, fieldsOf, fieldsBytes, splice}
 use Rattle.spec.specs.Outcome.{answer, unlessRefused}
 use Rattle.spec.specs.Keywords.{isUpper, foldByte, folded, keywordListBytes, keywordsOf, listSize, foldedKeywords, keywordCode, keywordFrontCode}
 use Rattle.spec.specs.Form.{Form, formOf}
-use Rattle.spec.specs.Store.{storeDirectoryBytes, storeBytes, storeKeys, chunkAt, chunksOf, storeCode}
+use Rattle.spec.specs.Store.{storeDirectoryBytes, placedBytes, storeBytes, storeKeys, chunkAt, chunksOf, storeCode}
 use Rattle.spec.specs.Records.{MatchRecord, reach, prefixOf, suffixOf, offsetsOf, recordOf, recordsOf, inRange, offsetsBytes, fullBytes, headBytes, recordBytes}
 use Rattle.spec.specs.Records.{bodyFrom, readOffsets, readRecord, recordSize, readFrom, allInRange, goodBody}
 use Rattle.spec.specs.Index.{directoryBytes, entryBytes, indexBytes, indexLayout, indexKeys, bodyAt, lengthsIn, indexRecords, allGood, headerCode}
@@ -30,7 +30,7 @@ unfolding isUpper foldByte folded keywordListBytes keywordsOf listSize foldedKey
 keywordDefinitions = 0
 
 unfoldable storeDefinitions : ℕ
-unfolding storeDirectoryBytes storeBytes storeKeys chunkAt chunksOf storeCode fileBytes recipesBytes filesOf recipesCode fileCode filesCode
+unfolding storeDirectoryBytes placedBytes storeBytes storeKeys chunkAt chunksOf storeCode fileBytes recipesBytes filesOf recipesCode fileCode filesCode
 storeDefinitions = 0
 
 unfoldable recordDefinitions : ℕ
@@ -87,7 +87,6 @@ cases =
       widerBodies = (refl, refl, refl, refl);
       widerList = (refl, refl);
       longestByMark = (refl, refl, refl);
-      beyond = (refl, refl, refl, refl, refl, refl);
       bMatchesB = (refl, refl);
       braceAndBracket = refl;
       accents = (refl, refl);

@@ -51,7 +51,7 @@ length-with-moves (Done size) moves = refl
 length-with-moves (Refused code) moves = refl
 
 -- what was written is read at the start of the buffer
-written-front : (buffer bytes : List ℕ) → take (length bytes) (written buffer bytes) ≡ bytes
+pub written-front : (buffer bytes : List ℕ) → take (length bytes) (written buffer bytes) ≡ bytes
 unfolding splice
 written-front buffer bytes = take-at bytes (drop (0 + length bytes) buffer) (length bytes) refl
 

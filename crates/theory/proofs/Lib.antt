@@ -18,3 +18,4 @@ pub mod WrittenKeywords
 pub mod WrittenRecipes
 pub mod WrittenStores
 pub mod WrittenInputs
+pub mod Holes

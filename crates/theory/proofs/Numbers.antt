@@ -84,11 +84,11 @@ abbrev ofStore : List ℕ
 ofStore = 0 ∷ 5 ∷ 6 ∷ 7 ∷ 8 ∷ 20 ∷ []
 
 chunks-number : (store : List ℕ) (n k at : ℕ) → member (chunksCode store n k at) ofStore ≡ true
-chunks-number store zero k at = test-in ofStore (not (eqb at (length store))) 7 0 refl refl
+chunks-number store zero k at = test-in ofStore (ltb (length store) at) 7 0 refl refl
 chunks-number store (suc n) k at =
     let size = sizeAt storeLayout store k in
     test-in ofStore (eqb size 0 || ltb (newest .longestChunk) size) 7 _ refl
-    (test-in ofStore (not (eqb (offsetAt storeLayout store k) at)) 7 _ refl
+    (test-in ofStore (ltb (offsetAt storeLayout store k) at) 7 _ refl
     (test-in ofStore (ltb largest32 (chunkEnd store k)) 20 _ refl
     (whole-in ofStore (chunksCode store n (suc k) (chunkEnd store k)) 0 (chunks-number store n (suc k) (chunkEnd store k)) refl)))
 

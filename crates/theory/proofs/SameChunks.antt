@@ -50,13 +50,13 @@ use Rattle.theory.proofs.Demand3.{code-of-answer, value-of-answer, scan
 -- ---- a fingerprint stands for the same bytes in both stores
 
 -- A store has the fingerprint; the entry that does.
-abbrev knows : List ℕ → List ℕ → Bool
+abbrev pub knows : List ℕ → List ℕ → Bool
 knows store key = contains key (storeKeys store)
 
-abbrev placeOf : List ℕ → List ℕ → ℕ
+abbrev pub placeOf : List ℕ → List ℕ → ℕ
 placeOf store key = positionOf key (storeKeys store)
 
-place-in : (store key : List ℕ) → knows store key ≡ true → placeOf store key < chunkCount store
+pub place-in : (store key : List ℕ) → knows store key ≡ true → placeOf store key < chunkCount store
 place-in store key c = omega (arith, position-in (storeKeys store) key c, length-storeKeys store)
 
 bool-same : (a b : Bool) → (a ≡ true → b ≡ true) → (b ≡ true → a ≡ true) → a ≡ b
@@ -380,7 +380,7 @@ module _ (store other : List ℕ) (a : Alike store other) where
           (searched (scanCode f list other indexRoom₂) (searchJoinCode f list other recipes room) (length (scanIndex f list other)) _ _
           (λ z. ap length (same-list-back z)))
 
-      same-search-code : searchCode f list store recipes indexRoom room ≡ searchCode f list other recipes indexRoom₂ room
+      pub same-search-code : searchCode f list store recipes indexRoom room ≡ searchCode f list other recipes indexRoom₂ room
       unfolding searchCode
       same-search-code = rw (e, same-join-code)
 
@@ -476,10 +476,9 @@ module _ (store other : List ℕ) (a : Alike store other) where
 
 -- ---- the claim
 
--- Request #101: two accepted stores that hold the same fingerprints with the same bytes, in any two orders.
-pub same-chunks : (list store other : List ℕ) → Reordered store other → SameChunks list store other
-same-chunks list store other r =
-    let a = stores-alike store other r in
+-- where the same fingerprints stand for the same bytes
+pub alike-chunks : (list store other : List ℕ) → Alike store other → SameChunks list store other
+alike-chunks list store other a =
     record {
       find = same-find store other a;
       chunk = same-chunk store other a;
@@ -507,9 +506,13 @@ same-chunks list store other r =
           };
     }
 
+-- Request #101: two accepted stores that hold the same fingerprints with the same bytes, in any two orders.
+pub same-chunks : (list store other : List ℕ) → Reordered store other → SameChunks list store other
+same-chunks list store other r = alike-chunks list store other (stores-alike store other r)
+
 -- ---- the claim of calls
 
-join-kept : (index recipes out : List ℕ) → codeOf (joinOutcome (formOf index) index recipes (length out)) ≢ 0
+pub join-kept : (index recipes out : List ℕ) → codeOf (joinOutcome (formOf index) index recipes (length out)) ≢ 0
     → joinBuffer (formOf index) index recipes out ≡ out
 unfolding joinOutcome joinBuffer
 join-kept index recipes out d =
@@ -548,13 +551,13 @@ calls-alike list store other s recipes buffer buffer₂ out out₂ =
 -- the index that a join is handed, its answer and its buffer, of the scan alone
 module _ (list store recipes buffer out : List ℕ) (scan : Scanned) (join : Outcome) (buffer′ index out′ : List ℕ)
     (c : Calls list store recipes buffer out scan join buffer′ index out′) where
-  index-is : index ≡ scanned list store buffer
+  pub index-is : index ≡ scanned list store buffer
   index-is = c .handed ∙ ap₂ (λ (a : Scanned) (b : List ℕ). take (scannedLength a) b) (c .scanned) (c .wrote)
 
-  join-is : join ≡ joinOutcome (formOf (scanned list store buffer)) (scanned list store buffer) recipes (length out)
+  pub join-is : join ≡ joinOutcome (formOf (scanned list store buffer)) (scanned list store buffer) recipes (length out)
   join-is = c .joined ∙ ap (λ (x : List ℕ). joinOutcome (formOf x) x recipes (length out)) index-is
 
-  buffer-is : out′ ≡ joinBuffer (formOf (scanned list store buffer)) (scanned list store buffer) recipes out
+  pub buffer-is : out′ ≡ joinBuffer (formOf (scanned list store buffer)) (scanned list store buffer) recipes out
   buffer-is = c .listed ∙ ap (λ (x : List ℕ). joinBuffer (formOf x) x recipes out) index-is
 
 -- Request #101 of four calls: a scan and a join on each of the two stores, with the same keyword list and recipes.

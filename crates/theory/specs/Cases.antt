@@ -10,7 +10,7 @@ use Rattle.spec.specs.declared.Outcome.the-variants.{Done, Refused}
 use Rattle.spec.specs.declared.Scanned.the-variants as Scanned
 use Rattle.spec.specs.Bytes.{leBytes, fieldsBytes, each, keep}
 use Rattle.spec.specs.Keywords.{folded, keywordListBytes, keywordCode}
-use Rattle.spec.specs.Store.{storeMark, Chunk, storeBytes, chunksCode}
+use Rattle.spec.specs.Store.{storeMark, Chunk, storeBytes}
 use Rattle.spec.specs.Directory.{offsetAt}
 use Rattle.spec.specs.Form.{form1, form2, newest, formOf}
 use Rattle.spec.specs.Records.{offsetsOf}
@@ -126,14 +126,6 @@ markedIndex digit size =
 abbrev pub markedCode : ℕ → ℕ → ℕ
 markedCode digit size = indexCode (formOf (markedIndex digit size)) (markedIndex digit size)
 
--- Entries of a store, each an offset and a length, without the chunks; the number of these entries where the first chunk is due at `at`.
-abbrev pub bareEntries : List (ℕ × ℕ) → List ℕ
-bareEntries [] = []
-bareEntries (e ∷ es) = fingerprint 1 ++ leBytes 4 (e .0) ++ leBytes 4 (e .1) ++ bareEntries es
-
-abbrev pub entriesNumber : ℕ → List (ℕ × ℕ) → ℕ
-entriesNumber at es = chunksCode (storeMark ++ leBytes 4 (length es) ++ bareEntries es) (length es) 0 at
-
 -- The cells of a keyword's table that hold something, by i and then by j, each from 0 to n - 1.
 abbrev pub filledCells : List ℕ → List (ℕ × ℕ × List ℕ)
 filledCells keyword =
@@ -211,13 +203,6 @@ pub record Cases : Type 0 where
   pub longestByMark : (map (markedCode 1) (65535 ∷ 65536 ∷ []) ≡ 0 ∷ 11 ∷ [])
       × (map (markedCode 2) (65536 ∷ 1048576 ∷ 1048577 ∷ []) ≡ 0 ∷ 0 ∷ 11 ∷ [])
       × (markedCode 3 1 ≡ 10)
-  -- 20: an end beyond 4,294,967,295, and not at it (then 7, as the chunk is not there); behind the entry's own length and offset, before the next's
-  pub beyond : (entriesNumber 4294967294 ((4294967294, 1) ∷ []) ≡ 7)
-      × (entriesNumber 4294967295 ((4294967295, 1) ∷ []) ≡ 20)
-      × (entriesNumber 4294967295 ((4294967295, 1048576) ∷ []) ≡ 20)
-      × (entriesNumber 4294967295 ((4294967295, 1048577) ∷ []) ≡ 7)
-      × (entriesNumber 4294967294 ((4294967295, 1) ∷ []) ≡ 7)
-      × (entriesNumber 4294967295 ((4294967295, 1) ∷ (0, 0) ∷ []) ≡ 20)
   -- * flag 1: b matches B (with flag 0 it does not), { does not match [
   pub bMatchesB : (countFor 1 (0x62 ∷ []) (0x42 ∷ []) ≡ Done 1) × (countFor 0 (0x62 ∷ []) (0x42 ∷ []) ≡ Done 0)
   pub braceAndBracket : countFor 1 (0x7B ∷ []) (0x5B ∷ []) ≡ Done 0

@@ -7,3 +7,4 @@ pub mod Published
 pub mod RecordSets
 pub mod Demands
 pub mod SameChunks
+pub mod Holes

@@ -1,5 +1,6 @@
 -- The inputs' written forms (document 01, "Words", "Store", "Recipes and the join"): what is written is read back, a check accepts it, and whatever a
--- check accepts is the written form of what it says. So a field that stood at a wrong place in a reader would fail here.
+-- check accepts is the written form of what it says, of a store with whatever holes (request #106). So a field that stood at a wrong place in a reader,
+-- or a byte of a hole that a reader took for a chunk's, would fail here.
 use mathlib.Core.Path.{_≡_}
 use mathlib.Core.Logic.{_↔_}
 use mathlib.Core.Bool.{Bool, true, false, _&&_, cond}
@@ -9,7 +10,7 @@ use lib.ListN.{length, getD}
 use lib.Dec.{eqb, leb}
 use Rattle.spec.specs.Bytes.{largest32, AllBytes, same, contains, twice, each, every, joined}
 use Rattle.spec.specs.Keywords.{folded, foldedAll, keywordListBytes, countOf, flagOf, keywordsOf, listSize, keywordCode}
-use Rattle.spec.specs.Store.{Chunk, storeBytes, mostChunks, chunkCount, storeKeys, chunkAt, storeCode}
+use Rattle.spec.specs.Store.{Chunk, Placed, placedBytes, mostChunks, chunkCount, storeKeys, chunkAt, storeCode}
 use Rattle.spec.specs.Form.{newest}
 use Rattle.spec.specs.Recipes.{recipesBytes, mostFiles, filesOf, recipesCode}
 use Rattle.spec.specs.Search.{occurrencesInAll, directSearch}
@@ -72,25 +73,37 @@ storedChunks store = each (λ k. storedChunk store k ∷ []) 0 (chunkCount store
 abbrev pub chunkFits : Chunk → Bool
 chunkFits c = isFingerprint (c .key) && leb 1 (length (c .bytes)) && leb (length (c .bytes)) (newest .longestChunk)
 
--- At most 65,000 of them, all within 4,294,967,295 bytes.
-abbrev pub chunksFit : List Chunk → Bool
-chunksFit chunks = leb (length chunks) mostChunks && every chunkFits chunks && leb (length (storeBytes chunks)) largest32
+-- The chunks without the holes before them.
+abbrev pub chunksIn : List Placed → List Chunk
+chunksIn placed = map (λ p. p .chunk) placed
 
-pub record StoreReads (chunks : List Chunk) : Type 0 where
+-- At most 65,000 of them, the last of which ends within 4,294,967,295 bytes; the hole behind it may be of any length.
+abbrev pub chunksFit : List Placed → Bool
+chunksFit placed = leb (length placed) mostChunks && every chunkFits (chunksIn placed) && leb (length (placedBytes placed [])) largest32
+
+pub record StoreReads (placed : List Placed) (hole : List ℕ) : Type 0 where
   -- the chunk count, the fingerprints, and chunk k's bytes
-  pub count : chunkCount (storeBytes chunks) ≡ length chunks
-  pub keys : storeKeys (storeBytes chunks) ≡ map (λ c. c .key) chunks
-  pub bytes : (k : ℕ) → k < length chunks → chunkAt (storeBytes chunks) k ≡ getD (map (λ c. c .bytes) chunks) k []
+  pub count : chunkCount (placedBytes placed hole) ≡ length placed
+  pub keys : storeKeys (placedBytes placed hole) ≡ map (λ c. c .key) (chunksIn placed)
+  pub bytes : (k : ℕ) → k < length placed → chunkAt (placedBytes placed hole) k ≡ getD (map (λ c. c .bytes) (chunksIn placed)) k []
   -- so the chunks themselves, in their order
-  pub stored : storedChunks (storeBytes chunks) ≡ chunks
+  pub stored : storedChunks (placedBytes placed hole) ≡ chunksIn placed
+
+-- A store is written so, with holes or without: of its chunks, in their order.
+pub record WrittenStore (store : List ℕ) : Type 0 where
+  pub placed : List Placed
+  pub hole : List ℕ
+  pub is : store ≡ placedBytes placed hole
+  pub chunks : chunksIn placed ≡ storedChunks store
 
 pub record WrittenStores : Type 0 where
-  -- chunks that fit are read back
-  pub reads : (chunks : List Chunk) → chunksFit chunks ≡ true → StoreReads chunks
+  -- chunks that fit are read back, whatever lies between them
+  pub reads : (placed : List Placed) (hole : List ℕ) → chunksFit placed ≡ true → StoreReads placed hole
   -- the check accepts them exactly when no fingerprint is twice
-  pub accepted : (chunks : List Chunk) → chunksFit chunks ≡ true → (storeCode (storeBytes chunks) ≡ 0) ↔ (twice (map (λ c. c .key) chunks) ≡ false)
+  pub accepted : (placed : List Placed) (hole : List ℕ) → chunksFit placed ≡ true
+      → (storeCode (placedBytes placed hole) ≡ 0) ↔ (twice (map (λ c. c .key) (chunksIn placed)) ≡ false)
   -- what it accepts, of bytes, is written so
-  pub written : (store : List ℕ) → AllBytes store → storeCode store ≡ 0 → store ≡ storeBytes (storedChunks store)
+  pub written : (store : List ℕ) → AllBytes store → storeCode store ≡ 0 → WrittenStore store
 
 -- ---- the direct search
 
@@ -110,7 +123,7 @@ pub record WrittenInputs : Type 0 where
   pub recipesFiles : WrittenRecipes
   pub stores : WrittenStores
   -- the direct search of written inputs, said without their bytes: each file is the chunks that it names, joined
-  pub search : (flag : ℕ) (keywords : List (List ℕ)) (chunks : List Chunk) (files : List (List (List ℕ)))
-      → chunksFit chunks ≡ true → length files ≤ largest32 → every fileFits files ≡ true → allNamed chunks files ≡ true
-      → directSearch (keywordListBytes flag keywords) (storeBytes chunks) (recipesBytes files)
-      ≡ occurrencesInAll 0 (foldedAll flag keywords) (map (λ file. folded flag (joined (map (bytesUnder chunks) file))) files)
+  pub search : (flag : ℕ) (keywords : List (List ℕ)) (placed : List Placed) (hole : List ℕ) (files : List (List (List ℕ)))
+      → chunksFit placed ≡ true → length files ≤ largest32 → every fileFits files ≡ true → allNamed (chunksIn placed) files ≡ true
+      → directSearch (keywordListBytes flag keywords) (placedBytes placed hole) (recipesBytes files)
+      ≡ occurrencesInAll 0 (foldedAll flag keywords) (map (λ file. folded flag (joined (map (bytesUnder (chunksIn placed)) file))) files)

@@ -1,9 +1,12 @@
 //! One case: every call of the library beside the oracle, with every byte of every buffer.
 
 use crate::folds::Meetings;
+use crate::holes;
 use crate::inputs::Case;
+use crate::pairs::Change;
 use crate::rng::Rng;
 use oracle::join::{self, Joined};
+use oracle::store::Chunk;
 use oracle::{calls, direct, index, keywords, moves, recipes, store, U32};
 use std::collections::{BTreeMap, HashMap};
 use vault::raw;
@@ -24,13 +27,27 @@ pub struct Tally {
     pub direct: u64,
     /// Bytes of buffers compared.
     pub bytes: u64,
-    /// Answers on a store compared with those on another order of its chunks.
-    pub orders: u64,
+    /// Answers on a store compared with those on another one that has the same chunks.
+    pub pairs: BTreeMap<Change, u64>,
+    /// Stores that are good, with a hole before the first chunk, between two, and behind the last.
+    pub holes: [u64; 3],
     /// Bytes at the fold's borders.
     pub meetings: Meetings,
     /// Indexes that are good, by mark; stores that are good with a chunk longer than 65,535 bytes.
     pub marks: BTreeMap<[u8; 4], u64>,
     pub long: u64,
+}
+
+impl Tally {
+    pub fn holes_by_place(&self) -> [(&'static str, u64); 3] {
+        let [first, between, last] = self.holes;
+        [("before the first chunk", first), ("between two", between), ("behind the last", last)]
+    }
+
+    /// The places at which no good store had a hole.
+    pub fn missing_holes(&self) -> Vec<String> {
+        self.holes_by_place().into_iter().filter(|(_, count)| *count == 0).map(|(place, _)| place.into()).collect()
+    }
 }
 
 /// How a case is run.
@@ -58,7 +75,7 @@ pub struct Comparison<'a> {
     pub limits: &'a Limits,
 }
 
-type Verdict = Result<(), String>;
+pub type Verdict = Result<(), String>;
 
 impl Comparison<'_> {
     pub fn run(&mut self, case: &Case) -> Verdict {
@@ -68,7 +85,9 @@ impl Comparison<'_> {
         let own = case.index.as_ref().map(|index| input(index));
         let scanned = self.scans(list.get(), stored.get())?;
         let chunks = store::read(stored.get());
-        self.tally.long += u64::from(chunks.as_ref().is_ok_and(|chunks| chunks.iter().any(|c| c.place.len() > 65_535)));
+        if let Ok(chunks) = &chunks {
+            self.good_store(chunks, case.store.len());
+        }
         // The last fingerprint is a part of the store itself: its first entry's.
         for key in case.keys.iter().map(|key| &key[..]).chain(stored.get().get(8..28)) {
             self.lookup("find_chunk", raw::chunk(stored.get(), key), calls::chunk_in(&chunks, key))?;
@@ -89,79 +108,11 @@ impl Comparison<'_> {
         Ok(())
     }
 
-    /// The library on the case's store and on another one, which has the same chunks in another order: the same refusals, lists, chunks
-    /// and bodies, with buffers of equal length. Indexes differ in their order only, so of these the lengths are compared.
-    pub fn orders(&mut self, case: &Case, other: &[u8]) -> Verdict {
-        let stores = [other, &case.store[..]];
-        let (list, recipes, pattern_number, salt) = (&case.list[..], &case.recipes[..], self.rng.next(), self.rng.byte());
-        let number = |call: &dyn Fn(&mut u64) -> u8| {
-            let mut number = pattern_number;
-            (call(&mut number), number)
-        };
-        let buffer = |length: usize, call: &dyn Fn(&mut [u8], &mut u64) -> u8| {
-            let (mut number, mut out) = (pattern_number, pattern(salt, length));
-            (call(&mut out, &mut number), number, out)
-        };
-        self.alike("check_store", stores.map(raw::check_store), true)?;
-        let [a, b] = stores.map(|store| number(&|n| raw::scan_size(list, store, n)));
-        self.alike("scan_size", [a.0, b.0], a == b)?;
-        let length = if a.0 == 0 { a.1 as usize } else { 100 };
-        let scan = |length: usize| {
-            stores.map(|store| {
-                let (mut length, mut moves, mut out) = (pattern_number, !pattern_number, pattern(salt, length));
-                let code = raw::scan(list, store, &mut out, (&mut length, &mut moves));
-                (code, (length, moves), out)
-            })
-        };
-        let [a, b] = scan(length - 1);
-        self.alike("scan", [a.0, b.0], a == b)?;
-        for length in self.around_the_bound(list, other, self.limits.large) {
-            let [a, b] = scan(length);
-            self.alike("scan", [a.0, b.0], a.1 == b.1 && (a.0 == 0 || a.2 == b.2))?;
-        }
-        let scans = scan(length);
-        let [a, b] = &scans;
-        self.alike("scan", [a.0, b.0], a.1 == b.1 && (a.0 == 0 || a.2 == b.2))?;
-        let mut room = 50;
-        if a.0 == 0 {
-            let [a, b] = scans.each_ref().map(|(_, _, index)| number(&|n| raw::count(index, recipes, n)));
-            self.alike("count", [a.0, b.0], a == b)?;
-            room = if a.0 == 0 { 9 * a.1.min(self.limits.buffer / 9) as usize } else { room };
-            for room in [room, room.saturating_sub(1)] {
-                let [a, b] = scans.each_ref().map(|(_, _, index)| buffer(room, &|out, n| raw::join(index, recipes, out, n)));
-                self.alike("join", [a.0, b.0], a == b)?;
-            }
-        }
-        for (length, room) in [(length, room), (length, room.saturating_sub(1)), (length - 1, room)] {
-            let [a, b] = stores.map(|store| {
-                let (mut index, mut out) = (pattern(salt, length), pattern(salt, room));
-                let (mut scanned, mut count) = (pattern_number, pattern_number);
-                let code = raw::search(list, store, recipes, (&mut index, &mut out), (&mut scanned, &mut count));
-                (code, scanned, count, out)
-            });
-            self.alike("search", [a.0, b.0], a == b)?;
-        }
-        self.orders_of_lookups(&case.keys, stores, [&scans[0].2, &scans[1].2])
-    }
-
-    /// Chunks and bodies by fingerprint, in two stores and in what the scans of them wrote.
-    fn orders_of_lookups(&mut self, keys: &[Vec<u8>], stores: [&[u8]; 2], indexes: [&[u8]; 2]) -> Verdict {
-        let part = |bytes: &[u8], (code, start, n): (u8, u64, u64)| (code, bytes[start as usize..(start + n) as usize].to_vec());
-        for key in keys {
-            let [a, b] = stores.map(|store| part(store, raw::chunk(store, key)));
-            self.alike("find_chunk", [a.0, b.0], a == b)?;
-            let [a, b] = indexes.map(|index| part(index, raw::body(index, key)));
-            self.alike("find_body", [a.0, b.0], a == b)?;
-        }
-        Ok(())
-    }
-
-    fn alike(&mut self, call: &'static str, codes: [u8; 2], rest: bool) -> Verdict {
-        self.tally.orders += 1;
-        match codes {
-            [a, b] if a != b => Err(format!("{call}: code {a}, and {b} with the store's chunks in another order")),
-            [a, _] if !rest => Err(format!("{call}: code {a}, but another answer with the store's chunks in another order")),
-            _ => Ok(()),
+    /// What a good store of that length has.
+    fn good_store(&mut self, chunks: &[Chunk], length: usize) {
+        self.tally.long += u64::from(chunks.iter().any(|c| c.place.len() > 65_535));
+        for (k, _) in holes::of(chunks, length).iter().enumerate().filter(|(_, hole)| !hole.is_empty()) {
+            self.tally.holes[if k == chunks.len() { 2 } else { k.min(1) }] += 1;
         }
     }
 
@@ -224,7 +175,7 @@ impl Comparison<'_> {
     }
 
     /// The length from which on the library scans with one walk, and one byte less.
-    fn around_the_bound(&self, list: &[u8], bytes: &[u8], most: u64) -> Vec<usize> {
+    pub fn around_the_bound(&self, list: &[u8], bytes: &[u8], most: u64) -> Vec<usize> {
         match vault::scan_bound(list, bytes) {
             bound if bound <= most => vec![bound as usize, bound as usize - 1],
             _ => vec![],
@@ -450,6 +401,6 @@ fn pattern_byte(salt: u8, at: usize) -> u8 {
     (at as u8).wrapping_mul(167) ^ (at >> 8) as u8 ^ salt
 }
 
-fn pattern(salt: u8, length: usize) -> Box<[u8]> {
+pub fn pattern(salt: u8, length: usize) -> Box<[u8]> {
     (0..length).map(|at| pattern_byte(salt, at)).collect()
 }

@@ -131,6 +131,42 @@ pub fn store(rng: &mut Rng, store: &mut Vec<u8>) {
     }
 }
 
+/// A good store with a chunk that begins in the one before or in the directory, one that is longer or shorter, a store that ends in its last
+/// chunk, fewer entries than there are chunks, or an entry at another one's place.
+pub fn borders(rng: &mut Rng, store: &mut Vec<u8>) {
+    let count = get(store, 4) as usize;
+    let entry = |k: usize| (8 + 28 * k + 20, 8 + 28 * k + 24);
+    let end = |store: &[u8], k: usize| get(store, entry(k).0) + get(store, entry(k).1);
+    if count == 0 || rng.percent(10) {
+        put(store, 4, rng.below(count + 1) as u32);
+        let more = rng.below(40);
+        return store.extend(rng.bytes(more));
+    }
+    let k = rng.below(count);
+    let (offset, length) = entry(k);
+    let before = if k == 0 { 8 + 28 * count as u32 } else { end(store, k - 1) };
+    let near = rng.below(3) as u32;
+    match rng.below(6) {
+        // At the end of the one before or of the directory, and up to two bytes before it.
+        0..=1 => put(store, offset, before - near),
+        2 => put(store, offset, rng.below(before as usize) as u32),
+        // The chunk ends where the next one begins, or beside it; the last one where the store ends.
+        3 => {
+            let next = if k + 1 < count { get(store, entry(k + 1).0) } else { store.len() as u32 };
+            let new = (next + 1).saturating_sub(get(store, offset) + near);
+            put(store, length, new);
+        }
+        4 => {
+            let last = end(store, count - 1) as usize;
+            store.resize(last + 1 - near as usize, b'A');
+        }
+        _ => {
+            let other = get(store, entry(rng.below(count)).0);
+            put(store, offset, other);
+        }
+    }
+}
+
 /// `list` is the length of the keyword list in the index.
 pub fn index(rng: &mut Rng, index: &mut Vec<u8>, list: usize) {
     let start = 8 + list;

@@ -2,7 +2,7 @@
 
 use crate::inputs::{list, Case};
 use crate::rng::Rng;
-use crate::{beyond, folds, lanes, windows};
+use crate::{beyond, folds, holes, lanes, windows};
 use oracle::form::{Form, KNOWN, NEWEST};
 use oracle::records::Record;
 use oracle::{index, recipes, store, Fingerprint};
@@ -24,16 +24,16 @@ pub fn key(k: usize) -> Fingerprint {
     key
 }
 
-fn small_chunks() -> Chunks {
+pub fn small_chunks() -> Chunks {
     vec![([1; 20], b"XAB".to_vec()), ([2; 20], b"ABAX".to_vec()), ([3; 20], b"A".to_vec())]
 }
 
-/// The paper's cases, and those of its readers. They are small: valgrind can run them.
-pub fn small() -> Vec<Case> {
+/// The paper's cases, and those of its readers.
+fn papers() -> Vec<Case> {
     let (a, b, c) = ([1; 20], [2; 20], [3; 20]);
     let words: &[&[u8]] = &[b"ABA", b"AA"];
     let kind = "the paper's cases";
-    let mut cases = vec![
+    vec![
         case(kind, list(false, words), &small_chunks(), &[vec![a, b], vec![c, c], vec![]]),
         case(kind, list(false, words), &small_chunks(), &[vec![a, c]]),
         case(kind, list(false, words), &small_chunks(), &[vec![a, c, b]]),
@@ -61,18 +61,30 @@ pub fn small() -> Vec<Case> {
         // Tied starts, in both numberings, with one of them crossing.
         case(kind, list(false, &[b"ABA", b"AB"]), &vec![(a, b"xxAB".to_vec()), (b, b"Axx".to_vec())], &[vec![a, b]]),
         case(kind, list(false, &[b"AB", b"ABA"]), &vec![(a, b"xxAB".to_vec()), (b, b"Axx".to_vec())], &[vec![a, b]]),
-    ];
+    ]
+}
+
+/// The front of each input, up to 9 bytes.
+fn short_inputs() -> Vec<Case> {
+    let mut cases = Vec::new();
     for length in 0..10 {
         for start in [vec![], vec![1, 0, 1, 0x41]] {
-            let mut short = case("short inputs", start, &small_chunks(), &[vec![a]]);
+            let mut short = case("short inputs", start, &small_chunks(), &[vec![[1; 20]]]);
             short.store.truncate(length);
             short.recipes.truncate(length);
-            let mut index = index::encode::<&[u8]>(&NEWEST, &list(false, words), &[]);
+            let mut index = index::encode::<&[u8]>(&NEWEST, &list(false, &[b"ABA", b"AA"]), &[]);
             index.truncate(length);
             short.index = Some(index);
             cases.push(short);
         }
     }
+    cases
+}
+
+/// The cases that are small: valgrind can run them.
+pub fn small() -> Vec<Case> {
+    let mut cases = papers();
+    cases.extend(short_inputs());
     cases.extend(stores());
     cases.extend(moves());
     cases.extend([255, 256, 259].map(|length| around_borders(&sixteen()[..1], length, b'.')));
@@ -82,6 +94,8 @@ pub fn small() -> Vec<Case> {
     cases.extend(KNOWN.iter().flat_map(twin_indexes));
     cases.extend(windows::long_entries());
     cases.extend(beyond::by_hand());
+    cases.extend(beyond::few_by_hand());
+    cases.extend(holes::by_hand());
     cases.extend(all_recipes());
     cases
 }
@@ -132,7 +146,7 @@ fn twin_indexes(form: &Form) -> Vec<Case> {
     let mut cases = vec![of(good, &|_| ()), of(wrong, &|_| ())];
     for body in [good, wrong] {
         cases.push(of(body, &|index| index.push(0)));
-        cases.push(of(body, &|index| drop(index.pop())));
+        cases.push(of(body, &|index| index.truncate(index.len() - 1)));
         cases.push(of(body, &|index| index[0] = 0));
         cases.push(of(body, &|index| index[6] = 1));
         cases.push(of(body, &|index| index[8] = 0));
@@ -418,6 +432,7 @@ pub fn large() -> Vec<(&'static str, fn(&mut Rng) -> Vec<Case>)> {
         ("every two bytes", folds::every_byte),
         ("chunks of several windows", windows::large),
         ("the most occurrences", windows::most),
+        ("long holes", holes::large),
     ]
 }
 
@@ -564,7 +579,7 @@ fn many_chunks(rng: &mut Rng) -> Vec<Case> {
         let every: Vec<Fingerprint> = chunks.iter().filter(|(_, c)| c.len() >= 2).map(|(key, _)| *key).collect();
         all.recipes = recipes::encode(&[every, vec![chunks[64_999].0, chunks[0].0]]);
         cases.push(all);
-        // The first fingerprint again at the end; near twins; a byte too many; the count one higher.
+        // The first fingerprint again at the end; near twins; the count one higher.
         let mut twin = good.clone();
         twin.store.copy_within(8..28, 8 + 28 * 64_999);
         cases.push(twin);
@@ -572,9 +587,6 @@ fn many_chunks(rng: &mut Rng) -> Vec<Case> {
         near.store.copy_within(8..28, 8 + 28 * 64_999);
         near.store[8 + 28 * 64_999 + if how == 0 { 0 } else { 19 }] ^= 0x80;
         cases.push(near);
-        let mut longer = good.clone();
-        longer.store.push(0);
-        cases.push(longer);
         let mut more = good.clone();
         more.store[4..8].copy_from_slice(&65_001u32.to_le_bytes());
         cases.push(more);

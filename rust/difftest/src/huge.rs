@@ -1,8 +1,9 @@
-//! The sizes at which 32 bits end: stores of the greatest length, indexes, moves and bounds around 4,294,967,295. Each step
-//! wants some 5 GB of memory, so these run only when asked for (`--huge`). With the feature `mock` steps 3 to 6 hold the
-//! oracle's records too and want some 20 GB: there name another step.
+//! The sizes at which 32 bits end: chunks up to the greatest end, holes, indexes, moves and bounds around 4,294,967,295. Steps 1 to 9
+//! want some 5 GB of memory, so these run only when asked for (`--huge`). With the feature `mock` steps 3 to 6 hold the
+//! oracle's records too and want some 20 GB: there name another step. Of the holes of steps 10 and 11 nobody touches a page.
 
 use crate::inputs::list;
+use crate::{beyond, fixed};
 use oracle::form::{Form, FORM1, NEWEST};
 use oracle::moves::Trie;
 use oracle::records::{encode_body, records_of};
@@ -47,7 +48,7 @@ const TOO_LONG: (u8, u64, u64) = (9, UNTOLD, UNTOLD);
 
 /// All steps, or the one of that number from 1.
 pub fn run(step: u64) -> Verdict {
-    let steps: [fn() -> Verdict; 9] = [
+    let steps: [fn() -> Verdict; 11] = [
         || longest_store(4_096),
         || longest_store(65_000),
         || longest_index(0),
@@ -57,6 +58,8 @@ pub fn run(step: u64) -> Verdict {
         moves_past_32_bits,
         || longest_bound(0),
         || longest_bound(1),
+        holes_behind,
+        hole_between,
     ];
     steps.iter().zip(1..).filter(|(_, number)| step == 0 || step == *number).try_for_each(|(run, _)| run())
 }
@@ -64,13 +67,14 @@ pub fn run(step: u64) -> Verdict {
 /// The longest chunk.
 const LONGEST: usize = NEWEST.longest_chunk as usize;
 
-/// So many chunks, of equal lengths but for a byte: 4,294,967,295 bytes of store. 4,096 are as few as there can be, 65,000 the most, and
-/// each of them is longer than 65,535 bytes.
-fn longest_store(count: usize) -> Verdict {
-    println!("the longest store, of {count} chunks");
+/// The length of chunk k of so many, which without holes end at 4,294,967,295.
+fn most_of(count: usize, k: usize) -> usize {
     let data = U32 as usize - 8 - 28 * count;
-    let size = |k: usize| data / count + usize::from(k < data % count);
-    same("the longest of its chunks is allowed, and longer than 65,535", (65_536..=LONGEST).contains(&size(0)), true)?;
+    data / count + usize::from(k < data % count)
+}
+
+/// The store of these chunks, with room for a byte more.
+fn most_bytes(count: usize) -> Vec<u8> {
     let mut bytes = Vec::with_capacity(U32 as usize + 1);
     bytes.extend_from_slice(&store::MARK);
     bytes.extend_from_slice(&(count as u32).to_le_bytes());
@@ -78,14 +82,14 @@ fn longest_store(count: usize) -> Verdict {
     for k in 0..count {
         bytes.extend_from_slice(&key(k));
         bytes.extend_from_slice(&(offset as u32).to_le_bytes());
-        bytes.extend_from_slice(&(size(k) as u32).to_le_bytes());
-        offset += size(k);
+        bytes.extend_from_slice(&(most_of(count, k) as u32).to_le_bytes());
+        offset += most_of(count, k);
     }
     let mut state = 1u32;
     for k in 0..count {
         // Nothing but its first letter (two moves a byte), a keyword at a random place, one over the first window's end, and half a keyword
         // at one end.
-        let (start, size) = (bytes.len(), size(k));
+        let (start, size) = (bytes.len(), most_of(count, k));
         bytes.resize(start + size, b'c');
         state = state.wrapping_mul(1_664_525).wrapping_add(1_013_904_223);
         let at = start + 3 + (state >> 8) as usize % (size - 10);
@@ -96,6 +100,16 @@ fn longest_store(count: usize) -> Verdict {
             _ => bytes[start..start + 2].copy_from_slice(b"sh"),
         }
     }
+    bytes
+}
+
+/// So many chunks without holes, of equal lengths but for a byte, up to 4,294,967,295. 4,096 are as few as there can be, 65,000 the most,
+/// and each of them is longer than 65,535 bytes.
+fn longest_store(count: usize) -> Verdict {
+    println!("the most bytes of chunks, in {count} chunks");
+    let size = |k: usize| most_of(count, k);
+    same("the longest of its chunks is allowed, and longer than 65,535", (65_536..=LONGEST).contains(&size(0)), true)?;
+    let mut bytes = most_bytes(count);
     same("length", bytes.len() as u64, U32)?;
     let words = list(false, &[b"cash"]);
     same("store check", raw::check_store(&bytes), 0)?;
@@ -121,9 +135,9 @@ fn longest_store(count: usize) -> Verdict {
     let twin = 8 + 28 * (count - 1);
     bytes.copy_within(8..28, twin);
     same("store check, twins at both ends", raw::check_store(&bytes), 8)?;
-    // The last chunk a byte longer, with that byte: it ends beyond.
+    // A byte behind the last chunk is a hole, and the last chunk with that byte ends beyond.
     bytes.push(b'c');
-    same("store check, a byte too many", raw::check_store(&bytes), 7)?;
+    same("store check, twins and a byte behind", raw::check_store(&bytes), 8)?;
     bytes[twin + 24..twin + 28].copy_from_slice(&(last as u32 + 1).to_le_bytes());
     same("store check, an end of 4,294,967,296", raw::check_store(&bytes), 20)?;
     same("scan, an end of 4,294,967,296", scan(&words, &bytes, &mut [0; 9]), (20, UNTOLD, UNTOLD))
@@ -264,6 +278,91 @@ fn longest_bound(more: u64) -> Verdict {
         same(&format!("scan into {length} bytes"), scan(&words, &bytes, &mut out), told)?;
         let (front, rest) = out.split_at(want.len());
         same("the index is the oracle's, and no byte behind it", front == want && rest.iter().all(|b| *b == 0), true)?;
+    }
+    Ok(())
+}
+
+/// Chunks with a keyword, its front and its rest, and a zero as the holes have them.
+const PIECES: [&[u8]; 2] = [b"cash\0ca", b"sh\0cash"];
+
+/// A store of these two chunks at these offsets, with zeros elsewhere, up to that length. Pages of zeros are there when they are touched.
+fn sparse(offsets: [u64; 2], length: u64) -> Vec<u8> {
+    let mut bytes = vec![0; length as usize];
+    let head = beyond::entries(&[(offsets[0], PIECES[0].len() as u64), (offsets[1], PIECES[1].len() as u64)]);
+    bytes[..head.len()].copy_from_slice(&head);
+    for (offset, piece) in offsets.iter().zip(PIECES) {
+        bytes[*offset as usize..][..piece.len()].copy_from_slice(piece);
+    }
+    bytes
+}
+
+/// Every call on such a store, beside the oracle on the same chunks without holes.
+fn as_without_holes(offsets: [u64; 2], bytes: &[u8]) -> Verdict {
+    let keys = [0, 1].map(fixed::key);
+    let words = list(false, &[b"cash", b"\0", b"\0\0"]);
+    let plain = store::encode(&[(keys[0], PIECES[0]), (keys[1], PIECES[1])]);
+    let recipes = recipes::encode(&[vec![keys[0], keys[1]], vec![keys[1], keys[0]]]);
+    let refused = |code| format!("the oracle refuses with {code}");
+    let want = calls::index_of(&words, &plain).map_err(refused)?;
+    let moves = calls::moves_of(&words, &plain).map_err(refused)?;
+    same("store check", raw::check_store(bytes), 0)?;
+    same("scan_size", answer(|length| raw::scan_size(&words, bytes, length)), (0, want.len() as u64))?;
+    for length in [want.len(), 5_000] {
+        let mut out = vec![0xEE; length];
+        same("scan", scan(&words, bytes, &mut out), (0, want.len() as u64, moves))?;
+        same("the index", out[..want.len()] == want && out[want.len()..].iter().all(|b| *b == 0xEE), true)?;
+    }
+    same("scan, a byte short", scan(&words, bytes, &mut vec![0xEE; want.len() - 1]), TOO_LONG)?;
+    for (k, piece) in PIECES.iter().enumerate() {
+        same("chunk", raw::chunk(bytes, &keys[k]), (0, offsets[k], piece.len() as u64))?;
+    }
+    same("chunk that isn't there", raw::chunk(bytes, &fixed::key(2)), (15, 0, 0))?;
+    let (mut index, mut out, mut expected) = (vec![0xEE; want.len()], vec![0xEE; 200], vec![0xEE; 200]);
+    let joined = answer(|count| calls::join(&want, &recipes, &mut expected, count));
+    let (mut length, mut count) = (UNTOLD, UNTOLD);
+    let code = raw::search(&words, bytes, &recipes, (&mut index, &mut out), (&mut length, &mut count));
+    same("search", (code, length, count), (joined.0, want.len() as u64, joined.1))?;
+    same("its index and its list", index == want && out == expected, true)
+}
+
+/// Stores longer than 4,294,967,295 bytes, whose lengths are small, or 0, in 32 bits.
+fn holes_behind() -> Verdict {
+    println!("stores longer than 4,294,967,295 bytes");
+    let offsets = [100, 1_000];
+    let mut bytes = sparse(offsets, 2 * U32 + 100);
+    for length in [U32, U32 + 1, U32 + 2, U32 + 100, 2 * U32 + 2, 2 * U32 + 100] {
+        println!(" {length} bytes");
+        as_without_holes(offsets, &bytes[..length as usize])?;
+    }
+    bytes.copy_within(8..28, 36);
+    same("store check, twins", raw::check_store(&bytes), 8)?;
+    bytes[8 + 24] = 0;
+    same("store check, a length of 0", raw::check_store(&bytes), 7)?;
+    bytes[4..8].fill(0);
+    same("store check, without chunks", raw::check_store(&bytes), 0)?;
+    bytes[0] = 0;
+    same("store check, another mark", raw::check_store(&bytes), 5)
+}
+
+/// A hole between two chunks, the second of which ends at 4,294,967,295, and one beyond it.
+fn hole_between() -> Verdict {
+    println!("a hole up to 4,294,967,295");
+    let last = U32 - PIECES[1].len() as u64;
+    for offsets in [[64, last], [last - PIECES[0].len() as u64, last], [1 << 31, last], [64, (1 << 31) - 3]] {
+        println!(" chunks at {offsets:?}");
+        let bytes = sparse(offsets, U32 + 1);
+        as_without_holes(offsets, &bytes)?;
+        as_without_holes(offsets, &bytes[..U32 as usize])?;
+    }
+    let bytes = sparse([64, last], U32 + 1);
+    same("store check, a byte short", raw::check_store(&bytes[..U32 as usize - 1]), 7)?;
+    drop(bytes);
+    let bytes = sparse([64, last + 1], U32 + 1);
+    for length in [U32 + 1, U32, 2_000] {
+        let bytes = &bytes[..length as usize];
+        same("store check, an end of 4,294,967,296", raw::check_store(bytes), 20)?;
+        same("scan", scan(&list(false, &[b"cash"]), bytes, &mut [0; 90]), (20, UNTOLD, UNTOLD))?;
+        same("chunk", raw::chunk(bytes, &fixed::key(0)), (20, 0, 0))?;
     }
     Ok(())
 }

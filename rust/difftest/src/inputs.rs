@@ -1,10 +1,12 @@
 //! Random inputs: keywords that overlap and nest, chunks made of their pieces, recipes, made-up records.
 
 use crate::folds::beside;
+use crate::holes;
 use crate::rng::Rng;
 use oracle::form::{Form, KNOWN};
 use oracle::keywords::{alike, Keywords};
 use oracle::records::{encode_body, reach, Record};
+use oracle::store::Chunk;
 use oracle::{index, keywords, recipes, store, Fingerprint};
 
 /// What one case is about. `index` is what the join reads; without it, what the scan writes.
@@ -19,13 +21,17 @@ pub struct Case {
     pub keys: Vec<Vec<u8>>,
 }
 
-/// The case with its store's chunks in another order: reversed, rotated, or any. Only where the join reads what the scan writes, and
-/// where the store is accepted, has two chunks or more, and isn't large.
-pub fn shuffled(rng: &mut Rng, case: &Case) -> Option<Case> {
-    if case.index.is_some() || case.store.len() > 1 << 22 {
-        return None;
+impl Case {
+    /// The chunks, where the join reads what the scan writes, and where the store is accepted and isn't large.
+    pub fn movable(&self) -> Option<Vec<Chunk>> {
+        let usual = self.index.is_none() && self.store.len() <= 1 << 22;
+        usual.then(|| store::read(&self.store).ok())?
     }
-    let chunks = store::read(&case.store).ok().filter(|chunks| chunks.len() > 1)?;
+}
+
+/// The case with its store's chunks in another order: reversed, rotated, or any; and with other holes. It wants two chunks or more.
+pub fn shuffled(rng: &mut Rng, case: &Case) -> Option<Case> {
+    let chunks = case.movable().filter(|chunks| chunks.len() > 1)?;
     let mut moved: Vec<(Fingerprint, &[u8])> = chunks.iter().map(|c| (c.key, &case.store[c.place.clone()])).collect();
     match rng.below(4) {
         0 => moved.reverse(),
@@ -40,9 +46,15 @@ pub fn shuffled(rng: &mut Rng, case: &Case) -> Option<Case> {
             }
         }
     }
-    let mut keys = case.keys.clone();
-    keys.extend(chunks.iter().take(24).map(|c| c.key.to_vec()));
-    Some(Case { kind: "stores in another order", store: store::encode(&moved), keys, ..case.clone() })
+    let store = holes::store(rng, keywords::read(&case.list).ok().as_ref(), &moved);
+    Some(changed("stores in another order", case, store, &chunks))
+}
+
+/// The case with another store, which has the same chunks: also with fingerprints of theirs to look up, fewer where each takes long.
+pub fn changed(kind: &'static str, case: &Case, store: Vec<u8>, chunks: &[Chunk]) -> Case {
+    let more = if chunks.len() > 1_000 { 2 } else { 24 };
+    let keys = case.keys.iter().cloned().chain(chunks.iter().take(more).map(|c| c.key.to_vec())).collect();
+    Case { kind, store, keys, ..case.clone() }
 }
 
 /// Keywords, and the letters that keywords and chunks are made of.
@@ -293,7 +305,7 @@ pub fn vault_of(rng: &mut Rng, kind: &'static str, words: Words) -> (Case, Words
     let case = Case {
         kind,
         list: words.list(),
-        store: store::encode(&chunks),
+        store: holes::store(rng, Some(&words.keywords), &chunks),
         index: None,
         recipes: recipes::encode(&files),
         keys: lookups(rng, &keys),

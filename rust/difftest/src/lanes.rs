@@ -2,10 +2,11 @@
 //! library parts its work. The proved one walks a chunk of [`PARTED`] bytes or more in four lanes, each over a quarter (the last also
 //! over the 0 to 3 bytes left), and starts a lane from the [`BEFORE`] bytes before it.
 
+use crate::holes;
 use crate::inputs::{self, Case, Words};
 use crate::rng::Rng;
 use oracle::keywords::{alike, compares_as, Keywords};
-use oracle::{recipes, store, Fingerprint};
+use oracle::{recipes, Fingerprint};
 
 const PARTED: usize = 256;
 const BEFORE: usize = 32;
@@ -169,7 +170,7 @@ pub fn vault(rng: &mut Rng) -> Case {
     Case {
         kind: "moves and lanes",
         list: words.list(),
-        store: store::encode(&chunks),
+        store: holes::store(rng, Some(&words.keywords), &chunks),
         index: None,
         recipes: recipes::encode(&inputs::files(rng, &keys)),
         keys: inputs::lookups(rng, &keys),

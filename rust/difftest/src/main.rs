@@ -4,22 +4,26 @@
 //!     difftest --huge [STEP]
 //!
 //! First the cases by hand, then the large ones, then CASES random ones. `--quick` leaves the large ones out, so that
-//! valgrind can run it; `--huge` runs only those that want 5 GB of memory. A difference prints the seed and the case, writes its inputs to a folder, and ends with status 1.
+//! valgrind can run it; `--huge` runs only those that want 5 GB of memory. A difference prints the seed and the case, writes its
+//! inputs to a folder, and ends with status 1.
 
 mod beyond;
 mod compare;
 mod damage;
 mod fixed;
 mod folds;
+mod holes;
 mod huge;
 mod inputs;
 mod lanes;
+mod pairs;
 mod rng;
 mod windows;
 
 use compare::{Comparison, Limits, Tally, USUAL};
 use inputs::Case;
 use oracle::form::{KNOWN, NEWEST};
+use pairs::Change;
 use rng::Rng;
 use std::process::ExitCode;
 use std::time::{Duration, Instant};
@@ -76,26 +80,15 @@ fn on_large_stack<T: Send>(work: impl FnOnce() -> T + Send) -> T {
     vault::on_large_stack(work).expect("a thread can be started")
 }
 
-/// A random case: sound, damaged in one input, in two, made up, noise, for the walk, for the fold, or for the ends of 32 bits.
+/// A random case: sound, damaged in one input, in two, made up, noise, for the walk, for the fold, for the ends of 32 bits, or for the
+/// borders of chunks.
 fn random(rng: &mut Rng) -> Case {
-    match rng.below(126) {
+    match rng.below(132) {
         0..=29 => inputs::vault(rng, "vaults").0,
-        30..=36 => {
-            let (mut case, _, _) = inputs::vault(rng, "damaged keywords");
-            damage::keywords(rng, &mut case.list);
-            case
-        }
-        37..=46 => {
-            let (mut case, _, _) = inputs::vault(rng, "damaged store");
-            damage::store(rng, &mut case.store);
-            case
-        }
+        30..=36 => damaged(rng, "damaged keywords", |rng, case| damage::keywords(rng, &mut case.list)),
+        37..=46 => damaged(rng, "damaged store", |rng, case| damage::store(rng, &mut case.store)),
         47..=58 => damaged_index(rng, "damaged index"),
-        59..=65 => {
-            let (mut case, _, _) = inputs::vault(rng, "damaged recipes");
-            damage::recipes(rng, &mut case.recipes);
-            case
-        }
+        59..=65 => damaged(rng, "damaged recipes", |rng, case| damage::recipes(rng, &mut case.recipes)),
         66..=75 => two_faults(rng),
         76..=87 => inputs::made_up(rng, "made-up records").case(),
         88..=95 => {
@@ -108,22 +101,26 @@ fn random(rng: &mut Rng) -> Case {
         98..=99 => noise(rng),
         100..=111 => lanes::vault(rng),
         112..=119 => folds::vault(rng),
-        120..=124 => {
-            let (mut case, _, _) = inputs::vault(rng, "indexes of either mark");
-            case.index = inputs::scanned(rng, &case);
-            case
-        }
-        _ => beyond::random(rng),
+        120..=124 => damaged(rng, "indexes of either mark", |rng, case| case.index = inputs::scanned(rng, case)),
+        125 => beyond::random(rng),
+        126..=127 => beyond::few(rng),
+        _ => damaged(rng, "store damaged at a chunk's borders", |rng, case| damage::borders(rng, &mut case.store)),
     }
 }
 
-fn damaged_index(rng: &mut Rng, kind: &'static str) -> Case {
+/// A sound vault, and what is done to it.
+fn damaged(rng: &mut Rng, kind: &'static str, spoil: impl FnOnce(&mut Rng, &mut Case)) -> Case {
     let (mut case, _, _) = inputs::vault(rng, kind);
-    if let Some(mut index) = inputs::scanned(rng, &case) {
-        damage::index(rng, &mut index, case.list.len());
-        case.index = Some(index);
-    }
+    spoil(rng, &mut case);
     case
+}
+
+fn damaged_index(rng: &mut Rng, kind: &'static str) -> Case {
+    damaged(rng, kind, |rng, case| {
+        case.index = inputs::scanned(rng, case);
+        let list = case.list.len();
+        case.index.iter_mut().for_each(|index| damage::index(rng, index, list));
+    })
 }
 
 /// Two faults, in one input or in two.
@@ -154,7 +151,7 @@ fn long_chunks(rng: &mut Rng) -> Case {
         data.truncate(NEWEST.longest_chunk as usize);
         chunks.push((*key, data));
     }
-    case.store = oracle::store::encode(&chunks);
+    case.store = holes::store(rng, Some(&words.keywords), &chunks);
     case
 }
 
@@ -185,19 +182,21 @@ struct Run<'a> {
 }
 
 impl Run<'_> {
-    /// Runs a case, and the same vault with its store's chunks in another order.
+    /// Runs a case, and the same vault with its store's chunks in another order, and with other bytes in its store's holes.
     fn one(&mut self, number: &str, case: &Case, rng: &mut Rng) -> bool {
-        if !self.alone(number, case, None, rng) {
-            return false;
-        }
-        let moved = inputs::shuffled(rng, case);
-        moved.is_none_or(|moved| self.alone(number, &moved, Some(&case.store), rng))
+        let changes: [(Change, fn(&mut Rng, &Case) -> Option<Case>); 2] =
+            [(Change::Order, inputs::shuffled), (Change::Holes, holes::refilled)];
+        self.alone(number, case, None, rng)
+            && changes.into_iter().all(|(change, made)| {
+                made(rng, case).is_none_or(|other| self.alone(number, &other, Some((change, &case.store)), rng))
+            })
     }
 
-    /// Runs a case, first against another order of its store; a difference is told and its inputs are kept.
-    fn alone(&mut self, number: &str, case: &Case, other: Option<&[u8]>, rng: &mut Rng) -> bool {
+    /// Runs a case, first against another store; a difference is told and its inputs are kept.
+    fn alone(&mut self, number: &str, case: &Case, other: Option<(Change, &[u8])>, rng: &mut Rng) -> bool {
         let mut comparison = Comparison { tally: &mut self.tally, rng, limits: self.limits };
-        let verdict = other.map_or(Ok(()), |other| comparison.orders(case, other)).and_then(|()| comparison.run(case));
+        let pair = other.map_or(Ok(()), |(change, other)| comparison.pair(change, case, other));
+        let verdict = pair.and_then(|()| comparison.run(case));
         let Err(why) = verdict else { return true };
         println!("\nDIFFERENCE in case {number} of seed {}, kind \"{}\"", self.seed, case.kind);
         println!("  {why}");
@@ -211,14 +210,14 @@ impl Run<'_> {
     }
 }
 
-fn keep(folder: &str, case: &Case, other: Option<&[u8]>) -> std::io::Result<()> {
+fn keep(folder: &str, case: &Case, other: Option<(Change, &[u8])>) -> std::io::Result<()> {
     std::fs::create_dir_all(folder)?;
     let write = |name: &str, bytes: &[u8]| std::fs::write(format!("{folder}/{name}"), bytes);
     write("words.bin", &case.list)?;
     write("store.bin", &case.store)?;
     write("recipes.bin", &case.recipes)?;
     case.index.as_ref().map_or(Ok(()), |index| write("index.bin", index))?;
-    other.map_or(Ok(()), |other| write("other-store.bin", other))?;
+    other.map_or(Ok(()), |(_, other)| write("other-store.bin", other))?;
     case.keys.iter().enumerate().try_for_each(|(k, key)| write(&format!("key{k}.bin"), key))
 }
 
@@ -238,20 +237,18 @@ fn run(arguments: &Arguments) -> ExitCode {
         return ExitCode::FAILURE;
     }
     report(&run.tally, started.elapsed());
-    let missing = missing(&run.tally);
     if arguments.only.is_some() || arguments.quick || arguments.cases < 5_000 {
         return ExitCode::SUCCESS;
     }
-    if !missing.is_empty() {
-        println!("FAILED: codes that no case reached: {}", missing.join(", "));
-        return ExitCode::FAILURE;
+    let lacking = [
+        ("codes that no case reached", missing(&run.tally)),
+        ("bytes at the fold's borders that no case brought together", run.tally.meetings.missing()),
+        ("holes that no good store had", run.tally.missing_holes()),
+    ];
+    for (what, which) in lacking.iter().filter(|(_, which)| !which.is_empty()) {
+        println!("FAILED: {what}: {}", which.join(", "));
     }
-    let unmet = run.tally.meetings.missing();
-    if !unmet.is_empty() {
-        println!("FAILED: bytes at the fold's borders that no case brought together: {}", unmet.join(", "));
-        return ExitCode::FAILURE;
-    }
-    ExitCode::SUCCESS
+    ExitCode::from(u8::from(lacking.iter().any(|(_, which)| !which.is_empty())))
 }
 
 fn all(arguments: &Arguments, run: &mut Run, started: Instant) -> bool {
@@ -332,6 +329,7 @@ fn report(tally: &Tally, time: Duration) {
     tally.meetings.report();
     let marks: Vec<String> = tally.marks.iter().map(|(mark, n)| format!("{} {n}", mark[..3].escape_ascii())).collect();
     println!("\ngood indexes by mark: {}; good stores with a chunk longer than 65,535 bytes: {}", marks.join(", "), tally.long);
+    println!("holes in good stores: {}", tally.holes_by_place().map(|(place, count)| format!("{place} {count}")).join(", "));
     let calls: u64 = tally.codes.values().sum();
     println!(
         "\n{} cases, {calls} answers compared, {} bytes of buffers, {} occurrences listed,",
@@ -344,6 +342,9 @@ fn report(tally: &Tally, time: Duration) {
         "{} moves, of {} stores counted by strings too, {} scans in buffers as long as the bound,",
         tally.moves, tally.by_strings, tally.one_walk
     );
-    println!("{} answers the same on two orders of a store's chunks, {:.1} s", tally.orders, time.as_secs_f64());
+    for (change, count) in &tally.pairs {
+        println!("{count} answers the same with {},", change.name());
+    }
+    println!("{:.1} s", time.as_secs_f64());
     println!("no difference");
 }

@@ -3,13 +3,14 @@
 //! windows and then fills the lists of offsets window by window.
 
 use crate::fixed::{case, key, Chunks};
+use crate::holes;
 use crate::inputs::{self, list, Case};
 use crate::lanes;
 use crate::rng::Rng;
 use oracle::form::{Form, FORM1, FORM2, NEWEST};
 use oracle::keywords::{alike, Keywords};
 use oracle::records::Record;
-use oracle::{index, recipes, store, Fingerprint};
+use oracle::{index, recipes, Fingerprint};
 
 pub const WINDOW: usize = 65_536;
 
@@ -237,7 +238,7 @@ fn random(rng: &mut Rng) -> Case {
     Case {
         kind: "chunks of several windows",
         list: words.list(),
-        store: store::encode(&chunks),
+        store: holes::store(rng, Some(&words.keywords), &chunks),
         index: None,
         recipes: recipes::encode(&[keys.clone(), vec![*rng.pick(&keys); 2]]),
         keys: inputs::lookups(rng, &keys),

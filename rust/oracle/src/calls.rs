@@ -256,6 +256,28 @@ mod tests {
         assert_eq!((index, out), ([0xEE; 50], [0xEE; 50]));
     }
 
+    /// Request 106: on stores that differ in their holes alone every call answers and writes the same.
+    #[test]
+    fn holes_bear_on_nothing() {
+        let (list, _, recipes) = small();
+        let chunks = [([1; 20], &b"XAB"[..]), ([2; 20], b"ABAX"), ([3; 20], b"A")];
+        let answers = |filler: u8, behind: usize| {
+            let holes = [vec![filler; 2], vec![], vec![filler; 9], vec![filler; behind]];
+            let store = store::encode_with_holes(&chunks, &holes);
+            let (mut index, mut out, mut length, mut count) = (vec![0xEE; SMALL + 1], vec![0xEE; 30], UNTOLD, UNTOLD);
+            let code = search(&list, &store, &recipes, (&mut index, &mut out), (&mut length, &mut count));
+            let found = chunk(&store, &[2; 20]);
+            assert_eq!(&store[found.clone().unwrap()], b"ABAX");
+            (check_store(&store), code, length, count, index, out, found, moves_of(&list, &store))
+        };
+        let first = answers(b'A', 0);
+        assert_eq!((first.0, first.1, first.2, first.3, &first.6, first.7), (0, 0, SMALL as u64, 3, &Ok(97..101), Ok(10)));
+        assert_eq!(first.4[..SMALL], index_of(&list, &store::encode(&chunks)).unwrap());
+        for (filler, behind) in [(b'B', 0), (b'A', 1), (0, 300)] {
+            assert_eq!(answers(filler, behind), first);
+        }
+    }
+
     /// Document 01's small vault under the old mark: the same list.
     #[test]
     fn the_old_mark_is_joined() {

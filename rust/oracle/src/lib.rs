@@ -4,7 +4,7 @@
 //! taken in 64 bits, and every function answers for all inputs. Each module is one section of the paper:
 //!
 //! * [`keywords`]: "Words" with request 104's accented capitals, and the word check;
-//! * [`store`]: "Store", with the store check and request 105's number 20;
+//! * [`store`]: "Store" with request 106's holes, and the store check with request 105's number 20;
 //! * [`records`]: "Notes on one chunk and one word", and their written form;
 //! * [`moves`]: request 103, what a scan's walk of the trie counts;
 //! * [`form`]: the written forms of an index, by their marks: document 01's and request 105's;

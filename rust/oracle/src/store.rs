@@ -1,4 +1,4 @@
-//! Document 01, "Store", with request 105: the store check (5 to 8, and 20), and a writer for tests.
+//! Document 01, "Store", with requests 105 (number 20) and 106 (holes): the store check (5 to 8, and 20), and a writer for tests.
 
 use crate::form::NEWEST;
 use crate::{fingerprint, number, twice, Code, Fingerprint, MOST_CHUNKS, U32};
@@ -24,20 +24,21 @@ pub fn read(store: &[u8]) -> Result<Vec<Chunk>, Code> {
         return Err(6);
     }
     let mut chunks = Vec::new();
+    // Where the directory ends, then each chunk: the next one lies at or after it.
     let mut end = 8 + 28 * count;
     for k in 0..count as usize {
         let entry = 8 + 28 * k;
         let (offset, size) = (number(store, entry + 20), number(store, entry + 24));
-        if !(1..=NEWEST.longest_chunk).contains(&size) || offset != end {
+        if !(1..=NEWEST.longest_chunk).contains(&size) || offset < end {
             return Err(7);
         }
-        end += size;
+        end = offset + size;
         if end > U32 {
             return Err(20);
         }
         chunks.push(Chunk { key: fingerprint(store, entry), place: offset as usize..end as usize });
     }
-    if end != length {
+    if end > length {
         return Err(7);
     }
     if twice(chunks.iter().map(|c| &c.key)) {
@@ -46,20 +47,29 @@ pub fn read(store: &[u8]) -> Result<Vec<Chunk>, Code> {
     Ok(chunks)
 }
 
-/// A store of these chunks, in this order. They need not be acceptable; lengths and offsets are cut to 32 bits.
+/// A store of these chunks, in this order, without holes. They need not be acceptable; lengths and offsets are cut to 32 bits.
 pub fn encode<B: AsRef<[u8]>>(chunks: &[(Fingerprint, B)]) -> Vec<u8> {
+    encode_with_holes(chunks, &[])
+}
+
+/// The same with holes: the bytes before each chunk, then those behind the last one. A hole that isn't given is none.
+pub fn encode_with_holes<B: AsRef<[u8]>>(chunks: &[(Fingerprint, B)], holes: &[Vec<u8>]) -> Vec<u8> {
+    let hole = |k: usize| holes.get(k).map_or(&[][..], |hole| hole);
     let mut bytes = MARK.to_vec();
     bytes.extend_from_slice(&(chunks.len() as u32).to_le_bytes());
     let mut end = 8 + 28 * chunks.len();
-    for (key, chunk) in chunks {
+    for (k, (key, chunk)) in chunks.iter().enumerate() {
+        let offset = end + hole(k).len();
         bytes.extend_from_slice(key);
-        bytes.extend_from_slice(&(end as u32).to_le_bytes());
+        bytes.extend_from_slice(&(offset as u32).to_le_bytes());
         bytes.extend_from_slice(&(chunk.as_ref().len() as u32).to_le_bytes());
-        end += chunk.as_ref().len();
+        end = offset + chunk.as_ref().len();
     }
-    for (_, chunk) in chunks {
+    for (k, (_, chunk)) in chunks.iter().enumerate() {
+        bytes.extend_from_slice(hole(k));
         bytes.extend_from_slice(chunk.as_ref());
     }
+    bytes.extend_from_slice(hole(chunks.len()));
     bytes
 }
 
@@ -88,7 +98,6 @@ mod tests {
         assert_eq!(code(&[0x44, 0x56, 0x31, 0x0A, 0, 0, 0]), 5);
         assert_eq!(code(&[0x44, 0x56, 0x32, 0x0A, 0, 0, 0, 0]), 5);
         assert_eq!(code(&[0x44, 0x56, 0x31, 0x0A, 0, 0, 0, 0]), 0);
-        assert_eq!(code(&[0x44, 0x56, 0x31, 0x0A, 0, 0, 0, 0, 0]), 7);
         assert_eq!(code(&[0x44, 0x56, 0x31, 0x0A, 1, 0, 0, 0]), 6);
         assert_eq!(code(&[0x44, 0x56, 0x31, 0x0A, 0xFF, 0xFF, 0xFF, 0xFF]), 6);
         let mut many = MARK.to_vec();
@@ -99,7 +108,7 @@ mod tests {
 
     #[test]
     fn entries() {
-        for (at, wrong) in [(8 + 20, 1), (8 + 24, 0), (8 + 24, 2), (8 + 28 + 20, 0), (8 + 56 + 26, 1)] {
+        for (at, wrong) in [(8 + 20, 1), (8 + 24, 0), (8 + 24, 4), (8 + 28 + 20, 0), (8 + 56 + 26, 1)] {
             let mut store = small();
             store[at] = wrong;
             assert_eq!(code(&store), 7, "byte {at}");
@@ -113,18 +122,102 @@ mod tests {
         }
     }
 
-    /// A store of which only the directory is there, with chunks of these lengths.
-    fn directory(sizes: &[u64]) -> Vec<u8> {
-        let mut bytes = MARK.to_vec();
-        bytes.extend_from_slice(&(sizes.len() as u32).to_le_bytes());
-        let mut end = 8 + 28 * sizes.len() as u64;
-        for (k, size) in sizes.iter().enumerate() {
+    /// A store of which only the directory is there, with entries of these offsets and lengths.
+    fn stated(entries: &[(u64, u64)]) -> Vec<u8> {
+        let mut bytes = [MARK, (entries.len() as u32).to_le_bytes()].concat();
+        for (k, (offset, size)) in entries.iter().enumerate() {
             bytes.extend_from_slice(&(k as u32).to_le_bytes().repeat(5));
-            bytes.extend_from_slice(&(end as u32).to_le_bytes());
+            bytes.extend_from_slice(&(*offset as u32).to_le_bytes());
             bytes.extend_from_slice(&(*size as u32).to_le_bytes());
-            end += size;
         }
         bytes
+    }
+
+    /// The same for chunks of these lengths without holes.
+    fn directory(sizes: &[u64]) -> Vec<u8> {
+        let mut end = 8 + 28 * sizes.len() as u64;
+        let entry = |size: &u64| {
+            end += size;
+            (end - size, *size)
+        };
+        stated(&sizes.iter().map(entry).collect::<Vec<_>>())
+    }
+
+    /// Request 106: every set of holes, and the same chunks.
+    #[test]
+    fn holes() {
+        let chunks = [([1; 20], &b"XAB"[..]), ([2; 20], b"ABAX"), ([3; 20], b"A")];
+        for set in 0..16usize {
+            let holes: Vec<Vec<u8>> = (0..4).map(|k| vec![b'A'; if set >> k & 1 == 1 { 1 + 7 * k } else { 0 }]).collect();
+            let store = encode_with_holes(&chunks, &holes);
+            assert_eq!(store.len(), 100 + holes.concat().len());
+            let read = read(&store).unwrap();
+            let found: Vec<(Fingerprint, &[u8])> = read.iter().map(|c| (c.key, &store[c.place.clone()])).collect();
+            assert_eq!(found, chunks, "{set}");
+            assert_eq!(read[0].place.start, 92 + holes[0].len());
+        }
+        assert_eq!(encode_with_holes(&chunks, &vec![vec![]; 4]), small());
+    }
+
+    /// Without chunks every length from 8 on.
+    #[test]
+    fn no_chunks() {
+        let none = [&MARK[..], &[0; 4]].concat();
+        for more in [0, 1, 2, 28, 1_000] {
+            assert_eq!(read(&[&none[..], &vec![0xFF; more]].concat()), Ok(vec![]), "{more}");
+        }
+        assert_eq!(code(&none[..7]), 5);
+    }
+
+    /// One byte decides: in the directory, in the chunk before, at the store's end.
+    #[test]
+    fn chunks_that_touch_what_they_must_not() {
+        let with = |entries: &[(u64, u64)], length: usize| {
+            let mut store = stated(entries);
+            store.resize(length, b'A');
+            code(&store)
+        };
+        for (offset, want) in [(0, 7), (7, 7), (8, 7), (35, 7), (36, 0), (37, 0), (99, 0), (100, 7)] {
+            assert_eq!(with(&[(offset, 1)], 100), want, "{offset}");
+        }
+        for (offset, want) in [(64, 7), (73, 7), (74, 0), (75, 0), (95, 0), (96, 7)] {
+            assert_eq!(with(&[(64, 10), (offset, 5)], 100), want, "{offset}");
+        }
+        // Behind a hole the running end is the chunk's own; chunks that are there twice overlap.
+        assert_eq!(with(&[(80, 10), (74, 5)], 100), 7);
+        assert_eq!(with(&[(80, 10), (89, 5)], 100), 7);
+        assert_eq!(with(&[(80, 10), (80, 10)], 100), 7);
+        assert_eq!(with(&[(80, 10), (90, 10)], 100), 0);
+        assert_eq!(with(&[(80, 10), (90, 10)], 99), 7);
+    }
+
+    /// The readings' vectors: few entries, far apart.
+    #[test]
+    fn holes_up_to_32_bits() {
+        for (entries, want) in [
+            (&[(U32, 1)][..], 20),
+            (&[(U32 - 1, 1)], 7),
+            (&[(U32, 38)], 20),
+            (&[(U32, LONGEST + 1)], 7),
+            (&[(U32, 0)], 7),
+            (&[(U32 - LONGEST, LONGEST)], 7),
+            (&[(U32 - LONGEST + 1, LONGEST)], 20),
+            (&[(64, 0), (U32, 1)], 7),
+            (&[(U32, 1), (64, 0)], 20),
+            // Entry 0 ends beyond the store, entry 1 beyond 32 bits.
+            (&[(64, 1), (U32, 1)], 20),
+            (&[(1_000, 1), (U32 - 1, 2)], 20),
+            // An offset before the end of the one before, and an end beyond.
+            (&[(U32 - 1, 1), (U32 - 1, 2)], 7),
+            (&[(U32 - 1, 1), (U32, 1)], 20),
+            (&[(U32 - 1, 1), (U32, 0)], 7),
+        ] {
+            assert_eq!(code(&stated(entries)), want, "{entries:?}");
+        }
+        // The same with bytes for an end that wraps.
+        let mut wraps = stated(&[(U32, 38)]);
+        wraps.resize(100, b'A');
+        assert_eq!(code(&wraps), 20);
     }
 
     const LONGEST: u64 = 1_048_576;
@@ -167,8 +260,8 @@ mod tests {
         for size in [0, LONGEST + 1, U32] {
             assert_eq!(with(&[LONGEST], 4_095, 24, size), 7, "{size}");
         }
-        for offset in [0, 1, U32 - LONGEST, U32 - 1, U32] {
-            assert_eq!(with(&[LONGEST], 4_095, 20, offset), 7, "{offset}");
+        for (offset, want) in [(0, 7), (1, 7), (U32 - LAST - 1, 7), (U32 - LAST, 20), (U32 - 1, 20), (U32, 20)] {
+            assert_eq!(with(&[LONGEST], 4_095, 20, offset), want, "{offset}");
         }
         // An earlier entry's 7 comes first, the next one's doesn't.
         assert_eq!(with(&[LONGEST], 4_094, 24, 0), 7);
@@ -196,7 +289,10 @@ mod tests {
     fn twins() {
         let mut store = encode(&[([1; 20], &b"XAB"[..]), ([2; 20], b"ABAX"), ([1; 20], b"A")]);
         assert_eq!(code(&store), 8);
+        // A byte behind the last chunk is a hole; one too few comes first.
         store.push(0);
+        assert_eq!(code(&store), 8);
+        store.truncate(99);
         assert_eq!(code(&store), 7);
         let (mut near_first, mut near_last) = ([1; 20], [1; 20]);
         near_first[0] = 2;

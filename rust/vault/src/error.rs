@@ -17,7 +17,7 @@ const MEANINGS: [&str; 20] = [
     "two keywords compare alike",
     "not a store: fewer than 8 bytes, or another mark",
     "the store's chunk count is above 65,000, or its directory is cut short",
-    "a store entry has a length that is not 1 to 1,048,576 or a wrong offset, or the last chunk doesn't end where the store does",
+    "a store entry's length is not 1 to 1,048,576 or its offset before the end of the directory or of the chunk before, or the last chunk ends beyond the store",
     "a fingerprint is in the store twice",
     "the index is longer than the buffer, or than 4,294,967,295 bytes",
     "not an index: fewer than 8 bytes, a mark that is neither DM1 nor DM2, or a chunk count above 65,000",
@@ -30,7 +30,7 @@ const MEANINGS: [&str; 20] = [
     "a chunk inside a file is shorter than the longest keyword less one byte, so that a keyword could cross it whole",
     "the list of occurrences is longer than the buffer",
     "a fingerprint is not 20 bytes",
-    "a store entry says that its chunk ends beyond 4,294,967,295 bytes, more than one store may have: part the backup into several stores",
+    "a store entry says that its chunk ends beyond 4,294,967,295 bytes, where no chunk of a store may end: part the backup into several stores",
 ];
 
 impl Error {

@@ -23,8 +23,8 @@ pub const LONGEST_CHUNK: usize = NEWEST.longest_chunk;
 /// The most chunks that a store or an index has.
 pub const MOST_CHUNKS: usize = 65_000;
 
-/// The longest store: no chunk ends beyond it (refusal 20), and the last one ends the store.
-pub const LONGEST_STORE: u64 = 4_294_967_295;
+/// No chunk of a store ends beyond it (refusal 20). The store itself may be longer: what is behind its last chunk is a hole.
+pub const GREATEST_END: u64 = 4_294_967_295;
 
 impl Form {
     /// The form of an index that [`check_index`](crate::check_index) accepts; of other bytes, the newest.

@@ -1,6 +1,8 @@
 //! Search over deduplicated backups: safe Rust over the proved library `libvault_c.a`.
 //!
-//! * A **store** holds each distinct chunk once. **Recipes** say which chunks make up each file.
+//! * A **store** holds each distinct chunk once. **Recipes** say which chunks make up each file. Unused bytes of a store before, between
+//!   and behind its chunks, its **holes**, bear on no answer: on two good stores that differ only there every call answers and writes
+//!   the same.
 //! * [`scan`] scans each chunk for up to 16 **keywords** at once, writes a **match index** and counts its **moves**.
 //! * [`join`] takes the index and recipes, and no chunk, and lists every [`Occurrence`] in the restored files: by file,
 //!   then offset, then keyword, each exactly once, also those that cross from one chunk into the next.
@@ -174,7 +176,9 @@ pub fn check_keywords(list: &[u8]) -> Result<(), Error> {
     done(raw::check_keywords(list))
 }
 
-/// Refusals 5 to 8 and 20.
+/// Refusals 5 to 8 and 20. The chunks lie in the directory's order, apart from it and from each other (7); none ends beyond
+/// [`forms::GREATEST_END`] (20). What lies between and behind them is a hole. The store may have any length from its last chunk's end on, without
+/// chunks from 8 bytes on.
 pub fn check_store(store: &[u8]) -> Result<(), Error> {
     done(raw::check_store(store))
 }
@@ -190,7 +194,7 @@ pub fn scan_size(list: &[u8], store: &[u8]) -> Result<u64, Error> {
 }
 
 /// A length that no index of a scan of these passes, from lengths and counts alone: 8 and the list's length, 32 for each chunk, and for
-/// each keyword 11 for each chunk and 3 for each byte of the store.
+/// each keyword 11 for each chunk and 3 for each byte of the store, holes too.
 ///
 /// Where it is at most [`LONGEST_INDEX`] and a buffer has it, [`scan_into`] walks each chunk to write only; else once to measure
 /// and, where a keyword occurs, to write. Writing walks a chunk of at most 65,536 bytes once and a longer one twice. The answer is
@@ -198,10 +202,15 @@ pub fn scan_size(list: &[u8], store: &[u8]) -> Result<u64, Error> {
 pub fn scan_bound(list: &[u8], store: &[u8]) -> u64 {
     let keywords = list.first().map_or(0, |count| u64::from(*count));
     let chunks = store.get(4..8).map_or(0, |b| u64::from(u32::from_le_bytes([b[0], b[1], b[2], b[3]])));
+    bound(list.len() as u64, keywords, chunks, store.len() as u64)
+}
+
+/// The same of a list's length, the numbers of keywords and of chunks, and a store's length; the largest number where it would be more.
+fn bound(list: u64, keywords: u64, chunks: u64, store: u64) -> u64 {
     // The head, the first offset, the exact count; an offset for each byte.
     let width = NEWEST.width as u64;
-    let of_keyword = ((Form::HEAD as u64 + 2 * width) * chunks).saturating_add(width * store.len() as u64);
-    (8 + list.len() as u64 + 32 * chunks).saturating_add(keywords.saturating_mul(of_keyword))
+    let of_keyword = ((Form::HEAD as u64 + 2 * width) * chunks).saturating_add(width.saturating_mul(store));
+    (8 + list + 32 * chunks).saturating_add(keywords.saturating_mul(of_keyword))
 }
 
 /// Writes the index to the buffer's front and gives its length and the moves; what follows stays as it was. Refusals 1 to 9 and 20.
@@ -212,10 +221,10 @@ pub fn scan_into(list: &[u8], store: &[u8], out: &mut [u8]) -> Result<Written, E
 
 /// The index and the moves. Refusals 1 to 8 and 20, and 9 where the index would be longer than [`LONGEST_INDEX`].
 ///
-/// Most indexes are far shorter than the store, so a sixteenth of the store's length is tried first, and only where that
-/// doesn't do is the length asked for.
+/// Most indexes are far shorter than the store, so a sixteenth of the store's length is tried first (of the greatest end of a chunk, where
+/// the store is longer), and only where that doesn't do is the length asked for.
 pub fn scan(list: &[u8], store: &[u8]) -> Result<Scan, Failure> {
-    let mut index = buffer(store.len() as u64 / 16 + (1 << 20))?;
+    let mut index = buffer(forms::GREATEST_END.min(store.len() as u64) / 16 + (1 << 20))?;
     let written = match scan_into(list, store, &mut index) {
         Err(Error { code: 9, .. }) => {
             drop(index);
@@ -280,7 +289,7 @@ pub fn occurrences(list: &[u8]) -> impl ExactSizeIterator<Item = Occurrence> + '
     })
 }
 
-/// A fingerprint's chunk, a part of the store. Refusals of the store check, 19, 15.
+/// A fingerprint's chunk, a part of the store and of no hole. Refusals of the store check, 19, 15.
 pub fn find_chunk<'a>(store: &'a [u8], fingerprint: &[u8]) -> Result<&'a [u8], Error> {
     part(store, raw::chunk(store, fingerprint))
 }
@@ -329,14 +338,20 @@ pub fn on_large_stack<T: Send>(work: impl FnOnce() -> T + Send) -> std::io::Resu
 mod tests {
     use super::*;
 
+    /// A store of these entries (the byte of a fingerprint, offset, length) and bytes behind them.
+    fn entries(entries: &[(u8, usize, usize)], behind: &[u8]) -> Vec<u8> {
+        let mut store = [&b"DV1\n"[..], &(entries.len() as u32).to_le_bytes()].concat();
+        for (key, offset, length) in entries {
+            store.extend_from_slice(&[*key; 20]);
+            [offset, length].iter().for_each(|field| store.extend_from_slice(&(**field as u32).to_le_bytes()));
+        }
+        store.extend_from_slice(behind);
+        store
+    }
+
     /// The small vault of document 01: keywords, store, recipes.
     fn small() -> (Vec<u8>, Vec<u8>, Vec<u8>) {
-        let mut store = vec![0x44, 0x56, 0x31, 0x0A, 3, 0, 0, 0];
-        for (key, offset, length) in [(1, 92, 3), (2, 95, 4), (3, 99, 1)] {
-            store.extend_from_slice(&[key; 20]);
-            store.extend_from_slice(&[offset, 0, 0, 0, length, 0, 0, 0]);
-        }
-        store.extend_from_slice(b"XABABAXA");
+        let store = entries(&[(1, 92, 3), (2, 95, 4), (3, 99, 1)], b"XABABAXA");
         let mut recipes = vec![3, 0, 0, 0];
         for file in [&[1, 2][..], &[3, 3], &[]] {
             recipes.extend_from_slice(&[file.len() as u8, 0, 0, 0]);
@@ -369,16 +384,49 @@ mod tests {
 
     /// A store of these chunks.
     fn store_of(chunks: &[&[u8]]) -> Vec<u8> {
-        let mut store = b"DV1\n".to_vec();
-        store.extend_from_slice(&(chunks.len() as u32).to_le_bytes());
-        let mut offset = 8 + 28 * chunks.len();
-        for (k, chunk) in chunks.iter().enumerate() {
-            store.extend_from_slice(&[k as u8; 20]);
-            [offset, chunk.len()].iter().for_each(|field| store.extend_from_slice(&(*field as u32).to_le_bytes()));
-            offset += chunk.len();
-        }
-        store.extend_from_slice(&chunks.concat());
-        store
+        let mut end = 8 + 28 * chunks.len();
+        let entry = |(k, chunk): (usize, &&[u8])| {
+            end += chunk.len();
+            (k as u8, end - chunk.len(), chunk.len())
+        };
+        entries(&chunks.iter().enumerate().map(entry).collect::<Vec<_>>(), &chunks.concat())
+    }
+
+    /// The small vault's chunks with the rest of a keyword, its front and another one in each hole.
+    #[test]
+    fn holes_bear_on_nothing() {
+        with_stack(|| {
+            let (list, store, recipes) = small();
+            let plain = scan(&list, &store).unwrap();
+            for holes in [["AB", "A", "ABA", "A"], ["", "", "", "AAAA"], ["\0", "", "AB", ""], ["", "..", "", ""]] {
+                let starts = [92 + holes[0].len(), 95 + holes[..2].concat().len(), 99 + holes[..3].concat().len()];
+                let behind = [holes[0], "XAB", holes[1], "ABAX", holes[2], "A", holes[3]].concat();
+                let holed = entries(&[(1, starts[0], 3), (2, starts[1], 4), (3, starts[2], 1)], behind.as_bytes());
+                assert_eq!(check_store(&holed), Ok(()), "{holes:?}");
+                assert_eq!(scan(&list, &holed), Ok(plain.clone()), "{holes:?}");
+                assert_eq!(search(&list, &holed, &recipes), search(&list, &store, &recipes));
+                let chunk = find_chunk(&holed, &[2; 20]).unwrap();
+                assert_eq!((chunk, chunk.as_ptr()), (&b"ABAX"[..], holed[starts[1]..].as_ptr()));
+            }
+        });
+    }
+
+    /// The borders of holes: the directory, the chunk before, the store's end, 4,294,967,295.
+    #[test]
+    fn what_is_no_hole() {
+        with_stack(|| {
+            let code = |list: &[(u8, usize, usize)]| raw::check_store(&entries(list, &[b'A'; 20]));
+            for (offset, length, want) in [(36, 20, 0), (35, 1, 7), (55, 1, 0), (55, 2, 7), (36, 0, 7), (0, 8, 7)] {
+                assert_eq!(code(&[(1, offset, length)]), want, "{offset} {length}");
+            }
+            for (offset, want) in [(69, 7), (70, 0), (71, 0), (83, 0), (84, 7), (0xFFFF_FFFE, 7), (0xFFFF_FFFF, 20)] {
+                assert_eq!(code(&[(1, 65, 5), (2, offset, 1)]), want, "{offset}");
+            }
+            assert_eq!(code(&[(1, 64, 1_000), (2, 0xFFFF_FFFF, 1)]), 20);
+            for more in [0, 1, 300] {
+                assert_eq!(check_store(&entries(&[], &vec![7; more])), Ok(()));
+            }
+        });
     }
 
     /// The moves of a scan for these keywords, the same in every buffer that the index fits.
@@ -504,6 +552,11 @@ mod tests {
         let (list, store, _) = small();
         assert_eq!(scan_bound(&list, &store), 8 + 9 + 32 * 3 + 2 * (11 * 3 + 3 * 100));
         assert_eq!(scan_bound(&[], &[]), 8);
+        // Stores longer than 32 bits, and lengths that no memory has.
+        assert_eq!(bound(9, 2, 3, 1 << 33), 8 + 9 + 32 * 3 + 2 * (11 * 3 + 3 * (1 << 33)));
+        for store in [u64::MAX, u64::MAX / 3, u64::MAX / 16] {
+            assert_eq!(bound(530, 16, 65_000, store), u64::MAX);
+        }
     }
 
     /// Document 01's bodies under the old mark, and request 105's under the new one: the same list.
@@ -670,7 +723,7 @@ mod tests {
             assert!(Error::new(code).meaning.contains(&format!("above {}", thousands(forms::MOST_CHUNKS))));
         }
         assert!(Error::new(7).meaning.contains(&format!("not 1 to {} ", thousands(forms::LONGEST_CHUNK))));
-        assert!(Error::new(20).meaning.contains(&format!("beyond {} bytes", thousands(forms::LONGEST_STORE as usize))));
+        assert!(Error::new(20).meaning.contains(&format!("beyond {} bytes", thousands(forms::GREATEST_END as usize))));
         forms::FORMS.iter().for_each(|form| assert!(Error::new(10).meaning.contains(&form.name())));
     }
 

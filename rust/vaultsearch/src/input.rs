@@ -31,12 +31,12 @@ pub const LIST: Kind = Kind { what: "a text list of keywords", most: 1 << 20, de
 /// 65,535 paths of 4,096 bytes, all escaped.
 pub const NAMES: Kind = Kind { what: "a list of file names", most: 1 << 30, decided: |_| false };
 
-/// The last end that a store may have. A longer file is not read, though its directory alone would tell 7 or 20.
-pub const STORE: Kind = Kind {
-    what: "a store",
-    most: vault::forms::LONGEST_STORE,
-    decided: |first| vault::check_store(first).is_err_and(|error| error.code == 5),
-};
+/// A length that is none: memory ends first.
+const UNBOUNDED: u64 = u64::MAX - 1;
+
+/// A hole behind the last chunk has any length.
+pub const STORE: Kind =
+    Kind { what: "a store", most: UNBOUNDED, decided: |first| vault::check_store(first).is_err_and(|error| error.code == 5) };
 
 /// The last body's offset and its length, of 4 bytes each.
 pub const INDEX: Kind = Kind {
@@ -45,10 +45,10 @@ pub const INDEX: Kind = Kind {
     decided: |first| vault::check_index(first).is_err_and(|error| error.code == 10),
 };
 
-/// The format bounds recipes by nothing that a disk holds.
+/// A file may name any number of chunks.
 pub const RECIPES: Kind = Kind {
     what: "recipes",
-    most: u64::MAX - 1,
+    most: UNBOUNDED,
     decided: |first| file_count(first).is_some_and(|files| files > MOST_FILES || files == 0 && first.len() > 4),
 };
 
@@ -69,7 +69,11 @@ pub fn read(progress: &Progress, path: &Path, kind: &Kind) -> Result<Vec<u8>, Fa
         true => (about.len(), kind.most),
         false => (0, kind.most.min(MOST_OF_A_STREAM)),
     };
-    let too_long = || Failure::file(path, format!("longer than {most} bytes, the most that {} may have here", kind.what));
+    let why = match most < kind.most {
+        true => "is read of a device or a pipe".into(),
+        false => format!("{} may have", kind.what),
+    };
+    let too_long = || Failure::file(path, format!("longer than {most} bytes, the most that {why}"));
     if length > most {
         return Err(too_long());
     }

@@ -62,9 +62,9 @@ impl Session<'_> {
     fn check_store(&self, path: &Path, report: &mut Report) -> Done {
         let store = self.read(path, &input::STORE)?;
         let verdict = self.progress.step("checking the store", 0, || vault::check_store(&store));
-        report.tell(text::path(path), verdict.map(|()| format!("{} chunks", count_at(&store, 4))));
+        report.tell(text::path(path), verdict.map(|()| about_store(&store)));
         if self.arguments.entries && verdict.is_ok() {
-            report.text.push_str(&entries(&store, 8, 28, 20, 24));
+            report.text.push_str(&STORE.lines(&store));
         }
         Ok(())
     }
@@ -75,7 +75,8 @@ impl Session<'_> {
         let verdict = self.progress.step("checking the index", 0, || vault::check_index(&index));
         report.tell(text::path(path), verdict.map(|()| format!("{} chunks, {}", count_at(&index, 4), mark_of(&index))));
         if self.arguments.entries && verdict.is_ok() {
-            report.text.push_str(&entries(&index, 8 + list_length(&index), 32, 24, 28));
+            let directory = Directory { start: 8 + list_length(&index), stride: 32, offset: 24, length: 28 };
+            report.text.push_str(&directory.lines(&index));
         }
         let Some(path) = &self.arguments.recipes else { return Ok(()) };
         if verdict.is_err() {
@@ -143,14 +144,42 @@ fn list_length(index: &[u8]) -> usize {
     2 + vault::keywords_of(vault::keywords_in_index(index)).iter().map(|word| 1 + word.len()).sum::<usize>()
 }
 
-/// The directory of a good store or index, a line for each entry: fingerprint, offset, length.
-fn entries(bytes: &[u8], start: usize, stride: usize, offset: usize, length: usize) -> String {
-    let mut text = String::new();
-    for entry in (0..count_at(bytes, 4) as usize).map(|k| start + stride * k) {
-        let key: String = bytes[entry..entry + 20].iter().map(|b| format!("{b:02x}")).collect();
-        text.push_str(&format!("{key}\t{}\t{}\n", count_at(bytes, entry + offset), count_at(bytes, entry + length)));
+/// Where the directory of a good file starts, how many bytes an entry has, and where in it offset and length are.
+struct Directory {
+    start: usize,
+    stride: usize,
+    offset: usize,
+    length: usize,
+}
+
+const STORE: Directory = Directory { start: 8, stride: 28, offset: 20, length: 24 };
+
+impl Directory {
+    /// Fingerprint, offset and length of each entry.
+    fn entries<'a>(&'a self, bytes: &'a [u8]) -> impl Iterator<Item = (&'a [u8], u32, u32)> {
+        let entry = move |k: usize| {
+            let at = self.start + self.stride * k;
+            (&bytes[at..at + 20], count_at(bytes, at + self.offset), count_at(bytes, at + self.length))
+        };
+        (0..count_at(bytes, 4) as usize).map(entry)
     }
-    text
+
+    /// A line for each entry.
+    fn lines(&self, bytes: &[u8]) -> String {
+        let mut text = String::new();
+        for (key, offset, length) in self.entries(bytes) {
+            let key: String = key.iter().map(|b| format!("{b:02x}")).collect();
+            text.push_str(&format!("{key}\t{offset}\t{length}\n"));
+        }
+        text
+    }
+}
+
+/// What a good store has: all but its directory and its chunks are holes.
+fn about_store(store: &[u8]) -> String {
+    let (count, data) = STORE.entries(store).fold((0, 0), |(count, data), (_, _, length)| (count + 1, data + length as usize));
+    let holes = store.len() - (STORE.start + STORE.stride * count) - data;
+    format!("{count} chunks, {data} bytes in them, {holes} bytes in holes")
 }
 
 /// Bytes from hexadecimal digits; any number of them, since the library judges the length.

@@ -17,7 +17,7 @@ use crate::{identity, input, text};
 use std::collections::HashMap;
 use std::io::{self, Write};
 use std::path::{Path, PathBuf};
-use vault::forms::{LONGEST_CHUNK, LONGEST_STORE, MOST_CHUNKS};
+use vault::forms::{GREATEST_END, LONGEST_CHUNK, MOST_CHUNKS};
 
 type Fingerprint = [u8; 20];
 
@@ -128,7 +128,7 @@ impl Builder {
             return Err(Failure::File("more than 65,000 chunks: give a larger --size, or fewer files".into()));
         }
         let end = 8 + 28 * (self.chunks.len() as u64 + 1) + self.stored + chunk.len() as u64;
-        if end > LONGEST_STORE {
+        if end > GREATEST_END {
             return Err(Failure::File(
                 "a store of more than 4,294,967,295 bytes: make several vaults of fewer files each".into(),
             ));
@@ -288,11 +288,11 @@ mod tests {
         assert!(size("fixed", 1_048_576) && !size("fixed", 1_048_577) && size("content", 262_144) && !size("content", 262_145));
     }
 
-    /// A store ends within 32 bits: the entry of the next chunk counts too.
+    /// A store without holes ends within 32 bits: the entry of the next chunk counts too.
     #[test]
     fn the_longest_store() {
         for (room, fits) in [(28 + 100, true), (28 + 99, false), (0, false)] {
-            let mut builder = Builder { stored: LONGEST_STORE - 8 - room, ..Builder::default() };
+            let mut builder = Builder { stored: GREATEST_END - 8 - room, ..Builder::default() };
             let added = builder.add_file(&[b'A'; 100], Cut::Fixed(100), &gear());
             match added {
                 Ok(()) => assert!(fits),

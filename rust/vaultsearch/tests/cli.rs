@@ -2,7 +2,7 @@
 
 mod common;
 
-use common::{recipes, Folder};
+use common::{recipes, store, Folder};
 use std::fs;
 
 #[test]
@@ -41,14 +41,8 @@ fn keywords_in_three_ways() {
 
 /// A store and recipes of one file of these chunks.
 fn vault_of(folder: &Folder, chunks: &[&[u8]]) {
-    let mut store = [&b"DV1\n"[..], &(chunks.len() as u32).to_le_bytes()].concat();
-    let mut offset = 8 + 28 * chunks.len();
-    for (k, chunk) in chunks.iter().enumerate() {
-        store.extend_from_slice(&[k as u8; 20]);
-        [offset, chunk.len()].iter().for_each(|field| store.extend_from_slice(&(*field as u32).to_le_bytes()));
-        offset += chunk.len();
-    }
-    folder.write("store.bin", &[store, chunks.concat()].concat());
+    let stored: Vec<(u8, &[u8], &[u8])> = chunks.iter().enumerate().map(|(k, chunk)| (k as u8, &b""[..], *chunk)).collect();
+    folder.write("store.bin", &store(&stored, b""));
     folder.write("recipes.bin", &recipes(&[&(0..chunks.len() as u8).collect::<Vec<_>>()]));
 }
 
@@ -112,7 +106,7 @@ fn the_help_names_the_limits() {
     let (chunk, chunks) = (vault::forms::LONGEST_CHUNK, vault::forms::MOST_CHUNKS);
     for said in [
         format!("{} chunks of 1 to {} bytes in a store", thousands(chunks as u64), thousands(chunk as u64)),
-        format!("{} of store", thousands(vault::forms::LONGEST_STORE)),
+        format!("none of which ends beyond {} bytes (refusal 20)", thousands(vault::forms::GREATEST_END)),
         format!("64 to {}\n      (fixed: to {chunk})", chunk.div_ceil(4)),
     ] {
         assert!(help.contains(&said), "{said}");
@@ -126,7 +120,7 @@ fn an_index_is_kept_and_joined() {
     assert_eq!(folder.read("index.bin")[..4], *b"DM2\n");
     assert_eq!(folder.read("index.bin")[113..121], [0, 1, 2, 0, 0, 0, 0, 0]);
     folder.prints("join index.bin recipes.bin --format plain", "finds 3\n0 1 0\n0 3 0\n1 0 1\n");
-    let good = "store.bin: good, 3 chunks\nindex.bin: good, 3 chunks, mark DM2\nrecipes.bin: good, 3 files, 3 occurrences\n";
+    let good = "store.bin: good, 3 chunks, 8 bytes in them, 0 bytes in holes\nindex.bin: good, 3 chunks, mark DM2\nrecipes.bin: good, 3 files, 3 occurrences\n";
     folder.prints("check --store store.bin --index index.bin --recipes recipes.bin", good);
     let key = "02".repeat(20);
     folder.prints(&format!("lookup --store store.bin {key}"), "chunk of 4 bytes at 95\nABAX\n");
@@ -137,6 +131,65 @@ fn an_index_is_kept_and_joined() {
     folder.prints(&format!("lookup --index index.bin {key}"), &body);
     folder.refuses(&format!("lookup --store store.bin {}", "04".repeat(20)), 15, "not there");
     folder.refuses("lookup --index index.bin 0102", 19, "20 bytes");
+}
+
+/// The small vault's chunks in a store with holes, in which keywords lie, begin and end: every command says what it says of the store
+/// without them.
+#[test]
+fn a_store_with_holes() {
+    let folder = Folder::new("holes");
+    let keys = [1, 2, 3].map(|key| format!("{key:02}").repeat(20));
+    let holed =
+        |fillers: [&[u8]; 4]| store(&[(1, fillers[0], b"XAB"), (2, fillers[1], b"ABAX"), (3, fillers[2], b"A")], fillers[3]);
+    assert_eq!(folder.run("scan store.bin --words words.bin -o index.bin").0, 0);
+    assert_eq!(folder.run("search store.bin recipes.bin --words words.bin --format raw -o list.bin").0, 0);
+    for (fillers, bytes) in [
+        ([&b"ABA"[..], b"A", b"ABAAB", b"A"], 10),
+        ([b"", b"", b"", b"AAAA"], 4),
+        ([b"AB", b"", b"", b""], 2),
+        ([b"", b"", b"\0", b"\0\0"], 3),
+    ] {
+        folder.write("holes.bin", &holed(fillers));
+        folder
+            .prints("check --store holes.bin", &format!("holes.bin: good, 3 chunks, 8 bytes in them, {bytes} bytes in holes\n"));
+        let report = format!("other.bin: 138 bytes for a store of {} bytes, 10 moves\n", 100 + bytes);
+        folder.prints("scan holes.bin --words words.bin -o other.bin", &report);
+        assert_eq!(folder.read("other.bin"), folder.read("index.bin"));
+        folder.prints("search holes.bin recipes.bin --words words.bin --format raw -o other.bin", "");
+        assert_eq!(folder.read("other.bin"), folder.read("list.bin"));
+        let (mut at, mut entries) = (92, String::new());
+        for (k, chunk) in ["XAB", "ABAX", "A"].iter().enumerate() {
+            at += fillers[k].len();
+            let shown = format!("chunk of {} bytes at {at}\n{chunk}\n", chunk.len());
+            folder.prints(&format!("lookup --store holes.bin {}", keys[k]), &shown);
+            folder.prints(&format!("lookup --store holes.bin {} -o chunk", keys[k]), "");
+            assert_eq!(folder.read("chunk"), chunk.as_bytes());
+            entries += &format!("{}\t{at}\t{}\n", keys[k], chunk.len());
+            at += chunk.len();
+        }
+        assert!(folder.run("check --store holes.bin --entries").1.ends_with(&entries));
+    }
+    folder.write("none.bin", &store(&[], b"ABA"));
+    folder.prints("check --store none.bin", "none.bin: good, 0 chunks, 0 bytes in them, 3 bytes in holes\n");
+}
+
+/// A chunk that begins in the directory, or in the chunk before, or ends beyond the store: 7. 4,294,967,295 is the greatest end.
+#[test]
+fn what_is_no_hole() {
+    let folder = Folder::new("no-hole");
+    for (at, offset, code, said) in [
+        (8 + 20, 91, 7, "its offset before the end of the directory or of the chunk before"),
+        (8 + 48, 94, 7, "its offset before the end of the directory or of the chunk before"),
+        (8 + 76, 100, 7, "the last chunk ends beyond the store"),
+        (8 + 76, 0xFFFF_FFFE, 7, "the last chunk ends beyond the store"),
+        (8 + 76, 0xFFFF_FFFFu32, 20, "beyond 4,294,967,295 bytes"),
+    ] {
+        let mut bytes = folder.read("store.bin");
+        bytes[at..at + 4].copy_from_slice(&offset.to_le_bytes());
+        folder.write("bad.bin", &bytes);
+        folder.refuses("check --store bad.bin", code, said);
+        folder.refuses("search bad.bin recipes.bin --words words.bin", code, said);
+    }
 }
 
 /// Document 01's index, which an earlier version wrote.
@@ -226,7 +279,7 @@ fn a_store_that_ends_beyond_32_bits() {
         store
     };
     folder.write("beyond.bin", &directory(933_880));
-    let meaning = "beyond 4,294,967,295 bytes, more than one store may have: part the backup into several stores";
+    let meaning = "beyond 4,294,967,295 bytes, where no chunk of a store may end: part the backup into several stores";
     folder.refuses("check --store beyond.bin", 20, meaning);
     folder.refuses("search beyond.bin recipes.bin --words words.bin", 20, meaning);
     folder.refuses("scan beyond.bin --words words.bin -o index.bin", 20, meaning);
@@ -236,7 +289,7 @@ fn a_store_that_ends_beyond_32_bits() {
     assert!(!folder.0.join("index.bin").exists());
     // An end at 4,294,967,295 isn't beyond it; the chunks are absent.
     folder.write("beyond.bin", &directory(933_879));
-    folder.refuses("check --store beyond.bin", 7, "doesn't end where the store does");
+    folder.refuses("check --store beyond.bin", 7, "the last chunk ends beyond the store");
     let (_, help, _) = folder.run("--help");
     assert!(help.contains("1 to 20  refused") && help.contains("part the backup into several stores"));
 }
@@ -244,7 +297,6 @@ fn a_store_that_ends_beyond_32_bits() {
 #[test]
 fn a_scan_tells_its_moves() {
     let folder = Folder::new("moves");
-    let store = |chunk: &[u8]| [&b"DV1\n\x01\0\0\0"[..], &[7; 20], &[36, 0, 0, 0, chunk.len() as u8, 0, 0, 0], chunk].concat();
     for (words, chunk, told) in [
         ("--word DEDUP --word UP", &b"DEDE"[..], "5 moves"),
         ("--word DEDUP --word UP", b"DEDUPX", "8 moves"),
@@ -252,7 +304,7 @@ fn a_scan_tells_its_moves() {
         ("--word AAAA", b"AAAX", "7 moves"),
         ("--word A", b"B", "1 move"),
     ] {
-        folder.write("one.bin", &store(chunk));
+        folder.write("one.bin", &store(&[(7, b"", chunk)], b""));
         let (status, out, err) = folder.run(&format!("scan one.bin {words} -o index.bin"));
         assert!(status == 0 && out.ends_with(&format!(" bytes, {told}\n")), "{out}{err}");
     }
@@ -291,7 +343,7 @@ fn every_refusal_is_told() {
     for (code, bytes, meaning) in [
         (5, index.clone(), "not a store"),
         (6, with(&store, 4, 200), "directory"),
-        (7, store[..99].to_vec(), "doesn't end"),
+        (7, store[..99].to_vec(), "the last chunk ends beyond the store"),
         (8, [&store[..36], &[1; 20], &store[56..]].concat(), "twice"),
     ] {
         folder.write("bad", &bytes);

@@ -7,7 +7,7 @@ use lib.ListN.{length}
 use denote.Ref.{now}
 use Rattle.spec.specs.Store.{chunksCode}
 use Rattle.spec.proofs.FieldLists.{field-lt}
-use Rattle.store.proofs.Entering.{turn-none, turn-long, turn-gap, turn-beyond, turn-more, turn-short, turn-end}
+use Rattle.store.proofs.Entering.{turn-none, turn-long, turn-early, turn-beyond, turn-more, turn-short, turn-end}
 use Rattle.store.proofs.entries.Statement.{statement}
 use Rattle.store.proofs.entries.Tie as tie
 
@@ -90,7 +90,7 @@ returns-3 c =
     let p = c .before .before .before .before .before .before .loop in
     let offset = c .before .before .before .before .read in
     let size = c .before .before .before .read2 in
-    turn-gap (now (a .store)) (a .count) (p .k) (p .at) _ (p .inv .1) (c .before .before .before .before .before .loop-test .taken) (offset .result) (size .result) (offset .ensures) (size .ensures)
+    turn-early (now (a .store)) (a .count) (p .k) (p .at) _ (p .inv .1) (c .before .before .before .before .before .loop-test .taken) (offset .result) (size .result) (offset .ensures) (size .ensures)
     (omega (arith, c .before .before .if1 .left)) (omega (arith, c .before .if2 .left)) (c .if3 .taken)
 
 returns-4 : tie.Need-returns-4 Inv-loop μ-loop

@@ -22,13 +22,7 @@ impl Folder {
         let _ = fs::remove_dir_all(&path);
         fs::create_dir_all(&path).unwrap();
         let folder = Folder(path);
-        let mut store = b"DV1\n\x03\0\0\0".to_vec();
-        for (key, offset, length) in [(1, 92, 3), (2, 95, 4), (3, 99, 1)] {
-            store.extend_from_slice(&[key; 20]);
-            store.extend_from_slice(&[offset, 0, 0, 0, length, 0, 0, 0]);
-        }
-        store.extend_from_slice(b"XABABAXA");
-        folder.write("store.bin", &store);
+        folder.write("store.bin", &store(&[(1, b"", b"XAB"), (2, b"", b"ABAX"), (3, b"", b"A")], b""));
         folder.write("words.bin", &[2, 0, 3, 0x41, 0x42, 0x41, 2, 0x41, 0x41]);
         folder.write("recipes.bin", &recipes(&[&[1, 2], &[3, 3], &[]]));
         folder
@@ -84,6 +78,20 @@ impl Drop for Folder {
     fn drop(&mut self) {
         let _ = fs::remove_dir_all(&self.0);
     }
+}
+
+/// A store: for each chunk the byte of its fingerprint, the hole before it and its bytes; then the hole behind the last one.
+pub fn store(chunks: &[(u8, &[u8], &[u8])], behind: &[u8]) -> Vec<u8> {
+    let mut store = [&b"DV1\n"[..], &(chunks.len() as u32).to_le_bytes()].concat();
+    let mut end = 8 + 28 * chunks.len();
+    for (key, hole, chunk) in chunks {
+        store.extend_from_slice(&[*key; 20]);
+        [end + hole.len(), chunk.len()].iter().for_each(|field| store.extend_from_slice(&(*field as u32).to_le_bytes()));
+        end += hole.len() + chunk.len();
+    }
+    chunks.iter().for_each(|(_, hole, chunk)| store.extend([*hole, *chunk].concat()));
+    store.extend_from_slice(behind);
+    store
 }
 
 pub fn recipes(files: &[&[u8]]) -> Vec<u8> {

@@ -8,27 +8,46 @@ use Rattle.tests_cases.proofs.orders.put_chunks.Statement.{statement}
 use Rattle.tests_cases.proofs.orders.put_chunks.Tie as tie
 
 abbrev Inv-loop : tie.InvT-loop
-Inv-loop g₀ f order n at₀ p₀ g at p =
-    (p ≤ n) × (length g ≡ length g₀)
+Inv-loop g₀ f order n seed bits s₀ at₀ p₀ g s at p = (p ≤ n) × (length g ≡ length g₀)
 
 abbrev μ-loop : tie.MeasureT-loop
-μ-loop g₀ f order n at₀ p₀ g at p =
-    n - p
+μ-loop g₀ f order n seed bits s₀ at₀ p₀ g s at p = n - p
 
-mul-at : tie.Need-mul-at Inv-loop μ-loop
-mul-at c = search needs
+pick-requires : tie.Need-pick-requires Inv-loop μ-loop
+pick-requires c κs = search needs
 
-add-at : tie.Need-add-at Inv-loop μ-loop
-add-at c = search needs
+mul-plus : tie.Need-mul-plus Inv-loop μ-loop
+mul-plus c = search needs
+
+add-plus : tie.Need-add-plus Inv-loop μ-loop
+add-plus c = search needs
+
+hole-length-requires : tie.Need-hole-length-requires Inv-loop μ-loop
+hole-length-requires c κs = search needs
+
+plus-requires : tie.Need-plus-requires Inv-loop μ-loop
+plus-requires c κs = search needs
 
 loop-holds : tie.Need-loop-holds Inv-loop μ-loop
 loop-holds c = search needs
+
+next-requires : tie.Need-next-requires Inv-loop μ-loop
+next-requires c κs = search needs
 
 num-requires : tie.Need-num-requires Inv-loop μ-loop
 num-requires c κs = search needs
 
 put-chunk-requires : tie.Need-put-chunk-requires Inv-loop μ-loop
 put-chunk-requires c κs = search needs
+
+plus-requires-2 : tie.Need-plus-requires-2 Inv-loop μ-loop
+plus-requires-2 c κs = search needs
+
+hole-length-requires-2 : tie.Need-hole-length-requires-2 Inv-loop μ-loop
+hole-length-requires-2 c κs = search needs
+
+plus-requires-3 : tie.Need-plus-requires-3 Inv-loop μ-loop
+plus-requires-3 c κs = search needs
 
 add-p : tie.Need-add-p Inv-loop μ-loop
 add-p c = search needs
@@ -51,11 +70,18 @@ put-chunks-spec =
     (tie.spec
     Inv-loop
     μ-loop
-    mul-at
-    add-at
+    pick-requires
+    mul-plus
+    add-plus
+    hole-length-requires
+    plus-requires
     loop-holds
+    next-requires
     num-requires
     put-chunk-requires
+    plus-requires-2
+    hole-length-requires-2
+    plus-requires-3
     add-p
     loop-less
     loop-again

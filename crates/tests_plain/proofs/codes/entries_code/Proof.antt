@@ -33,11 +33,8 @@ returns c = search needs
 entry-at-requires-3 : tie.Need-entry-at-requires-3 Inv-loop μ-loop
 entry-at-requires-3 c κs = search needs
 
-told-size-requires : tie.Need-told-size-requires Inv-loop μ-loop
-told-size-requires c κs = search needs
-
-plus-requires : tie.Need-plus-requires Inv-loop μ-loop
-plus-requires c κs = search needs
+told-end-requires : tie.Need-told-end-requires Inv-loop μ-loop
+told-end-requires c κs = search needs
 
 add-e : tie.Need-add-e Inv-loop μ-loop
 add-e c = search needs
@@ -66,8 +63,7 @@ entries-code-spec =
     entry-code-requires
     returns
     entry-at-requires-3
-    told-size-requires
-    plus-requires
+    told-end-requires
     add-e
     loop-less
     loop-again

@@ -11,8 +11,8 @@ slice-relend-prefix-run-one c = search needs
 
 slice-aggregate-run-one : tie.Need-slice-aggregate-run-one
 slice-aggregate-run-one c =
-    let then = c .before in
-    let a = then .before .before .before .args in
+    let then = c .before .before in
+    let a = then .before .before .before .before .args in
     sym (length-take-le (a .room) (now (a .buffer)) (then .if1 .taken))
 
 run-one-requires : tie.Need-run-one-requires
@@ -20,6 +20,9 @@ run-one-requires c κs = search needs
 
 same-length : tie.Need-same-length
 same-length c = search needs
+
+same-length-2 : tie.Need-same-length-2
+same-length-2 c = search needs
 
 returns : tie.Need-returns
 returns c = search needs
@@ -35,5 +38,6 @@ run-front-spec =
     slice-aggregate-run-one
     run-one-requires
     same-length
+    same-length-2
     returns
     returns-2)

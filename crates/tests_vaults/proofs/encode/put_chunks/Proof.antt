@@ -22,6 +22,9 @@ add-at c = search needs
 loop-holds : tie.Need-loop-holds Inv-loop μ-loop
 loop-holds c = search needs
 
+put-hole-requires : tie.Need-put-hole-requires Inv-loop μ-loop
+put-hole-requires c κs = search needs
+
 chunk-size-requires : tie.Need-chunk-size-requires Inv-loop μ-loop
 chunk-size-requires c κs = search needs
 
@@ -52,6 +55,7 @@ put-chunks-spec =
     mul-at
     add-at
     loop-holds
+    put-hole-requires
     chunk-size-requires
     put-chunk-requires
     add-c

@@ -7,18 +7,12 @@ use Rattle.tests_wide.proofs.beyond.put_entries.Statement.{statement}
 use Rattle.tests_wide.proofs.beyond.put_entries.Tie as tie
 
 abbrev Inv-loop : tie.InvT-loop
-Inv-loop f₀ i n at₀ e₀ f at e =
+Inv-loop f₀ i n start at₀ e₀ f at e =
     (e ≤ n) × (length f ≡ length f₀)
 
 abbrev μ-loop : tie.MeasureT-loop
-μ-loop f₀ i n at₀ e₀ f at e =
+μ-loop f₀ i n start at₀ e₀ f at e =
     n - e
-
-mul-at : tie.Need-mul-at Inv-loop μ-loop
-mul-at c = search needs
-
-add-at : tie.Need-add-at Inv-loop μ-loop
-add-at c = search needs
 
 loop-holds : tie.Need-loop-holds Inv-loop μ-loop
 loop-holds c = search needs
@@ -47,8 +41,6 @@ put-entries-spec =
     (tie.spec
     Inv-loop
     μ-loop
-    mul-at
-    add-at
     loop-holds
     put-entry-requires
     add-e
