@@ -7,7 +7,8 @@ use native.Mathlib.Omega.{arith}
 use lib.ListN.{length, take, drop, getD, set}
 use Rattle.spec.specs.Bytes.{part, positionOf}
 use Rattle.spec.proofs.EntryLaws.{length-keys, key-at}
-use Rattle.files.specs.Measures.{named, keysAt, sizesAt, innerShort, Slotted, Measured}
+use Rattle.spec.specs.Recipes.{named}
+use Rattle.files.specs.Measures.{keysAt, sizesAt, innerShort, Slotted, Measured}
 use Rattle.files.proofs.Measuring.{Measuring, measured-missing, measuring-on, measuring-end}
 
 -- ---- the slice of a fingerprint

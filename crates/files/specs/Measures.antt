@@ -2,11 +2,11 @@
 use mathlib.Core.Path.{_≡_}
 use mathlib.Core.Bool.{Bool, false, _&&_, not, cond}
 use mathlib.Core.List.{List, [], _∷_}
-use Prim.Native.Nat.{ℕ, suc, _/_, _<_, min}
+use Prim.Native.Nat.{ℕ, suc, _<_, min}
 use lib.Dec.{ltb}
 use lib.ListN.{length, take, getD}
 use Rattle.spec.specs.Bytes.{contains, positionOf, every, sum, written}
-use Rattle.spec.specs.Directory.{keysOf, sizeAt}
+use Rattle.spec.specs.Directory.{sizeAt}
 use Rattle.spec.specs.Recipes.{innerLong, sizesIn}
 use Rattle.directory.specs.Chains.{keysFrom, layoutOf}
 
@@ -20,10 +20,6 @@ sizesAt index start k = sizeAt (layoutOf start 32 20 24 28) index k
 -- Place j of n is neither first nor last, and its chunk is shorter than is due.
 abbrev pub innerShort : ℕ → ℕ → ℕ → ℕ → Bool
 innerShort j n size innerLeast = ltb 0 j && ltb (suc j) n && ltb size innerLeast
-
--- The fingerprints that a file's bytes are.
-abbrev pub named : List ℕ → List (List ℕ)
-named file = keysOf 20 (length file / 20) file
 
 -- The entries of a file's places, up to the first fingerprint that is missing.
 unfoldable pub entriesIn : List (List ℕ) → List (List ℕ) → List ℕ

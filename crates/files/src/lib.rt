@@ -7,9 +7,9 @@ ghost use Prim.Native.Nat.{_+_, _-_, _*_, _≤_, _<_, min};
 ghost use lib.ListN.{length, take, set};
 ghost use Rattle.spec.specs.Bytes.{part, positionOf, written};
 ghost use Rattle.spec.specs.Outcome.{firstOf};
-ghost use Rattle.spec.specs.Recipes.{fileCode};
+ghost use Rattle.spec.specs.Recipes.{named, fileCode};
 ghost use Rattle.directory.specs.Chains.{Lies, Chained};
-ghost use Rattle.files.specs.Measures.{named, keysAt, sizesAt, innerShort, entriesIn, Measured};
+ghost use Rattle.files.specs.Measures.{keysAt, sizesAt, innerShort, entriesIn, Measured};
 
 // The entry of fingerprint j of a file; the number of entries where there is none.
 pub fn entry_of(file: &[u8], j: usize, index: &[u8], opened: spec::Opened, chains: &[u32]) -> usize

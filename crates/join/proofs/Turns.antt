@@ -12,7 +12,8 @@ use Rattle.spec.proofs.ListBytes.{length-list, list-nil, list-append}
 use Rattle.spec.proofs.Writing.{Going, going-start, going-room, going-on, going-end}
 use Rattle.recipes.proofs.Files.{Walk, accepted}
 use Rattle.walk.specs.Walking.{chunksIn}
-use Rattle.plan.proofs.FileLaws.{keywords, left, left-start, left-end, file-next, left-step}
+use Rattle.recipes.proofs.Slices.{file-next}
+use Rattle.plan.proofs.FileLaws.{keywords, left, left-start, left-end, left-step}
 
 module _ (index recipes : List ℕ) where
   -- the bytes of the whole list, and of the files from k on
@@ -50,7 +51,7 @@ module _ (index recipes : List ℕ) where
         → Listing out₀ out′ (k + 1) (at + 4 + length file) end
     listing-on out′ end l =
         record {
-          walk = file-next index recipes k at (g .walk) turn file f;
+          walk = file-next recipes k at (g .walk) turn file f;
           going =
               going-on out₀ out 0 place whole (coming k) (g .going) out′ (listBytes here) (coming (k + 1)) end
               whole-room bytes-step (l .0 ∙ ap (λ (x : ℕ). place + x) (sym (length-list here))) (l .1);

@@ -1,39 +1,30 @@
 -- The files one after the other: what is left to test and to list from file k on, that it starts with file k, and that an accepted file can
 -- be walked. A file's slice is the definition's file (its fingerprints are read alike); what 15 and 16 test is what the walk asks.
 -- Assumes nothing.
-use mathlib.Core.Path.{_≡_, refl, sym, ap, ap₂, _∙_}
+use mathlib.Core.Path.{_≡_, refl, sym, ap, _∙_}
 use mathlib.Core.List.{List, [], _∷_, _++_, map}
-use Prim.Native.Nat.{ℕ, zero, suc, _+_, _*_, _/_, _≤_, _<_}
+use Prim.Native.Nat.{ℕ, _+_, _*_, _/_, _≤_, _<_}
 use native.Mathlib.Nat.{add-zero}
 use native.Mathlib.Numerals.{add-one}
 use native.Mathlib.Omega.{arith}
-use lib.ListN.{length, take, drop, getD, length-drop}
-use lib.Seq.{take-take, length-take-le, getD-drop}
+use lib.ListN.{length, drop, getD}
+use lib.Seq.{getD-drop}
 use Rattle.spec.specs.Bytes.{part, fieldAt, positionOf, sum}
 use Rattle.spec.specs.Outcome.{firstCode}
 use Rattle.spec.specs.Keywords.{foldedKeywords}
 use Rattle.spec.specs.Directory.{keysOf, sizeAt}
 use Rattle.spec.specs.Form.{formOf}
 use Rattle.spec.specs.Index.{listIn, indexLayout, indexKeys, indexRecords}
-use Rattle.spec.specs.Recipes.{fileCount, filesOf, sizesIn, fileCode, filesCode}
+use Rattle.spec.specs.Recipes.{named, fileCount, filesOf, sizesIn, fileCode, filesCode}
 use Rattle.spec.specs.Join.{Occurrence, joinFile, joinFiles, fileRecords, joinList, innerLeast}
 use Rattle.spec.proofs.EntryLaws.{length-keys, key-at}
 use Rattle.spec.proofs.IndexChecks.{length-indexKeys}
 use Rattle.spec.proofs.FileLaws.{file-accepted, files-cons, files-drop}
-use Rattle.spec.proofs.Splices.{drop-take}
-use Rattle.recipes.proofs.Files.{Walk, walk-file, walk-files, walk-on, walk-end}
-use Rattle.files.specs.Measures.{named, Slotted}
+use Rattle.recipes.proofs.Files.{Walk, walk-files, walk-end}
+use Rattle.recipes.proofs.Slices.{file-length, file-names}
+use Rattle.files.specs.Measures.{Slotted}
 use Rattle.walk.specs.Walking.{chunksIn, sizeOf, File}
 use Rattle.plan.specs.Plans.{allFilesCode, listOf}
-
--- ---- a run of fingerprints
-
--- the fingerprints of a run are those of its own bytes
-keys-take : (n : ℕ) (bytes : List ℕ) → keysOf 20 n (take (20 * n) bytes) ≡ keysOf 20 n bytes
-keys-take zero bytes = refl
-keys-take (suc n) bytes =
-    let e : 20 * suc n ≡ 20 + 20 * n = omega arith in
-    rw (e, take-take 20 (20 + 20 * n) bytes (omega arith), drop-take 20 (20 * n) bytes, keys-take n (drop 20 bytes))
 
 -- the sizes of a file's chunks
 sizes-are : (index : List ℕ) (file : List (List ℕ))
@@ -81,20 +72,12 @@ module _ (index recipes : List ℕ) where
     abbrev names : List (List ℕ)
     names = keysOf 20 n (drop (at + 4) recipes)
 
-    file-length : length file ≡ 20 * n
-    file-length =
-        let inside : 20 * n ≤ length (drop (at + 4) recipes) = omega (arith, length-drop (at + 4) recipes, walk-file recipes k at n w turn refl .room) in
-        ap length f ∙ length-take-le (20 * n) (drop (at + 4) recipes) inside
-
-    file-count : length file / 20 ≡ n
-    file-count = omega (arith, file-length)
-
-    file-names : named file ≡ names
-    file-names = ap₂ (keysOf 20) file-count f ∙ keys-take n (drop (at + 4) recipes)
+    names-read : named file ≡ names
+    names-read = file-names recipes k at w turn file f
 
     chunks-are : chunksIn index file ≡ fileRecords (formOf index) index names
     unfolding chunksIn
-    chunks-are = ap (fileRecords (formOf index) index) file-names
+    chunks-are = ap (fileRecords (formOf index) index) names-read
 
     names-are : getD (filesOf recipes) k [] ≡ names
     names-are =
@@ -113,7 +96,7 @@ module _ (index recipes : List ℕ) where
     file-walks slots e s =
         let accepted = file-accepted (indexKeys index) (sizeAt (indexLayout index) index) (innerLeast (formOf index) (listIn index)) (named file) e in
         record {
-          whole = omega (arith, file-length);
+          whole = omega (arith, file-length recipes k at w turn file f);
           found = λ j h.
               rw (← key-at 20 (length file / 20) j file h)
               (omega (arith, accepted .found j (rw (length-keys 20 (length file / 20) file) h), length-indexKeys index));
@@ -124,7 +107,7 @@ module _ (index recipes : List ℕ) where
     -- its code, where all files pass
     pub file-passes : allFilesCode index recipes ≡ 0 → codeOf index (named file) ≡ 0
     file-passes e =
-        ap (codeOf index) file-names
+        ap (codeOf index) names-read
         ∙ files-cons (indexKeys index) (sizeAt (indexLayout index) index) (innerLeast (formOf index) (listIn index)) names (drop (k + 1) (filesOf recipes))
         (ap (filesCode (indexKeys index) (sizeAt (indexLayout index) index) (innerLeast (formOf index) (listIn index)))
         (sym (walk-files recipes k at n w turn refl))
@@ -135,11 +118,7 @@ module _ (index recipes : List ℕ) where
     unfolding filesCode
     codes-step =
         ap (filesCode (indexKeys index) (sizeAt (indexLayout index) index) (innerLeast (formOf index) (listIn index))) (walk-files recipes k at n w turn refl)
-        ∙ ap (λ (x : ℕ). firstCode (x ∷ map (codeOf index) (drop (k + 1) (filesOf recipes)))) (sym (ap (codeOf index) file-names))
-
-    -- the next file is behind it
-    pub file-next : Walk recipes (k + 1) (at + 4 + length file)
-    file-next = rw file-length (walk-on recipes k at n w turn refl)
+        ∙ ap (λ (x : ℕ). firstCode (x ∷ map (codeOf index) (drop (k + 1) (filesOf recipes)))) (sym (ap (codeOf index) names-read))
 
     -- file k's list, and then the files behind it
     pub left-step : left k ≡ joinFile k keywords (chunksIn index file) ++ left (k + 1)

@@ -11,16 +11,16 @@ use lib.ListN.{length, set, drop, length-append, replicate, length-replicate, le
 use Rattle.spec.specs.Bytes.{part, fieldAt, splice, written, each}
 use Rattle.spec.specs.Outcome.{firstCode}
 use Rattle.spec.specs.Form.{formOf}
-use Rattle.spec.specs.Recipes.{fileCount, filesOf, recipesCode, filesCode}
+use Rattle.spec.specs.Recipes.{named, fileCount, filesOf, recipesCode, filesCode}
 use Rattle.spec.specs.Join.{Occurrence, joinFile, joinList}
 use Rattle.spec.proofs.Codes.{refused-code, next-code}
 use Rattle.spec.proofs.Splices.{splice-nil, splice-cons}
 use Rattle.recipes.proofs.Files.{Walk, accepted}
-use Rattle.files.specs.Measures.{named}
 use Rattle.walk.specs.Walking.{chunksIn, fileList}
 use Rattle.walk.proofs.Counts.{count-any}
 use Rattle.plan.specs.Plans.{allFilesCode, listOf, markOf, marksOf}
-use Rattle.plan.proofs.FileLaws.{keywords, codeOf, left, left-start, left-end, codes, codes-step, codes-end, list-is, file-next, left-step}
+use Rattle.recipes.proofs.Slices.{file-next}
+use Rattle.plan.proofs.FileLaws.{keywords, codeOf, left, left-start, left-end, codes, codes-step, codes-end, list-is, left-step}
 
 module _ (index recipes : List ℕ) where
   -- ---- before file k, which is at `at`: the files before it passed, what was counted and what is left are the whole count, and so for the marks
@@ -81,7 +81,7 @@ module _ (index recipes : List ℕ) where
         = ap length (left-step index recipes k at (g .walk) turn file f) ∙ length-append here (left index recipes (k + 1))
         ∙ ap (λ (x : ℕ). x + length (left index recipes (k + 1))) (sym m) in
         record {
-          walk = file-next index recipes k at (g .walk) turn file f;
+          walk = file-next recipes k at (g .walk) turn file f;
           few = g .few;
           coded = sym (step ∙ next-code (codeOf index (named file)) rest (sym c ∙ z)) ∙ g .coded;
           sums = omega (arith, s, g .sums);

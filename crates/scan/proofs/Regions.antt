@@ -7,7 +7,7 @@ use native.Mathlib.Omega.{arith}
 use lib.ListN.{length}
 use borrow.Rule.Slice.PartMut.{midOf, putMid}
 use Rattle.spec.specs.Bytes.{splice}
-use Rattle.spec.proofs.Splices.{splice-splice, splice-tail, splice-comm, length-splice}
+use Rattle.spec.proofs.Splices.{splice-tail, splice-regions}
 
 -- A turn: a body b is written at `at`, then its entry e at d; the rest of the directory and of the bodies is left.
 pub two-regions : (out last out₂ whole : List ℕ) (d at : ℕ) (e dr b br : List ℕ) → d + length (e ++ dr) ≤ at → at + length b ≤ length out
@@ -15,10 +15,4 @@ pub two-regions : (out last out₂ whole : List ℕ) (d at : ℕ) (e dr b br : L
     → splice (splice out d (e ++ dr)) at (b ++ br) ≡ whole → splice (splice out₂ (d + length e) dr) (at + length b) br ≡ whole
 two-regions out last out₂ whole d at e dr b br h m p q w =
     let x : out₂ ≡ splice (splice out at b) d e = q ∙ ap (λ (l : List ℕ). splice l d e) (splice-tail at out last b m p) in
-    let n : length (splice out at b) ≡ length out = length-splice out at b m in
-    let o : length (splice out d (e ++ dr)) ≡ length out = length-splice out d (e ++ dr) (omega arith) in
-    let y : splice out₂ (d + length e) dr ≡ splice (splice out d (e ++ dr)) at b =
-    ap (λ (l : List ℕ). splice l (d + length e) dr) x
-    ∙ splice-splice (splice out at b) d e dr (omega arith)
-    ∙ sym (splice-comm out d at (e ++ dr) b h (omega arith)) in
-    ap (λ (l : List ℕ). splice l (at + length b) br) y ∙ splice-splice (splice out d (e ++ dr)) at b br (omega arith) ∙ w
+    ap (λ (l : List ℕ). splice (splice l (d + length e) dr) (at + length b) br) x ∙ splice-regions out d at e dr b br h m ∙ w

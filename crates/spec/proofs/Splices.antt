@@ -122,3 +122,13 @@ splice-comm l a b v w h m =
       splice-front (take b l) (splice (drop b l) 0 w) a v k,
     ) in
     rw e at x
+
+-- two regions of one buffer, written in turns: b at `at`, then e before it at d; the rest of both is left
+pub splice-regions : (out : List ℕ) (d at : ℕ) (e dr b br : List ℕ) → d + length (e ++ dr) ≤ at → at + length b ≤ length out
+    → splice (splice (splice (splice out at b) d e) (d + length e) dr) (at + length b) br ≡ splice (splice out d (e ++ dr)) at (b ++ br)
+splice-regions out d at e dr b br h m =
+    let n : length (splice out at b) ≡ length out = length-splice out at b m in
+    let o : length (splice out d (e ++ dr)) ≡ length out = length-splice out d (e ++ dr) (omega arith) in
+    let y : splice (splice (splice out at b) d e) (d + length e) dr ≡ splice (splice out d (e ++ dr)) at b =
+    splice-splice (splice out at b) d e dr (omega arith) ∙ sym (splice-comm out d at (e ++ dr) b h (omega arith)) in
+    ap (λ (l : List ℕ). splice l (at + length b) br) y ∙ splice-splice (splice out d (e ++ dr)) at b br (omega arith)

@@ -1,13 +1,13 @@
 -- What the store check's 0 gives: the header, the entries, and of each chunk that it has the length its entry says. Assumes nothing.
 use mathlib.Core.Path.{_≡_, refl}
 use mathlib.Core.Bool.{false, _||_, not, or-true}
-use mathlib.Core.List.{List, []}
+use mathlib.Core.List.{List, [], _∷_}
 use Prim.Native.Nat.{ℕ, zero, suc, _+_, _-_, _≤_, _<_}
 use native.Mathlib.Omega.{arith}
 use borrow.Author.Tests.{eq-eqb, ne-eqb, eqb-false, lt-ltb, le-ltb, ltb-false, not-false}
 use lib.Dec.{eqb, ltb}
 use lib.ListN.{length, take, getD, length-take, length-drop}
-use Rattle.spec.specs.Bytes.{largest32, same, twice}
+use Rattle.spec.specs.Bytes.{largest32, same, twice, each, sum}
 use Rattle.spec.specs.Directory.{directoryEnd, sizeAt, offsetAt}
 use Rattle.spec.specs.Store.{storeMark, storeLayout, chunkCount, mostChunks, storeKeys, chunkAt, chunkEnd, chunksCode, storeCode}
 use Rattle.spec.specs.Form.{newest}
@@ -119,6 +119,19 @@ module _ (store : List ℕ) where
         room = omega (arith, s .from, g .room);
       }
 
+  -- the lengths of n chunks from entry k on
+  abbrev pub sizesFrom : ℕ → ℕ → List ℕ
+  sizesFrom k n = each (λ e. size e ∷ []) k n
+
+  -- they have room behind `at`, within the store and within 32 bits
+  pub chunks-room : (n k at : ℕ) → at ≤ largest32 → chunksCode store n k at ≡ 0
+      → (at + sum (sizesFrom k n) ≤ length store) × (at + sum (sizesFrom k n) ≤ largest32)
+  chunks-room zero k at h z = (omega (arith, chunks-last k at z), omega arith)
+  chunks-room (suc n) k at h z =
+      let s = chunks-step n k at z in
+      let r = chunks-room n (suc k) (chunkEnd store k) (s .below) (s .others) in
+      (omega (arith, s .from, r .0), omega (arith, s .from, r .1))
+
 -- ---- the whole check
 
 pub record StoreGood (store : List ℕ) : Type 0 where
@@ -127,6 +140,9 @@ pub record StoreGood (store : List ℕ) : Type 0 where
   pub few : chunkCount store ≤ mostChunks
   pub room : directoryEnd storeLayout (chunkCount store) ≤ length store
   pub chunks : Chunks store (chunkCount store) 0 (directoryEnd storeLayout (chunkCount store))
+  -- directory and chunks have room in the store, and within 32 bits
+  pub holds : (directoryEnd storeLayout (chunkCount store) + sum (sizesFrom store 0 (chunkCount store)) ≤ length store)
+      × (directoryEnd storeLayout (chunkCount store) + sum (sizesFrom store 0 (chunkCount store)) ≤ largest32)
   pub differ : twice (storeKeys store) ≡ false
 
 pub store-good : (store : List ℕ) → storeCode store ≡ 0 → StoreGood store
@@ -136,12 +152,14 @@ store-good store e =
     let b = passed (ltb mostChunks (chunkCount store) || ltb (length store) (directoryEnd storeLayout (chunkCount store))) 6 _ (omega arith) (a .1) in
     let c = passed-whole (chunksCode store (chunkCount store) 0 (directoryEnd storeLayout (chunkCount store))) _ (b .1) in
     let d = passed (twice (storeKeys store)) 8 _ (omega arith) (c .1) in
+    let few : chunkCount store ≤ mostChunks = ltb-false mostChunks (chunkCount store) (or-left (ltb mostChunks (chunkCount store)) _ (b .0)) in
     record {
       header = ltb-false (length store) 8 (or-left (ltb (length store) 8) _ (a .0));
       mark = same-eq (take 4 store) storeMark (not-false (same (take 4 store) storeMark) (or-right (ltb (length store) 8) _ (a .0)));
-      few = ltb-false mostChunks (chunkCount store) (or-left (ltb mostChunks (chunkCount store)) _ (b .0));
+      few = few;
       room = ltb-false (length store) (directoryEnd storeLayout (chunkCount store)) (or-right (ltb mostChunks (chunkCount store)) _ (b .0));
       chunks = chunks-good store (chunkCount store) 0 (directoryEnd storeLayout (chunkCount store)) (c .0);
+      holds = chunks-room store (chunkCount store) 0 (directoryEnd storeLayout (chunkCount store)) (omega (arith, few)) (c .0);
       differ = d .0;
     }
 

@@ -14,4 +14,5 @@ pub mod Trie
 pub mod Scan
 pub mod Lookup
 pub mod Search
+pub mod Compact
 pub mod Program

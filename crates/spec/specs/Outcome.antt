@@ -42,6 +42,10 @@ storeDuplicate = 8
 abbrev pub indexTooLong : ℕ
 indexTooLong = 9
 
+-- Request #107: the new store is longer than the buffer.
+abbrev pub storeTooLong : ℕ
+storeTooLong = 9
+
 -- The index has fewer than 8 bytes, another mark, or a chunk count above 65,000.
 abbrev pub indexMarkWrong : ℕ
 indexMarkWrong = 10

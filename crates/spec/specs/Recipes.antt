@@ -1,7 +1,7 @@
 -- Recipes: document 01, "Recipes and the join", and the tests 14 to 17 of its refusals.
 use mathlib.Core.Bool.{Bool, true, false, _&&_, _||_, not}
 use mathlib.Core.List.{List, [], _∷_, _++_, map}
-use Prim.Native.Nat.{ℕ, zero, suc, _+_, _*_, _-_}
+use Prim.Native.Nat.{ℕ, zero, suc, _+_, _*_, _-_, _/_}
 use lib.ListN.{length, drop}
 use lib.Dec.{leb, ltb}
 use Rattle.spec.specs.Bytes.{largest32, leBytes, fieldAt, contains, positionOf, every, sum, joined, same}
@@ -47,6 +47,10 @@ recipesCode recipes =
     ∷ (ltb mostFiles (fileCount recipes), recipesWrong)
     ∷ (not (filesWhole (fileCount recipes) (drop 4 recipes)), recipesWrong)
     ∷ [])
+
+-- The fingerprints that a file's bytes behind its chunk count are.
+abbrev pub named : List ℕ → List (List ℕ)
+named file = keysOf 20 (length file / 20) file
 
 -- ---- one file against a directory
 

@@ -2,7 +2,7 @@
 use mathlib.Core.Bool.{Bool, true, false, _||_, not}
 use mathlib.Core.List.{List, [], _∷_, _++_, map}
 use Prim.Native.Nat.{ℕ, zero, suc, _+_, _*_}
-use lib.ListN.{length, take, drop}
+use lib.ListN.{length, take, drop, getD}
 use lib.Dec.{eqb, ltb}
 use Rattle.spec.specs.Bytes.{largest32, leBytes, fieldAt, same, twice, each, joined}
 use Rattle.spec.specs.Outcome.{firstOf, whole, storeMarkWrong, storeDirectoryCut, storeEntryWrong, storeDuplicate, storeEntryBeyond}
@@ -70,6 +70,13 @@ chunkAt store k = pointedAt storeLayout store k
 
 unfoldable pub chunksOf : List ℕ → List (List ℕ)
 chunksOf store = each (λ k. chunkAt store k ∷ []) 0 (chunkCount store)
+
+-- The chunks under their fingerprints: of entry k, and all, in the order of the directory.
+abbrev pub storedChunk : List ℕ → ℕ → Chunk
+storedChunk store k = record { key = getD (storeKeys store) k []; bytes = chunkAt store k }
+
+unfoldable pub storedChunks : List ℕ → List Chunk
+storedChunks store = each (λ k. storedChunk store k ∷ []) 0 (chunkCount store)
 
 -- ---- the store check
 

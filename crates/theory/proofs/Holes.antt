@@ -16,7 +16,7 @@ use Rattle.spec.specs.declared.Scanned.{Scanned}
 use Rattle.spec.specs.Bytes.{part, leValue, contains, positionOf, each, every, written}
 use Rattle.spec.specs.Outcome.{codeOf, answer}
 use Rattle.spec.specs.Directory.{directoryEnd, entryField, offsetAt}
-use Rattle.spec.specs.Store.{storeLayout, chunkCount, storeKeys, chunkAt, chunkEnd, storeCode}
+use Rattle.spec.specs.Store.{storeLayout, chunkCount, storeKeys, chunkAt, chunkEnd, storeCode, storedChunks}
 use Rattle.spec.specs.Form.{newest, formOf}
 use Rattle.spec.specs.Index.{Entry, indexBytes}
 use Rattle.spec.specs.Join.{joinList, listBytes, joinCode, joinOutcome, joinBuffer, readList}
@@ -37,10 +37,10 @@ use Rattle.spec.proofs.StoreLaws.{StoreGood, store-good, length-storeKeys}
 use Rattle.theory.specs.Demand3.{scanned}
 use Rattle.theory.specs.Demands.{Calls}
 use Rattle.theory.specs.SameChunks.{sameChunks, JoinsAlike}
-use Rattle.theory.specs.WrittenInputs.{storedChunks}
 use Rattle.theory.specs.Holes.{inHole, sameOutsideHoles, DifferInHoles, SameBesideHoles, SameCallsBesideHoles, HoleCases}
-use Rattle.theory.proofs.SameChunks.{Alike, placeOf, place-in, same-find, same-chunk, same-moves, same-search-code, same-chunks-direct, alike-chunks}
-use Rattle.theory.proofs.SameChunks.{join-kept, index-is}
+use Rattle.theory.proofs.SameChunks.{Alike, same-find, same-chunk, same-moves, same-search-code, same-chunks-direct, alike-chunks}
+use Rattle.theory.proofs.SameChunks.{index-is}
+use Rattle.theory.proofs.Agreeing.{placeOf, place-in, join-kept}
 use Rattle.theory.proofs.Cases.{definitions}
 use Rattle.theory.proofs.Demand3.{code-of-answer, value-of-answer, written-front, scanned-is}
 

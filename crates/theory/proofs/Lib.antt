@@ -9,6 +9,7 @@ pub mod ListRead
 pub mod WrittenBytes
 pub mod SearchLaws
 pub mod AnyOrder
+pub mod Agreeing
 pub mod SameChunks
 pub mod Numbers
 pub mod Demand2
@@ -19,3 +20,4 @@ pub mod WrittenRecipes
 pub mod WrittenStores
 pub mod WrittenInputs
 pub mod Holes
+pub mod Compaction

@@ -9,55 +9,46 @@ use Prim.Native.Nat.{ℕ, zero, suc, _+_, _*_, _<_}
 use native.Mathlib.Nat.{zero-add}
 use native.Mathlib.Omega.{arith}
 use borrow.Author.Tests.{lt-ltb, ne-eqb}
-use lib.Dec.{eqb, ltb}
+use lib.Dec.{eqb}
 use lib.ListN.{length, take, getD, length-append}
 use Rattle.spec.specs.declared.Outcome.{Outcome}
 use Rattle.spec.specs.declared.Scanned.{Scanned}
 use Rattle.spec.specs.declared.Searched.the-variants.{ScanRefused, JoinRefused, Found}
 use Rattle.spec.specs.Bytes.{written, part, same, contains, positionOf, every, sum, joined}
-use Rattle.spec.specs.Outcome.{firstOf, firstCode, whole, codeOf, valueOf, answer, unlessRefused}
+use Rattle.spec.specs.Outcome.{codeOf, valueOf, answer, unlessRefused}
 use Rattle.spec.specs.Keywords.{flagOf, folded, foldedKeywords}
-use Rattle.spec.specs.Directory.{Layout, pointedAt, sizeAt}
-use Rattle.spec.specs.Store.{Chunk, storeLayout, chunkCount, storeKeys, chunkAt, chunksOf, storeCode}
+use Rattle.spec.specs.Directory.{Layout, pointedAt}
+use Rattle.spec.specs.Store.{Chunk, storeLayout, chunkCount, storeKeys, chunkAt, chunksOf, storeCode, storedChunk, storedChunks}
 use Rattle.spec.specs.Form.{Form, newest, formOf}
 use Rattle.spec.specs.Index.{Entry, indexBytes, indexLayout, indexKeys, bodyAt, indexCode}
-use Rattle.spec.specs.Recipes.{sizesIn, fileCode, filesCode, filesOf, recipesCode}
-use Rattle.spec.specs.Join.{Occurrence, joinList, listBytes, innerLeast, joinCode, joinOutcome, joinBuffer, readList}
+use Rattle.spec.specs.Recipes.{filesOf}
+use Rattle.spec.specs.Join.{Occurrence, listBytes, joinOutcome, joinBuffer, readList}
 use Rattle.spec.specs.Lookup.{lookupCode, lookupStart, lookupLength, findChunk, chunkStart, chunkLength, chunkOf, findBody, bodyStart, bodyLength, bodyOf}
 use Rattle.spec.specs.Trie.{movesOf, movesOfAll, scanMoves}
 use Rattle.spec.specs.Scan.{scanBody, scanEntry, scanIndex, scannableCode, scanCode, scanOutcome, withMoves, scanAnswer, scannedLength}
-use Rattle.spec.specs.Search.{chunkNamed, restored, directSearch, occurrencesInAll, searchJoinCode, searchCode, searchOutcome, searchBuffer, searchedCount}
+use Rattle.spec.specs.Search.{chunkNamed, directSearch, searchJoinCode, searchCode, searchOutcome, searchBuffer, searchedCount}
 use Rattle.spec.proofs.Tests.{bool-cases, and-left, and-right}
-use Rattle.spec.proofs.Codes.{passed-whole, buffer-done, buffer-refused}
+use Rattle.spec.proofs.Codes.{passed-whole, buffer-done}
 use Rattle.spec.proofs.Same.{same-eq}
 use Rattle.spec.proofs.Fields.{length-leBytes}
 use Rattle.spec.proofs.EntryLaws.{contains-position, position-of, contains-at, position-at}
 use Rattle.spec.proofs.LookupLaws.{lookup-passed}
-use Rattle.spec.proofs.FileLaws.{every-at, map-same, file-accepted, files-cons}
-use Rattle.spec.proofs.StoreLaws.{StoreGood, store-good, length-storeKeys, store-key-length, store-size-most, chunk-length}
+use Rattle.spec.proofs.FileLaws.{every-at}
+use Rattle.spec.proofs.StoreLaws.{StoreGood, store-good, length-storeKeys, store-key-length, store-size-most}
 use Rattle.spec.proofs.WrittenEntries.{bodiesOf, Fits, noEntry, Every, length-directory}
 use Rattle.spec.proofs.ScanLaws.{ScanReads, newest-scans, scan-done-reads}
 use Rattle.spec.proofs.Tabulated.{tabulated, length-tabulated, tabulated-at, tabulated-getD, tabulated-same, map-tabulated}
 use Rattle.theory.specs.Demand3.{scanned}
 use Rattle.theory.specs.Demands.{Calls}
 use Rattle.theory.specs.SameChunks.{sameChunk, among, heldBy, sameChunks, Reordered, AnswerAlike, SameChunks, SameCalls, SmallReordered}
-use Rattle.theory.specs.WrittenInputs.{storedChunk, storedChunks}
 use Rattle.theory.proofs.AnyOrder.{weigh, weigh-le, weigh-same, weigh-one}
-use Rattle.theory.proofs.ScanThenJoin.{position-in, answer-same, buffer-same}
+use Rattle.theory.proofs.Agreeing.{knows, placeOf, place-in, join-kept, every-true, Agree, same-join-code, same-list}
+use Rattle.theory.proofs.Agreeing.{agreed-outcome, agreed-buffer, agreed-list}
+use Rattle.theory.proofs.ScanThenJoin.{position-in, buffer-same}
 use Rattle.theory.proofs.Cases.{definitions}
-use Rattle.theory.proofs.Demand3.{code-of-answer, value-of-answer, scan-number, join-outcome, join-buffer, scanned-is, scanned-form, join-of-scan}
+use Rattle.theory.proofs.Demand3.{code-of-answer, value-of-answer, scan-number, scanned-is, scanned-form, join-of-scan}
 
 -- ---- a fingerprint stands for the same bytes in both stores
-
--- A store has the fingerprint; the entry that does.
-abbrev pub knows : List ℕ → List ℕ → Bool
-knows store key = contains key (storeKeys store)
-
-abbrev pub placeOf : List ℕ → List ℕ → ℕ
-placeOf store key = positionOf key (storeKeys store)
-
-pub place-in : (store key : List ℕ) → knows store key ≡ true → placeOf store key < chunkCount store
-place-in store key c = omega (arith, position-in (storeKeys store) key c, length-storeKeys store)
 
 bool-same : (a b : Bool) → (a ≡ true → b ≡ true) → (b ≡ true → a ≡ true) → a ≡ b
 bool-same true b f g = sym (f refl)
@@ -153,7 +144,7 @@ module _ (store : List ℕ) (good : StoreGood store) (g : List ℕ → ℕ) wher
   by-entry : (k : ℕ) → k < chunkCount store → g (chunkAt store k) ≡ named (getD (storeKeys store) k [])
   by-entry k l = ap (λ (j : ℕ). g (chunkAt store j)) (sym (position-at (storeKeys store) k (good .differ) (omega (arith, length-storeKeys store))))
 
-  by-fingerprint : tabulated (λ k. g (chunkAt store k)) 0 (chunkCount store) ≡ map named (storeKeys store)
+  pub by-fingerprint : tabulated (λ k. g (chunkAt store k)) 0 (chunkCount store) ≡ map named (storeKeys store)
   by-fingerprint =
       tabulated-same (λ k. g (chunkAt store k)) (λ k. named (getD (storeKeys store) k [])) (chunkCount store) by-entry
       ∙ sym (map-tabulated named (λ k. getD (storeKeys store) k []) 0 (chunkCount store))
@@ -210,18 +201,6 @@ module _ (f : Form) (list store : List ℕ) (good : StoreGood store) where
       ∙ rw (length-tabulated (scanEntry f list store) 0 (chunkCount store), length-bodies entries, sizes-are)
 
 -- ---- what is the same
-
--- Tests 15 to 17 of a file and of all files, said of a store; an inner chunk must have m bytes.
-abbrev fileTest : List ℕ → ℕ → List (List ℕ) → ℕ
-fileTest store m file = fileCode (storeKeys store) (sizeAt storeLayout store) m file
-
-abbrev filesTest : List ℕ → ℕ → List (List (List ℕ)) → ℕ
-filesTest store m files = filesCode (storeKeys store) (sizeAt storeLayout store) m files
-
--- a test behind one that decides it
-last-test : (r c d n : ℕ) (p q : Bool) → c ≡ d → (c ≡ 0 → p ≡ q) → firstOf (whole r ∷ whole c ∷ (p, n) ∷ []) ≡ firstOf (whole r ∷ whole d ∷ (q, n) ∷ [])
-last-test r zero d n p q e h = rw (← e, h refl)
-last-test r (suc c) d n p q e h = rw (← e, lt-ltb 0 (suc c) (omega arith))
 
 -- answers that differ at most in a count, which is the same where it is reported
 searched : (c j n v w : ℕ) → (j ≡ 0 → v ≡ w)
@@ -300,93 +279,37 @@ module _ (store other : List ℕ) (a : Alike store other) where
     unfolding scanAnswer scanOutcome
     same-scan room room₂ e = ap₂ withMoves (ap₂ answer e same-index-length) (same-moves list)
 
-  -- ---- tests 15, 16 and 17
-
-  same-known : (file : List (List ℕ)) → every (knows store) file ≡ every (knows other) file
-  same-known [] = refl
-  same-known (key ∷ file) = rw (a .known key, same-known file)
-
-  same-size : (key : List ℕ) → knows store key ≡ true → sizeAt storeLayout store (placeOf store key) ≡ sizeAt storeLayout other (placeOf other key)
-  same-size key c =
-      sym (chunk-length store (a .stored) (placeOf store key) (place-in store key c))
-      ∙ ap length (a .named key c)
-      ∙ chunk-length other (a .storedOther) (placeOf other key) (place-in other key (sym (a .known key) ∙ c))
-
-  module _ (m : ℕ) where
-    same-sizes : (file : List (List ℕ)) → every (knows store) file ≡ true
-        → sizesIn (storeKeys store) (sizeAt storeLayout store) file ≡ sizesIn (storeKeys other) (sizeAt storeLayout other) file
-    same-sizes file e = map-same (knows store) _ _ [] file e same-size
-
-    same-file : (file : List (List ℕ)) → fileTest store m file ≡ fileTest other m file
-    unfolding fileCode
-    same-file file =
-        ⊎-elim (λ e. rw (same-sizes file e, same-known file))
-        (λ e. let o : every (knows other) file ≡ false = sym (same-known file) ∙ e in rw (e, o))
-        (bool-cases (every (knows store) file))
-
-    same-each : (files : List (List (List ℕ))) → map (fileTest store m) files ≡ map (fileTest other m) files
-    same-each [] = refl
-    same-each (file ∷ files) = rw (same-file file, same-each files)
-
-    pub same-files : (files : List (List (List ℕ))) → filesTest store m files ≡ filesTest other m files
-    unfolding filesCode
-    same-files files = ap firstCode (same-each files)
-
-    -- ---- restored files
-
-    same-text : (file : List (List ℕ)) → every (knows store) file ≡ true → restored store file ≡ restored other file
-    unfolding restored
-    same-text file e = ap joined (map-same (knows store) (chunkNamed store) (chunkNamed other) [] file e (a .named))
-
-    same-texts : (flag : ℕ) (files : List (List (List ℕ))) → filesTest store m files ≡ 0
-        → map (λ file. folded flag (restored store file)) files ≡ map (λ file. folded flag (restored other file)) files
-    same-texts flag [] e = refl
-    same-texts flag (file ∷ files) e =
-        let p = files-cons (storeKeys store) (sizeAt storeLayout store) m file files e in
-        let g = file-accepted (storeKeys store) (sizeAt storeLayout store) m file (p .0) in
-        rw (same-text file (g .known), same-texts flag files (p .1))
-
-    -- where every file is accepted, the direct search is the same
-    pub same-search : (list recipes : List ℕ) → filesTest store m (filesOf recipes) ≡ 0 → directSearch list store recipes ≡ directSearch list other recipes
-    unfolding directSearch
-    same-search list recipes e = ap (occurrencesInAll 0 (foldedKeywords list)) (same-texts (flagOf list) (filesOf recipes) e)
-
   -- ---- the search
 
+  agrees : Agree store other (λ key. true)
+  agrees = record { stored = a .stored; storedOther = a .storedOther; known = λ key t. a .known key; named = λ key t. a .named key }
+
+  all-named : (recipes : List ℕ) → every (every (λ key. true)) (filesOf recipes) ≡ true
+  all-named recipes = every-true (every (λ key. true)) (filesOf recipes) (λ file. every-true (λ key. true) file (λ key. refl))
+
   module _ (f : Form) (list recipes : List ℕ) (room : ℕ) where
-    pub same-join-code : searchJoinCode f list store recipes room ≡ searchJoinCode f list other recipes room
-    unfolding searchJoinCode
-    same-join-code =
-        last-test (recipesCode recipes) (filesTest store (innerLeast f list) (filesOf recipes)) (filesTest other (innerLeast f list) (filesOf recipes)) 18 _ _
-        (same-files (innerLeast f list) (filesOf recipes))
-        (λ z. ap (λ (l : List Occurrence). ltb room (9 * length l)) (same-search (innerLeast f list) list recipes z))
+    join-same : searchJoinCode f list store recipes room ≡ searchJoinCode f list other recipes room
+    join-same = same-join-code store other (λ key. true) agrees f list recipes room (all-named recipes)
 
-    -- where its number is 0 the lists are the same
-    pub same-list : searchJoinCode f list store recipes room ≡ 0 → directSearch list store recipes ≡ directSearch list other recipes
-    unfolding searchJoinCode
-    same-list e =
-        let c = passed-whole (recipesCode recipes) _ e in
-        same-search (innerLeast f list) list recipes (passed-whole (filesTest store (innerLeast f list) (filesOf recipes)) _ (c .1) .0)
-
-    same-list-back : searchJoinCode f list other recipes room ≡ 0 → directSearch list store recipes ≡ directSearch list other recipes
-    same-list-back e = same-list (same-join-code ∙ e)
+    list-same : searchJoinCode f list store recipes room ≡ 0 → directSearch list store recipes ≡ directSearch list other recipes
+    list-same = same-list store other (λ key. true) agrees f list recipes room (all-named recipes)
 
     -- the scans are both done, or refused alike
     module _ (indexRoom indexRoom₂ : ℕ) (e : scanCode f list store indexRoom ≡ scanCode f list other indexRoom₂) where
       pub same-chunks-search : searchOutcome f list store recipes indexRoom room ≡ searchOutcome f list other recipes indexRoom₂ room
       unfolding searchOutcome
       same-chunks-search =
-          rw (e, same-index-length f list, same-join-code)
+          rw (e, same-index-length f list, join-same)
           (searched (scanCode f list other indexRoom₂) (searchJoinCode f list other recipes room) (length (scanIndex f list other)) _ _
-          (λ z. ap length (same-list-back z)))
+          (λ z. ap length (list-same (join-same ∙ z))))
 
       pub same-search-code : searchCode f list store recipes indexRoom room ≡ searchCode f list other recipes indexRoom₂ room
       unfolding searchCode
-      same-search-code = rw (e, same-join-code)
+      same-search-code = rw (e, join-same)
 
       pub same-chunks-direct : searchCode f list store recipes indexRoom room ≡ 0 → directSearch list store recipes ≡ directSearch list other recipes
       unfolding searchCode
-      same-chunks-direct z = same-list (passed-whole (searchJoinCode f list store recipes room) _ (passed-whole (scanCode f list store indexRoom) _ z .1) .0)
+      same-chunks-direct z = list-same (passed-whole (searchJoinCode f list store recipes room) _ (passed-whole (scanCode f list store indexRoom) _ z .1) .0)
 
   module _ (f : Form) (list recipes out : List ℕ) (indexRoom indexRoom₂ : ℕ) (e : scanCode f list store indexRoom ≡ scanCode f list other indexRoom₂) where
     pub same-chunks-search-buffer : searchBuffer f list store recipes indexRoom out ≡ searchBuffer f list other recipes indexRoom₂ out
@@ -439,39 +362,15 @@ module _ (store other : List ℕ) (a : Alike store other) where
     other-reads : ScanReads newest list other otherIndex
     other-reads = rw (scanned-is list other buffer₂ e₂) (scan-done-reads newest newest-scans list other (length buffer₂) e₂)
 
-    pub same-chunks-join : (recipes : List ℕ) (room : ℕ)
-        → joinOutcome (formOf index) index recipes room ≡ joinOutcome (formOf otherIndex) otherIndex recipes room
-    same-chunks-join recipes room =
-        join-outcome list store (length buffer) e index recipes room (scanned-is list store buffer e)
-        ∙ answer-same _ _ _ _ (same-join-code newest list recipes room) (λ z. ap length (same-list-back newest list recipes room z))
-        ∙ sym (join-outcome list other (length buffer₂) e₂ otherIndex recipes room (scanned-is list other buffer₂ e₂))
-
-    pub same-chunks-join-buffer : (recipes out : List ℕ) → joinBuffer (formOf index) index recipes out ≡ joinBuffer (formOf otherIndex) otherIndex recipes out
-    same-chunks-join-buffer recipes out =
-        join-buffer list store (length buffer) e index recipes out (scanned-is list store buffer e)
-        ∙ buffer-same _ _ _ _ out (same-join-code newest list recipes (length out))
-        (λ z. ap (λ (l : List Occurrence). written out (listBytes l)) (same-list-back newest list recipes (length out) z))
-        ∙ sym (join-buffer list other (length buffer₂) e₂ otherIndex recipes out (scanned-is list other buffer₂ e₂))
-
-    pub same-chunks-list : (recipes out out₂ : List ℕ) → length out ≡ length out₂ → codeOf (joinOutcome (formOf index) index recipes (length out)) ≡ 0
-        → readList (valueOf (joinOutcome (formOf index) index recipes (length out))) (joinBuffer (formOf index) index recipes out)
-        ≡ readList (valueOf (joinOutcome (formOf otherIndex) otherIndex recipes (length out₂))) (joinBuffer (formOf otherIndex) otherIndex recipes out₂)
-    same-chunks-list recipes out out₂ l z =
-        let s = join-of-scan list store (length buffer) e recipes index out (scanned-is list store buffer e) in
-        let t = join-of-scan list other (length buffer₂) e₂ recipes otherIndex out₂ (scanned-is list other buffer₂ e₂) in
-        let o : joinOutcome (formOf index) index recipes (length out) ≡ joinOutcome (formOf otherIndex) otherIndex recipes (length out₂) =
-        same-chunks-join recipes (length out) ∙ ap (joinOutcome (formOf otherIndex) otherIndex recipes) l in
-        s .listed z ∙ same-search (innerLeast newest list) list recipes (s .done .0 z .1) ∙ sym (t .listed (ap codeOf (sym o) ∙ z))
-
     pub answer-alike : AnswerAlike index otherIndex
     answer-alike =
         record {
           size = rw (scanned-is list store buffer e, scanned-is list other buffer₂ e₂) (same-index-length newest list);
           find = λ key. rw (form, other-form) (same-find-body newest list index otherIndex reads other-reads key);
           body = λ key. rw (form, other-form) (same-body newest list index otherIndex reads other-reads key);
-          outcome = same-chunks-join;
-          bytes = same-chunks-join-buffer;
-          listed = same-chunks-list;
+          outcome = λ recipes. agreed-outcome store other (λ key. true) agrees list buffer buffer₂ e e₂ recipes (all-named recipes);
+          bytes = λ recipes. agreed-buffer store other (λ key. true) agrees list buffer buffer₂ e e₂ recipes (all-named recipes);
+          listed = λ recipes. agreed-list store other (λ key. true) agrees list buffer buffer₂ e e₂ recipes (all-named recipes);
         }
 
 -- ---- the claim
@@ -511,14 +410,6 @@ pub same-chunks : (list store other : List ℕ) → Reordered store other → Sa
 same-chunks list store other r = alike-chunks list store other (stores-alike store other r)
 
 -- ---- the claim of calls
-
-pub join-kept : (index recipes out : List ℕ) → codeOf (joinOutcome (formOf index) index recipes (length out)) ≢ 0
-    → joinBuffer (formOf index) index recipes out ≡ out
-unfolding joinOutcome joinBuffer
-join-kept index recipes out d =
-    let code : ℕ = joinCode (formOf index) index recipes (length out) in
-    let found = joinList (formOf index) index recipes in
-    sym (buffer-refused code (written out (listBytes found)) out (λ z. d (code-of-answer code (length found) ∙ z)))
 
 -- of what the contracts say the calls do; it goes by the fields of `SameChunks` alone
 calls-alike : (list store other : List ℕ) → SameChunks list store other → (recipes buffer buffer₂ out out₂ : List ℕ)

@@ -21,7 +21,7 @@ use Rattle.theory.proofs.WrittenStores.{keysUnder, store-read, written-
 use Rattle.theory.proofs.WrittenRecipes.{recipes-read, written-recipes}
 
 -- the first chunk with a fingerprint stands at the fingerprint's position
-bytes-under : (chunks : List Chunk) (key : List ℕ)
+pub bytes-under : (chunks : List Chunk) (key : List ℕ)
     → bytesUnder chunks key ≡ getD (map (λ c. c .bytes) chunks) (positionOf key (map (λ c. c .key) chunks)) []
 bytes-under [] key = refl
 bytes-under (c ∷ cs) key = ⊎-elim (λ t. rw t) (λ f. rw f (bytes-under cs key)) (bool-cases (same key (c .key)))

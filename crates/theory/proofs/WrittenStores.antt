@@ -16,7 +16,7 @@ use Rattle.spec.specs.Bytes.{largest32, part, leBytes, fieldAt, same, twice, ev
 use Rattle.spec.specs.Directory.{keysOf, sizeAt, offsetAt}
 use Rattle.spec.specs.Form.{newest}
 use Rattle.spec.specs.Store.{Chunk, Placed, storeMark, storeLayout, mostChunks, storeDirectoryBytes, placedBytes}
-use Rattle.spec.specs.Store.{chunkCount, storeKeys, chunkAt, chunkEnd, chunksCode, storeCode}
+use Rattle.spec.specs.Store.{chunkCount, storeKeys, chunkAt, storedChunk, storedChunks, chunkEnd, chunksCode, storeCode}
 use Rattle.spec.proofs.Tests.{le-of-and, and-left, and-right}
 use Rattle.spec.proofs.Codes.{passed, passed-whole}
 use Rattle.spec.proofs.Fields.{length-leBytes}
@@ -26,7 +26,7 @@ use Rattle.spec.proofs.OneForm.{part-split, field-split}
 use Rattle.spec.proofs.JoinIsSearch.{getD-map}
 use Rattle.spec.proofs.StoreLaws.{StoreGood, store-good, chunks-end, chunks-more, chunks-step, chunks-good}
 use Rattle.spec.proofs.Tabulated.{tabulated, tabulated-getD, tabulated-same}
-use Rattle.theory.specs.WrittenInputs.{storedChunk, storedChunks, isFingerprint, chunkFits, chunksIn, chunksFit, StoreReads, WrittenStore, WrittenStores}
+use Rattle.theory.specs.WrittenInputs.{isFingerprint, chunkFits, chunksIn, chunksFit, StoreReads, WrittenStore, WrittenStores}
 
 -- ---- chunks that can be written
 
@@ -37,10 +37,10 @@ keysUnder placed = map (λ c. c .key) (chunksIn placed)
 abbrev pub chunksUnder : List Placed → List (List ℕ)
 chunksUnder placed = map (λ c. c .bytes) (chunksIn placed)
 
-abbrev laidBytes : List Placed → List ℕ
+abbrev pub laidBytes : List Placed → List ℕ
 laidBytes placed = joined (map (λ p. p .hole ++ p .chunk .bytes) placed)
 
-abbrev allFit : List Placed → Bool
+abbrev pub allFit : List Placed → Bool
 allFit placed = every chunkFits (chunksIn placed)
 
 abbrev noChunk : Chunk
@@ -99,6 +99,11 @@ store-parts : (placed : List Placed) (hole : List ℕ)
     ≡ storeMark ++ (leBytes 4 (length placed) ++ (storeDirectoryBytes (8 + 28 * length placed) placed ++ (laidBytes placed ++ hole)))
 unfolding placedBytes
 store-parts placed hole = simp append-assoc
+
+pub length-written : (placed : List Placed) (hole : List ℕ) → allFit placed ≡ true
+    → length (placedBytes placed hole) ≡ 8 + 28 * length placed + length (laidBytes placed) + length hole
+unfolding placedBytes
+length-written placed hole fit = simp (length-append, length-leBytes, length-directory (8 + 28 * length placed) placed fit)
 
 -- ---- entry by entry
 
@@ -210,8 +215,7 @@ module _ (placed : List Placed) (hole : List ℕ) (fits : chunksFit placed ≡ t
   each-fits = and-right (leb (length placed) mostChunks) (allFit placed) both-fit
 
   length-store : (behind : List ℕ) → length (placedBytes placed behind) ≡ start + length (laidBytes placed) + length behind
-  unfolding placedBytes
-  length-store behind = simp (length-append, length-leBytes, length-directory start placed each-fits)
+  length-store behind = length-written placed behind each-fits
 
   short : start + length (laidBytes placed) ≤ largest32
   short =

@@ -8,3 +8,4 @@ pub mod RecordSets
 pub mod Demands
 pub mod SameChunks
 pub mod Holes
+pub mod Compaction

@@ -12,7 +12,7 @@ use Rattle.spec.specs.declared.Scanned.{Scanned}
 use Rattle.spec.specs.declared.Scanned.the-variants as Scanned
 use Rattle.spec.specs.Bytes.{same, every}
 use Rattle.spec.specs.Outcome.{codeOf, valueOf}
-use Rattle.spec.specs.Store.{Chunk, storeBytes, chunkCount, storeCode}
+use Rattle.spec.specs.Store.{Chunk, storeBytes, chunkCount, storeCode, storedChunks}
 use Rattle.spec.specs.Form.{form1, newest, formOf}
 use Rattle.spec.specs.Index.{indexKeys}
 use Rattle.spec.specs.Lookup.{findChunk, chunkStart, chunkOf, findBody, bodyOf}
@@ -21,7 +21,6 @@ use Rattle.spec.specs.Scan.{scanIndex, scanAnswer, scannedCode}
 use Rattle.spec.specs.Search.{searchCode, searchOutcome, searchBuffer, searchedCount}
 use Rattle.theory.specs.Cases.{store, keywords, recipes, fingerprint, oneChunk, nine, chunkXAB, chunkABAX, chunkA}
 use Rattle.theory.specs.Demand3.{scanned}
-use Rattle.theory.specs.WrittenInputs.{storedChunks}
 
 -- ---- the same chunks
 

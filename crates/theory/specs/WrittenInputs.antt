@@ -10,7 +10,7 @@ use lib.ListN.{length, getD}
 use lib.Dec.{eqb, leb}
 use Rattle.spec.specs.Bytes.{largest32, AllBytes, same, contains, twice, each, every, joined}
 use Rattle.spec.specs.Keywords.{folded, foldedAll, keywordListBytes, countOf, flagOf, keywordsOf, listSize, keywordCode}
-use Rattle.spec.specs.Store.{Chunk, Placed, placedBytes, mostChunks, chunkCount, storeKeys, chunkAt, storeCode}
+use Rattle.spec.specs.Store.{Chunk, Placed, placedBytes, mostChunks, chunkCount, storeKeys, chunkAt, storedChunks, storeCode}
 use Rattle.spec.specs.Form.{newest}
 use Rattle.spec.specs.Recipes.{recipesBytes, mostFiles, filesOf, recipesCode}
 use Rattle.spec.specs.Search.{occurrencesInAll, directSearch}
@@ -61,13 +61,6 @@ pub record WrittenRecipes : Type 0 where
   pub written : (recipes : List ℕ) → AllBytes recipes → recipesCode recipes ≡ 0 → recipes ≡ recipesBytes (filesOf recipes)
 
 -- ---- stores
-
--- A store's chunks under their fingerprints, in the order of its directory: entry k, and all.
-abbrev pub storedChunk : List ℕ → ℕ → Chunk
-storedChunk store k = record { key = getD (storeKeys store) k []; bytes = chunkAt store k }
-
-unfoldable pub storedChunks : List ℕ → List Chunk
-storedChunks store = each (λ k. storedChunk store k ∷ []) 0 (chunkCount store)
 
 -- A chunk of 1 to 1,048,576 bytes under a fingerprint.
 abbrev pub chunkFits : Chunk → Bool

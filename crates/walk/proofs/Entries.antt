@@ -31,7 +31,7 @@ use Rattle.directory.specs.Chains.{keysFrom, Lies}
 use Rattle.loader.specs.Loaded.{fitsFrom, Row, rowOf, Loadable}
 use Rattle.loader.proofs.Loading.{Loaded}
 use Rattle.loader.proofs.Fitting.{good-body-fits}
-use Rattle.files.specs.Measures.{named}
+use Rattle.spec.specs.Recipes.{named}
 use Rattle.walk.specs.Walking.{noChunk, chunksIn, chunkIn, firstSuffix, widthOf, Checked, File, EntryAt, LoadedEntry, LoadedAt}
 
 -- ---- a file's chunks

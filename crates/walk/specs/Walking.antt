@@ -13,7 +13,8 @@ use Rattle.spec.specs.Index.{listIn, indexKeys, indexCode, indexRecords}
 use Rattle.spec.specs.Opened.{openedOf}
 use Rattle.spec.specs.Join.{Occurrence, joinFile, fileRecords}
 use Rattle.directory.specs.Chains.{keysFrom, Chained}
-use Rattle.files.specs.Measures.{named, Slotted}
+use Rattle.spec.specs.Recipes.{named}
+use Rattle.files.specs.Measures.{Slotted}
 use Rattle.loader.specs.Loaded.{Row, rowOf}
 use Rattle.tables.specs.Tabled.{cellAt}
 use Rattle.listing.specs.Streams.{streamOf, total}

@@ -1,7 +1,8 @@
 -- `files::file_code` meets its contract: the measure's tests in their order. Assumes nothing.
 use Prim.Native.Nat.{_-_}
 use denote.Ref.{now}
-use Rattle.files.specs.Measures.{named, keysAt, sizesAt}
+use Rattle.spec.specs.Recipes.{named}
+use Rattle.files.specs.Measures.{keysAt, sizesAt}
 use Rattle.files.proofs.Measuring.{tested}
 use borrow.Author.Needs.{needs}
 use Rattle.files.proofs.file_code.Statement.{statement}

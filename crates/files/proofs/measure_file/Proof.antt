@@ -4,7 +4,8 @@ use Prim.Native.Nat.{_-_, _/_, _≤_}
 use native.Mathlib.Omega.{arith}
 use lib.ListN.{length}
 use denote.Ref.{now}
-use Rattle.files.specs.Measures.{named, keysAt, sizesAt, innerShort}
+use Rattle.spec.specs.Recipes.{named}
+use Rattle.files.specs.Measures.{keysAt, sizesAt, innerShort}
 use Rattle.files.proofs.Measuring.{measuring-start}
 use Rattle.files.proofs.Places.{Before, place-missing, place-on, place-end}
 use Rattle.files.proofs.measure_file.Statement.{statement}

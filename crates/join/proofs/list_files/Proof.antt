@@ -7,11 +7,11 @@ use lib.ListN.{length}
 use denote.Ref.{now}
 use Rattle.spec.specs.Bytes.{fieldAt}
 use Rattle.spec.specs.Index.{indexKeys}
-use Rattle.spec.specs.Recipes.{fileCount}
+use Rattle.spec.specs.Recipes.{named, fileCount}
 use Rattle.recipes.proofs.Files.{walk-file, accepted}
-use Rattle.files.specs.Measures.{named}
 use Rattle.files.proofs.Places.{no-slots}
-use Rattle.plan.proofs.FileLaws.{list-is, file-walks, file-passes, file-next}
+use Rattle.recipes.proofs.Slices.{file-next}
+use Rattle.plan.proofs.FileLaws.{list-is, file-walks, file-passes}
 use Rattle.join.proofs.Turns.{Listing, listing-start, listing-room, listing-on, listing-end}
 use Rattle.join.proofs.list_files.Statement.{statement}
 use Rattle.join.proofs.list_files.Tie as tie
@@ -34,7 +34,7 @@ room c =
     let p = c .before .before in
     let a = outset p .args in
     let f = c .file-at in
-    file-next (now (a .index)) (now (a .recipes)) (p .loop .number) (p .loop .at) (p .loop .inv .1 .walk) (omega arith) (now (f .result)) (f .ensures) .within
+    file-next (now (a .recipes)) (p .loop .number) (p .loop .at) (p .loop .inv .1 .walk) (omega arith) (now (f .result)) (f .ensures) .within
 
 count-at-requires : tie.Need-count-at-requires Inv-loop μ-loop
 count-at-requires c κs =

@@ -8,14 +8,14 @@ use denote.Ref.{now}
 use Rattle.spec.specs.Bytes.{fieldAt}
 use Rattle.spec.specs.Directory.{sizeAt}
 use Rattle.spec.specs.Index.{indexLayout, indexKeys}
-use Rattle.spec.specs.Recipes.{fileCount, fileCode}
+use Rattle.spec.specs.Recipes.{named, fileCount, fileCode}
 use Rattle.recipes.proofs.Files.{walk-file, accepted}
-use Rattle.files.specs.Measures.{named}
 use Rattle.files.proofs.OfIndex.{index-code, index-slotted}
 use Rattle.walk.specs.Walking.{File}
 use Rattle.walk.proofs.Entries.{lies, starts, counts}
 use Rattle.walk.proofs.Counts.{count-few}
-use Rattle.plan.proofs.FileLaws.{codeOf, file-walks, file-next}
+use Rattle.recipes.proofs.Slices.{file-next}
+use Rattle.plan.proofs.FileLaws.{codeOf, file-walks}
 use Rattle.plan.proofs.Surveys.{Surveying, survey-start, survey-refused, survey-on, survey-passed, survey-total, survey-marks}
 use Rattle.plan.proofs.Stages.{inner-least, files-number, refused-plan, done-plan}
 use Rattle.plan.proofs.survey_files.Statement.{statement}
@@ -42,7 +42,7 @@ room c =
     let p = c .before .before in
     let a = outset p .args in
     let f = c .file-at in
-    file-next (now (a .index)) (now (a .recipes)) (p .loop .k) (p .loop .at) (p .loop .inv .2 .walk) (omega arith) (now (f .result)) (f .ensures) .within
+    file-next (now (a .recipes)) (p .loop .k) (p .loop .at) (p .loop .inv .2 .walk) (omega arith) (now (f .result)) (f .ensures) .within
 
 -- the slots that its test leaves
 abbrev slots₁ : tie.After-file-code Inv-loop μ-loop → List ℕ

@@ -1,0 +1,4 @@
+pub mod Turns
+pub mod Marked
+pub mod Writing
+pub mod Answers
