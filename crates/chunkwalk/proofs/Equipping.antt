@@ -19,7 +19,7 @@ use Rattle.trie.proofs.Numbering.{accepted-count, number-below, node-of-number}
 use Rattle.automaton.specs.Automaton.{endingSet, setsOf, prefixesOf, cellOf, tableOf}
 use Rattle.automaton.specs.Walking.{Row, Rows}
 use Rattle.automaton_table.proofs.Table.{splice-inside}
-use Rattle.records.specs.Log.{Tabled}
+use Rattle.logs.specs.Log.{Tabled}
 use Rattle.chunkwalk.specs.Marks.{Equipped}
 
 -- an array whose first n elements were filled

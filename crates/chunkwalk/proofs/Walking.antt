@@ -24,11 +24,11 @@ use Rattle.automaton.specs.Automaton.{logFrom}
 use Rattle.automaton.specs.Walking.{walkedOf, walkLog, numberAfter}
 use Rattle.spec.proofs.Forms.{newest-read}
 use Rattle.records.specs.declared.Started.{Started}
-use Rattle.records.specs.Log.{loggedOffsets, AllFit}
+use Rattle.logs.specs.Log.{loggedOffsets, AllFit}
 use Rattle.records.specs.Bodies.{startOf, placeOf, startedOf, Tells}
-use Rattle.records.specs.Patches.{patched}
-use Rattle.records.specs.Runs.{logRun, cursor, CanList}
-use Rattle.records.specs.Tallies.{tallyOf}
+use Rattle.offset_lists.specs.Patches.{patched}
+use Rattle.offset_lists.specs.Runs.{logRun, cursor, CanList}
+use Rattle.logs.specs.Tallies.{tallyOf}
 use Rattle.records.proofs.Beginning.{started-size}
 use Rattle.records.proofs.BodyLaws.{lens}
 use Rattle.records.proofs.Telling.{Sources, sources-fit, sources-tell}

@@ -12,8 +12,8 @@ use Rattle.spec.specs.Trie.{movesOf}
 use Rattle.keywords.specs.declared.Keywords.{Keywords}
 use Rattle.keywords.specs.Parsed.{Reads}
 use Rattle.automaton.specs.Walking.{numberAfter, Rows}
-use Rattle.records.specs.Log.{logOf, Tabled}
-use Rattle.records.specs.declared.Tally.{Tally}
+use Rattle.logs.specs.Log.{logOf, Tabled}
+use Rattle.logs.specs.declared.Tally.{Tally}
 use Rattle.chunkwalk.specs.declared.Measured.{Measured}
 use Rattle.chunkwalk.specs.declared.Written.{Written}
 

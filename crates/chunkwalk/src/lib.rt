@@ -74,7 +74,7 @@ fn put_unwalked(
     ensures { λ r. ⌜ (now (out .exit) ≡ written (now (out .entry)) (scanBody newest (now (list .entry)) (now (chunk .entry))))
         × (r ≡ length (scanBody newest (now (list .entry)) (now (chunk .entry)))) ⌝ }
 {
-    let none = records::Tally {
+    let none = logs::Tally {
         counts: [0usize; 16],
         firsts: [0usize; 16],
     };
@@ -107,7 +107,7 @@ fn put_short(
     let started = records::put_starts(out, list, words, chunk, tails, w.node, tally);
     let counts = tally.counts;
     let mut cursors = started.cursors;
-    records::put_log(out, &mut cursors, words, &counts, ends, &log[..w.logged]);
+    offset_lists::put_log(out, &mut cursors, words, &counts, ends, &log[..w.logged]);
     Written {
         size: started.size,
         moves: w.moves,

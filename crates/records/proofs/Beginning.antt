@@ -21,12 +21,12 @@ use Rattle.spec.proofs.Tabulated.{tabulated, length-tabulated, tabulated-at}
 use Rattle.keywords.specs.declared.Keywords.{Keywords}
 use Rattle.keywords.specs.Parsed.{Reads}
 use Rattle.records.specs.Bodies.{startOf, listOf, placeOf, listPlace, startedOf}
-use Rattle.records.specs.Patches.{patched}
-use Rattle.records.specs.Runs.{cursor}
+use Rattle.offset_lists.specs.Patches.{patched}
+use Rattle.offset_lists.specs.Runs.{cursor}
 use Rattle.records.specs.declared.Started.{Started}
 use Rattle.records.proofs.BodyLaws.{bodyRest, rest-start, rest-step, rest-lengths, rest-none, keywords-count, keywords-few}
-use Rattle.records.proofs.Patching.{patched-length, patched-behind}
-use Rattle.records.proofs.Tallying.{zeros}
+use Rattle.offset_lists.proofs.Patching.{patched-length, patched-behind}
+use Rattle.logs.proofs.Tallying.{zeros}
 
 pub part-room : (out : List ℕ) (at n : ℕ) → at + n ≤ length out → n ≤ length (midOf at (length out - at) out)
 part-room out at n h = simp (length-take, length-drop) (omega arith)

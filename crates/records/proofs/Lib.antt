@@ -1,11 +1,5 @@
-pub mod Bits
-pub mod LogLaws
-pub mod Patching
-pub mod Tallying
 pub mod Starts
-pub mod Filling
 pub mod BodyLaws
 pub mod Telling
 pub mod Beginning
 pub mod Whole
-pub mod Joining

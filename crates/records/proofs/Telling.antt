@@ -12,15 +12,15 @@ use Rattle.spec.specs.Records.{recordOf, suffixOf}
 use Rattle.spec.proofs.Tests.{leb-true, le-or-lt}
 use Rattle.spec.proofs.Folding.{folded-length}
 use Rattle.keywords.specs.declared.Keywords.{Keywords}
-use Rattle.records.specs.declared.Tally.{Tally}
-use Rattle.records.specs.Log.{loggedOffsets, AllFit, Tabled, Walked}
-use Rattle.records.specs.Runs.{logRun}
+use Rattle.logs.specs.declared.Tally.{Tally}
+use Rattle.logs.specs.Log.{loggedOffsets, AllFit, Tabled, Walked}
+use Rattle.offset_lists.specs.Runs.{logRun}
 use Rattle.records.specs.Summaries.{summaryOf, listBytes}
-use Rattle.records.specs.Tallies.{tallyOf}
+use Rattle.logs.specs.Tallies.{tallyOf}
 use Rattle.keywords.specs.Parsed.{Reads}
 use Rattle.records.specs.Bodies.{foundAt, listOf, Tells}
-use Rattle.records.proofs.Tallying.{tally-counts, tally-firsts, tally-count, tally-first}
-use Rattle.records.proofs.LogLaws.{logged-offsets, logged-prefix, logged-fits, logged-none, last-below}
+use Rattle.logs.proofs.Tallying.{tally-counts, tally-firsts, tally-count, tally-first}
+use Rattle.logs.proofs.LogLaws.{logged-offsets, logged-prefix, logged-fits, logged-none, last-below}
 use Rattle.records.proofs.BodyLaws.{keywords-count, keywords-few, flag-is, within, slice, slice-is, length-is, length-some, found-prefix}
 
 -- The list is read, the chunk is not longer than chunks are, the trie's arrays are its keywords', and its walk left this log and last node.

@@ -10,17 +10,17 @@ use Rattle.spec.specs.Form.{newest}
 use Rattle.spec.specs.Scan.{scanBody}
 use Rattle.spec.proofs.Tests.{le-or-lt, leb-true}
 use Rattle.keywords.specs.declared.Keywords.{Keywords}
-use Rattle.records.specs.declared.Tally.{Tally}
+use Rattle.logs.specs.declared.Tally.{Tally}
 use Rattle.records.specs.declared.Started.{Started}
 use Rattle.records.specs.Bodies.{foundAt, startOf, listOf, placeOf, startedOf, Tells}
-use Rattle.records.specs.Patches.{patched}
-use Rattle.records.specs.Runs.{logRun, cursor, CanList}
+use Rattle.offset_lists.specs.Patches.{patched}
+use Rattle.offset_lists.specs.Runs.{logRun, cursor, CanList}
 use Rattle.records.specs.Summaries.{listBytes}
-use Rattle.records.specs.Tallies.{tallyOf}
+use Rattle.logs.specs.Tallies.{tallyOf}
 use Rattle.records.proofs.BodyLaws.{lens, keywords-few}
 use Rattle.records.proofs.Beginning.{place-most, place-behind, begun-length, body-begun, list-place, no-list-place, started-length, started-at}
-use Rattle.records.proofs.Patching.{patched-same, patched-none}
-use Rattle.records.proofs.Tallying.{tally-counts}
+use Rattle.offset_lists.proofs.Patching.{patched-same, patched-none}
+use Rattle.logs.proofs.Tallying.{tally-counts}
 use Rattle.records.proofs.Telling.{Sources, sources-list, sources-none}
 
 module _ (list : List ℕ) (words : Keywords) (chunk log ends tails : List ℕ) (last : ℕ) (s : Sources list words chunk log ends tails last)

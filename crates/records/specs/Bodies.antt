@@ -14,7 +14,7 @@ use Rattle.spec.specs.Scan.{scanBody}
 use Rattle.keywords.specs.declared.Keywords.{Keywords}
 use Rattle.keywords.specs.Parsed.{Reads}
 use Rattle.records.specs.Summaries.{summaryOf, startBytes, listBytes}
-use Rattle.records.specs.declared.Tally.{Tally}
+use Rattle.logs.specs.declared.Tally.{Tally}
 use Rattle.records.specs.declared.Started.{Started}
 
 -- The record of keyword k in a chunk, as keywords and chunk compare.

@@ -1,101 +1,13 @@
-// The match records of a chunk, from the log that the walk over the trie leaves, and their written form. The log may come in parts, one after the
-// other: tallies are joined, and the lists of offsets go on where the part before left them.
+// The match records of a chunk in their written form but for the lists of offsets, from the tally of the log that the walk over the trie leaves.
 ghost use mathlib.Core.Path.{_≡_};
 ghost use Prim.Native.Nat.{ℕ, _+_, _≤_, _<_, min};
 ghost use lib.ListN.{length};
-ghost use Rattle.spec.specs.Bytes.{splice};
 ghost use Rattle.spec.specs.Scan.{scanBody};
 ghost use Rattle.spec.specs.Form.{newest};
 ghost use Rattle.spec.specs.Records.{kindOf};
-ghost use Rattle.records.specs.Log.{AllFit};
-ghost use mathlib.Core.Bool.{cond};
-ghost use lib.Dec.{eqb};
-ghost use Rattle.records.specs.Tallies.{CanCount, OneMore, Kept, tallyOf, tallyBoth, CanJoin};
-ghost use Rattle.records.specs.Patches.{patched};
+ghost use Rattle.offset_lists.specs.Patches.{patched};
 ghost use Rattle.records.specs.Bodies.{foundAt, startOf, placeOf, startedOf, Tells};
-ghost use Rattle.records.specs.Runs.{pieceOf, entryRun, logRun, cursor, movedBy, CanList, CanFillEntry, Filled};
 ghost use Rattle.records.specs.Summaries.{summaryOf, emptyIn, tinyIn, tinyPart, headPart, startBytes, listed, Wrote, CanStart};
-
-// ---- the tally: how many offsets each keyword has, and the first
-
-pub struct Tally {
-    pub counts: [usize; 16],
-    // 0 where there is none
-    pub firsts: [usize; 16],
-}
-
-// Counts the keywords that end at one place, and keeps their offsets: each starts its length before the end.
-fn count_entry(counts: &mut [usize], firsts: &mut [usize], len: &[usize], members: u32, end: usize)
-    requires { ⌜ CanCount (now counts) (now firsts) (now len) members end ⌝ }
-    ensures { λ _. ⌜ OneMore members (now (counts .entry)) (now (counts .exit)) × Kept members end (now (len .entry)) (now (firsts .entry))
-        (now (firsts .exit)) ⌝ }
-{
-    let mut rest = members;
-    let mut from: usize = 0;
-    while rest != 0 {
-        let z = u32::trailing_zeros(rest);
-        let k = from + z as usize;
-        counts[k] += 1;
-        firsts[k] = end - len[k];
-        rest = (rest >> z) / 2;
-        from = k + 1;
-    }
-}
-
-// An entry of the log is a node's number times this, and the place in the chunk of the byte that led there.
-const PLACES: u32 = 1048576;
-
-// The tally of a log, from its last entry to its first, so that the first offset is the one kept.
-pub fn tally_of(log: &[u32], ends: &[u32], len: &[usize]) -> Tally
-    requires { ⌜ (length (now len) ≡ 16) × AllFit (now ends) (now len) (now log) ⌝ }
-    ensures { λ r. ⌜ r ≡ tallyOf (now (ends .entry)) (now (len .entry)) (now (log .entry)) ⌝ }
-{
-    let mut counts = [0usize; 16];
-    let mut firsts = [0usize; 16];
-    let mut i = log.len();
-    while 0 < i {
-        i -= 1;
-        let entry = log[i];
-        let node = (entry / PLACES) as usize;
-        let end = (entry % PLACES) as usize + 1;
-        count_entry(&mut counts, &mut firsts, len, ends[node], end);
-    }
-    Tally {
-        counts: counts,
-        firsts: firsts,
-    }
-}
-
-// The first offset of a log in two parts: the second part's where the first has none.
-fn first_of(count: usize, first: usize, other: usize) -> usize
-    ensures { λ r. ⌜ r ≡ cond (eqb count 0) other first ⌝ }
-{
-    if count == 0 {
-        return other;
-    }
-    first
-}
-
-// The tally of two logs, one after the other, from the tally of each.
-pub fn tally_with(before: Tally, more: Tally) -> Tally
-    requires { ⌜ CanJoin before more ⌝ }
-    ensures { λ r. ⌜ r ≡ tallyBoth before more ⌝ }
-{
-    let more_counts = more.counts;
-    let more_firsts = more.firsts;
-    let mut counts = before.counts;
-    let mut firsts = before.firsts;
-    let mut k: usize = 0;
-    while k < 16 {
-        firsts[k] = first_of(counts[k], firsts[k], more_firsts[k]);
-        counts[k] += more_counts[k];
-        k += 1;
-    }
-    Tally {
-        counts: counts,
-        firsts: firsts,
-    }
-}
 
 // ---- summaries: what decides how a record is written
 
@@ -175,9 +87,6 @@ fn count_byte(count: usize) -> u8
     smaller(count, COUNT_MOST) as u8
 }
 
-// Bytes of an offset and of the exact count; of a tiny record; of a full record's head: number, kind, prefix, suffix, count byte, first offset.
-const WIDTH: usize = 3;
-
 const TINY: usize = 3;
 
 const HEAD: usize = 8;
@@ -197,7 +106,7 @@ fn start_size(s: Summary) -> usize
     if s.count <= LISTED_MOST {
         return HEAD;
     }
-    HEAD + WIDTH
+    HEAD + offset_lists::WIDTH
 }
 
 // How many offsets are listed.
@@ -235,7 +144,7 @@ fn put_head(out: &mut [u8], k: usize, s: Summary) -> usize
     out[2] = s.prefix as u8;
     out[3] = s.suffix as u8;
     out[4] = count;
-    field::write(out, 5, WIDTH, s.first as u64);
+    field::write(out, 5, offset_lists::WIDTH, s.first as u64);
     HEAD
 }
 
@@ -255,71 +164,8 @@ fn put_start(out: &mut [u8], k: usize, s: Summary) -> usize
     if count <= LISTED_MOST {
         return head;
     }
-    field::write(out, head, WIDTH, count as u64);
-    head + WIDTH
-}
-
-// Writes an offset of a keyword with so many of them into the buffer at `at`: nothing where it has at most one.
-fn put_offset(out: &mut [u8], at: usize, offset: usize, count: usize) -> usize
-    requires { ⌜ at + length (pieceOf newest count offset) ≤ length (now out) ⌝ }
-    ensures { λ r. ⌜ (now (out .exit) ≡ splice (now (out .entry)) at (pieceOf newest count offset)) × (r ≡ length (pieceOf newest count offset)) ⌝ }
-{
-    if count <= 1 {
-        return 0;
-    }
-    field::write(out, at, WIDTH, offset as u64);
-    WIDTH
-}
-
-// Writes the offsets of the keywords that end at one place, each at its cursor, which goes on behind it.
-fn put_entry(
-    out: &mut [u8],
-    cursors: &mut [usize],
-    counts: &[usize],
-    len: &[usize],
-    members: u32,
-    end: usize,
-)
-    requires { ⌜ CanFillEntry (now out) (now cursors) (now counts) (now len) members end ⌝ }
-    ensures { λ _. ⌜ Filled (entryRun newest (now (counts .entry)) (now (len .entry)) members end) (now (out .entry)) (now (cursors .entry))
-        (now (out .exit)) (now (cursors .exit)) ⌝ }
-{
-    let mut rest = members;
-    let mut from: usize = 0;
-    while rest != 0 {
-        let z = u32::trailing_zeros(rest);
-        let k = from + z as usize;
-        let at = cursors[k];
-        cursors[k] = at + put_offset(out, at, end - len[k], counts[k]);
-        rest = (rest >> z) / 2;
-        from = k + 1;
-    }
-}
-
-// Writes all offsets that a log says, each keyword's at its cursor, which goes on behind them. The counts are those of the chunk.
-pub fn put_log(
-    out: &mut [u8],
-    cursors: &mut [usize],
-    words: keywords::Keywords,
-    counts: &[usize],
-    ends: &[u32],
-    log: &[u32],
-)
-    requires { ⌜ CanList words (logRun newest (now counts) (words .len) (now ends) (now log)) (now out) (now cursors) (now counts) × AllFit (now ends)
-        (words .len) (now log) ⌝ }
-    ensures { λ _. ⌜ (now (out .exit) ≡ patched (words .count) (cursor (now (cursors .entry))) (logRun newest (now (counts .entry)) (words .len)
-        (now (ends .entry)) (now (log .entry))) (now (out .entry))) × (now (cursors .exit) ≡ movedBy (logRun newest (now (counts .entry)) (words .len)
-        (now (ends .entry)) (now (log .entry))) (now (cursors .entry))) ⌝ }
-{
-    let len = words.len;
-    let mut i: usize = 0;
-    while i < log.len() {
-        let entry = log[i];
-        let node = (entry / PLACES) as usize;
-        let end = (entry % PLACES) as usize + 1;
-        put_entry(out, cursors, counts, &len, ends[node], end);
-        i += 1;
-    }
+    field::write(out, head, offset_lists::WIDTH, count as u64);
+    head + offset_lists::WIDTH
 }
 
 // ---- bodies: the records of one chunk, by rising keyword number
@@ -334,7 +180,7 @@ fn summary_of(
     chunk: &[u8],
     tails: &[u8],
     last: usize,
-    tally: Tally,
+    tally: logs::Tally,
     k: usize,
 ) -> Summary
     requires { ⌜ Tells (now list) words (now chunk) (now tails) last tally × (k < words .count) ⌝ }
@@ -362,7 +208,7 @@ pub fn body_size(
     chunk: &[u8],
     tails: &[u8],
     last: usize,
-    tally: Tally,
+    tally: logs::Tally,
 ) -> usize
     requires { ⌜ Tells (now list) words (now chunk) (now tails) last tally ⌝ }
     ensures { λ r. ⌜ r ≡ length (scanBody newest (now (list .entry)) (now (chunk .entry))) ⌝ }
@@ -372,7 +218,7 @@ pub fn body_size(
     let mut k: usize = 0;
     while k < count {
         let s = summary_of(list, words, chunk, tails, last, tally, k);
-        size += start_size(s) + WIDTH * listed_of(s.count);
+        size += start_size(s) + offset_lists::WIDTH * listed_of(s.count);
         k += 1;
     }
     size
@@ -392,7 +238,7 @@ pub fn put_starts(
     chunk: &[u8],
     tails: &[u8],
     last: usize,
-    tally: Tally,
+    tally: logs::Tally,
 ) -> Started
     requires { ⌜ Tells (now list) words (now chunk) (now tails) last tally × (length (scanBody newest (now list) (now chunk)) ≤ length (now out)) ⌝ }
     ensures { λ r. ⌜ (now (out .exit) ≡ patched (words .count) (placeOf (now (list .entry)) (now (chunk .entry))) (startOf (now (list .entry))
@@ -406,7 +252,7 @@ pub fn put_starts(
         let s = summary_of(list, words, chunk, tails, last, tally, k);
         let end = size + put_start(&mut out[size..], k, s);
         cursors[k] = end;
-        size = end + WIDTH * listed_of(s.count);
+        size = end + offset_lists::WIDTH * listed_of(s.count);
         k += 1;
     }
     Started {

@@ -1,29 +1,23 @@
--- The scan's answers, one for each way out, and the index from its four writes. Assumes nothing.
-use mathlib.Core.Path.{_≡_, refl, sym, ap, ap₂, _∙_}
+-- The scan's answers, one for each way out. Assumes nothing.
+use mathlib.Core.Path.{_≡_, sym, ap, ap₂, _∙_}
 use mathlib.Core.Logic.{_≢_}
-use mathlib.Core.Bool.{Bool, true, false, cond, _||_, or-true}
-use mathlib.Core.List.{List, _++_}
-use Prim.Native.Nat.{ℕ, _+_, _≤_, _<_}
+use mathlib.Core.Bool.{true, false, _||_, or-true}
+use mathlib.Core.List.{List}
+use Prim.Native.Nat.{ℕ, _≤_, _<_}
 use native.Mathlib.Omega.{arith}
-use lib.ListN.{length, length-append}
-use lib.Dec.{eqb, ltb}
+use lib.ListN.{length}
+use lib.Dec.{ltb}
 use borrow.Author.Tests.{lt-ltb, le-ltb}
 use Rattle.spec.specs.declared.Outcome.{Outcome}
 use Rattle.spec.specs.declared.Outcome.the-variants.{Done, Refused}
 use Rattle.spec.specs.declared.Scanned.{Scanned}
 use Rattle.spec.specs.declared.Scanned.the-variants as scanned
-use Rattle.spec.specs.Bytes.{largest32, leBytes, splice}
-use Rattle.spec.specs.Outcome.{answer}
-use Rattle.spec.specs.Store.{chunkCount}
+use Rattle.spec.specs.Bytes.{largest32, splice}
 use Rattle.spec.specs.Form.{newest}
 use Rattle.spec.specs.Scan.{scanIndex, scannableCode, scanCode, scanOutcome, withMoves, scanAnswer, scanBuffer, sizeOutcome}
 use Rattle.spec.proofs.Codes.{refused-whole, next-whole, refused, next-test, answer-done, answer-refused, buffer-done, buffer-refused}
-use Rattle.spec.proofs.Fields.{length-leBytes}
-use Rattle.spec.proofs.Splices.{splice-then}
-use Rattle.spec.proofs.Tests.{eqb-ne}
 use Rattle.spec.specs.Trie.{scanMoves}
-use Rattle.scan.specs.Layout.{tailBytes, Scans}
-use Rattle.scan.proofs.Parts.{index-parts}
+use Rattle.scan.specs.Answers.{Scans}
 
 module _ (list store : List ℕ) where
   -- the index's length
@@ -83,15 +77,3 @@ module _ (list store : List ℕ) where
                 ∙ ap (λ (o : Outcome). withMoves o (scanMoves list store)) (answer-done (scanCode newest list store (length before)) long c);
             bytes = w ∙ buffer-done (scanCode newest list store (length before)) (splice before 0 (scanIndex newest list store)) before c;
           }
-
-  -- mark, chunk count, keyword list, and the rest, each where the one before ends
-  pub index-put : (l l₁ l₂ l₃ l₄ : List ℕ) (count : ℕ) → count ≡ chunkCount store
-      → l₁ ≡ splice l 0 (newest .mark) → l₂ ≡ splice l₁ 4 (leBytes 4 count) → l₃ ≡ splice l₂ 8 list
-      → l₄ ≡ splice l₃ (8 + length list) (tailBytes newest list store) → l₄ ≡ splice l 0 (scanIndex newest list store)
-  index-put l l₁ l₂ l₃ l₄ count c p q r s =
-      let two = splice-then l 0 (newest .mark) (leBytes 4 count) (omega arith) p refl q in
-      let m : 8 ≡ 0 + length (newest .mark ++ leBytes 4 count) = omega (arith, length-append (newest .mark) (leBytes 4 count), length-leBytes 4 count) in
-      let three = splice-then l 0 (newest .mark ++ leBytes 4 count) list (omega arith) two m r in
-      let n : 8 + length list ≡ 0 + length (newest .mark ++ leBytes 4 count ++ list) = omega (arith, m, length-append (newest .mark ++ leBytes 4 count) list) in
-      splice-then l 0 (newest .mark ++ leBytes 4 count ++ list) (tailBytes newest list store) (omega arith) three n s
-      ∙ rw c (ap (splice l 0) (sym (index-parts newest list store)))

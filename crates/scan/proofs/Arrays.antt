@@ -16,8 +16,8 @@ use Rattle.keywords.specs.Parsed.{parsedOf}
 use Rattle.automaton.specs.Automaton.{setsOf, prefixesOf, tableOf}
 use Rattle.automaton_table.specs.Building.{CanMake}
 use Rattle.chunkwalk.proofs.Equipping.{equip}
-use Rattle.scan.specs.Layout.{Walks, CanMeasure, AllOdd}
-use Rattle.scan.proofs.Parts.{Passed}
+use Rattle.index_writer.specs.Layout.{Walks, CanMeasure, AllOdd}
+use Rattle.scan.proofs.Checks.{Passed}
 
 pub walks-read : {list : List ℕ} {words : Keywords} {store : List ℕ} {count : ℕ} → Passed list store → words ≡ parsedOf list → count ≡ chunkCount store
     → Walks list words store count

@@ -17,8 +17,10 @@ use Rattle.spec.proofs.StoreLaws.{store-good}
 use Rattle.spec.proofs.Tests.{le-of-and, and-right}
 use Rattle.keywords.specs.declared.Keywords.{Keywords}
 use Rattle.keywords.proofs.Reading.{parsed}
-use Rattle.scan.specs.Layout.{bodiesFrom, mostBytes, Walks}
-use Rattle.scan.proofs.Parts.{index-length, bodies-most, index-most}
+use Rattle.index_writer.specs.Layout.{bodiesFrom, Walks}
+use Rattle.scan.specs.Answers.{mostBytes}
+use Rattle.index_writer.proofs.Parts.{index-length, bodies-most}
+use Rattle.scan.proofs.Bound.{index-most}
 
 module _ {list : List ℕ} {words : Keywords} {store : List ℕ} {count : ℕ} (w : Walks list words store count) where
   pub count-few : count ≤ 65000

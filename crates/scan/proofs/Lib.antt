@@ -1,7 +1,5 @@
-pub mod Regions
-pub mod Parts
-pub mod Turns
+pub mod Checks
 pub mod Answers
-pub mod Moves
+pub mod Bound
 pub mod Fits
 pub mod Arrays

@@ -19,14 +19,14 @@ use Rattle.automaton.specs.Walking.{walkedOf, walkLog}
 use Rattle.automaton.specs.declared.Walked.{Walked}
 use Rattle.automaton.proofs.Parts.{walked-inside, walked-moves, logged-is, log-short, two-logs, two-nodes, two-moves}
 use Rattle.automaton_lanes.specs.Lanes.{CanWalkLanes}
-use Rattle.records.specs.Log.{AllFit}
-use Rattle.records.specs.Patches.{patched}
-use Rattle.records.specs.Runs.{logRun, cursor, movedBy, CanList}
-use Rattle.records.specs.Tallies.{tallyOf, tallyBoth, CanJoin}
-use Rattle.records.specs.declared.Tally.{Tally}
-use Rattle.records.proofs.Tallying.{tally-join, tally-joins}
-use Rattle.records.proofs.Filling.{lists-none}
-use Rattle.records.proofs.Joining.{lists-append, part-fills, part-filled, part-moved, none-filled, none-moved}
+use Rattle.logs.specs.Log.{AllFit}
+use Rattle.offset_lists.specs.Patches.{patched}
+use Rattle.offset_lists.specs.Runs.{logRun, cursor, movedBy, CanList}
+use Rattle.logs.specs.Tallies.{tallyOf, tallyBoth, CanJoin}
+use Rattle.logs.specs.declared.Tally.{Tally}
+use Rattle.logs.proofs.Tallying.{tally-join, tally-joins}
+use Rattle.offset_lists.proofs.Filling.{lists-none}
+use Rattle.offset_lists.proofs.Joining.{lists-append, part-fills, part-filled, part-moved, none-filled, none-moved}
 use Rattle.windows.specs.Windows.{windowEnd, countedOf, CanCount, CanWindow}
 use Rattle.windows.specs.declared.Counted.{Counted}
 

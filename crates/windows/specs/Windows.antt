@@ -6,8 +6,8 @@ use lib.ListN.{length}
 use Rattle.keywords.specs.declared.Keywords.{Keywords}
 use Rattle.automaton.specs.Walking.{Rows, walkedOf, walkLog}
 use Rattle.automaton_lanes.specs.Lanes.{CanWalkLanes}
-use Rattle.records.specs.Log.{AllFit}
-use Rattle.records.specs.Tallies.{tallyOf}
+use Rattle.logs.specs.Log.{AllFit}
+use Rattle.logs.specs.Tallies.{tallyOf}
 use Rattle.windows.specs.declared.Counted.{Counted}
 
 -- Where the window from `at` on ends: 65,536 bytes on, or where the chunk does.

@@ -7,8 +7,8 @@ ghost use lib.ListN.{length};
 ghost use Rattle.spec.specs.Bytes.{written};
 ghost use Rattle.spec.specs.Form.{newest};
 ghost use Rattle.automaton.specs.Walking.{walkLog};
-ghost use Rattle.records.specs.Patches.{patched};
-ghost use Rattle.records.specs.Runs.{logRun, cursor, CanList};
+ghost use Rattle.offset_lists.specs.Patches.{patched};
+ghost use Rattle.offset_lists.specs.Runs.{logRun, cursor, CanList};
 ghost use Rattle.windows.specs.Windows.{windowEnd, countedOf, CanCount, CanWindow};
 
 // What a walk counts: its last node, its moves, how many entries were logged, and their tally.
@@ -16,7 +16,7 @@ pub struct Counted {
     pub node: usize,
     pub moves: u64,
     pub logged: usize,
-    pub tally: records::Tally,
+    pub tally: logs::Tally,
 }
 
 // The most bytes of a window.
@@ -53,7 +53,7 @@ pub fn count_window(
 {
     let w = automaton_lanes::walk_lanes(list, table, node, bytes, at, log, run1, run2, run3);
     let len = words.len;
-    let tally = records::tally_of(&log[..w.logged], ends, &len);
+    let tally = logs::tally_of(&log[..w.logged], ends, &len);
     Counted {
         node: w.node,
         moves: w.moves,
@@ -115,7 +115,7 @@ pub fn count(
         moves += w.moves;
         logged += w.logged;
         let more = w.tally;
-        tally = records::tally_with(tally, more);
+        tally = logs::tally_with(tally, more);
         at = end;
     }
     Counted {
@@ -138,7 +138,7 @@ pub fn fill(
     run1: &mut [u32],
     run2: &mut [u32],
     run3: &mut [u32],
-    tally: records::Tally,
+    tally: logs::Tally,
     started: records::Started,
 )
     requires { ⌜ CanWindow (now list) words (now chunk) (now table) (now ends) (now log) (now run1) (now run2) (now run3)
@@ -165,7 +165,7 @@ pub fn fill(
             run2,
             run3,
         );
-        records::put_log(out, &mut cursors, words, &counts, ends, &log[..w.logged]);
+        offset_lists::put_log(out, &mut cursors, words, &counts, ends, &log[..w.logged]);
         node = w.node;
         at = end;
     }

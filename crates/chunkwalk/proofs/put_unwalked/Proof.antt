@@ -1,6 +1,6 @@
 -- `chunkwalk::put_unwalked` meets its contract: with no offsets there are no lists. Assumes nothing.
 use Rattle.records.proofs.Beginning.{started-size}
-use Rattle.records.proofs.Tallying.{zeros}
+use Rattle.logs.proofs.Tallying.{zeros}
 use Rattle.records.proofs.Whole.{body-without}
 use Rattle.chunkwalk.specs.Marks.{nothing}
 use Rattle.chunkwalk.proofs.put_unwalked.Statement.{statement}

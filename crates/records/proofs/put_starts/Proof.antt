@@ -9,7 +9,7 @@ use lib.ListN.{length}
 use Rattle.spec.specs.Bytes.{splice}
 use Rattle.spec.specs.Form.{newest}
 use Rattle.records.specs.Bodies.{startOf, listOf, placeOf}
-use Rattle.records.specs.Patches.{patched}
+use Rattle.offset_lists.specs.Patches.{patched}
 use Rattle.records.specs.Summaries.{summaryOf, startBytes}
 use Rattle.records.specs.declared.Summary.{Summary}
 use Rattle.records.proofs.BodyLaws.{start-is, lists-is, keywords-few, found-prefix, found-suffix}

@@ -1,6 +1,6 @@
 -- `scan::first_code` meets its contract: the first number that refuses (Parts). Assumes nothing.
 use native.Mathlib.Omega.{arith}
-use Rattle.scan.proofs.Parts.{first-refused, second-asked}
+use Rattle.scan.proofs.Checks.{first-refused, second-asked}
 use Rattle.scan.proofs.first_code.Statement.{statement}
 use Rattle.scan.proofs.first_code.Tie as tie
 

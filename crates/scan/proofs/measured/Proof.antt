@@ -1,12 +1,12 @@
 -- `scan::measured` meets its contract: a law for each way out (Answers). Assumes nothing.
-use mathlib.Core.Path.{_≡_, refl, sym, _∙_}
+use mathlib.Core.Path.{refl, sym, _∙_}
 use Prim.Native.Nat.{ℕ, _+_, _*_}
 use native.Mathlib.Omega.{arith}
 use lib.ListN.{length}
 use Rattle.chunkwalk.proofs.Walking.{equipped-on}
 use Rattle.scan.proofs.Answers.{scan-short, scan-large, scan-done}
 use Rattle.scan.proofs.Fits.{count-few, size-few, len-is}
-use Rattle.scan.proofs.Moves.{marked-usable}
+use Rattle.index_writer.proofs.Moves.{marked-usable}
 use Rattle.scan.proofs.measured.Statement.{statement}
 use Rattle.scan.proofs.measured.Tie as tie
 

@@ -1,11 +1,11 @@
 -- `scan::scan` meets its contract: the arrays are made and filled, and `scanned` answers. Assumes nothing.
-use mathlib.Core.Path.{_≡_, sym, _∙_}
+use mathlib.Core.Path.{sym, _∙_}
 use Rattle.spec.proofs.KeywordLaws.{keyword-front}
 use Rattle.spec.proofs.StoreLaws.{store-good}
-use Rattle.scan.specs.Layout.{Walks}
+use Rattle.index_writer.specs.Layout.{Walks}
 use Rattle.scan.proofs.Answers.{scan-refused}
 use Rattle.scan.proofs.Arrays.{walks-read, can-make, can-measure, made, made-kept, table-empty, odd-ones}
-use Rattle.scan.proofs.Parts.{Passed, passed-both}
+use Rattle.scan.proofs.Checks.{Passed, passed-both}
 use Rattle.scan.proofs.scan.Statement.{statement}
 use Rattle.scan.proofs.scan.Tie as tie
 

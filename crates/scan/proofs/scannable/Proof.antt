@@ -1,6 +1,6 @@
 -- `scan::scannable` meets its contract: of the numbers of both checks the first that refuses. Assumes nothing.
 use borrow.Author.Needs.{needs}
-use Rattle.scan.proofs.Parts.{both-asked}
+use Rattle.scan.proofs.Checks.{both-asked}
 use Rattle.scan.proofs.scannable.Statement.{statement}
 use Rattle.scan.proofs.scannable.Tie as tie
 

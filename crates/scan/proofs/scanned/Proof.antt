@@ -1,15 +1,15 @@
 -- `scan::scanned` meets its contract: by odd marks every chunk is walked once (Moves); else `measured` answers. Assumes nothing.
-use mathlib.Core.Path.{_≡_, refl, sym, _∙_}
+use mathlib.Core.Path.{refl, sym, _∙_}
 use native.Mathlib.Omega.{arith}
 use Prim.Native.Nat.{_≤_}
 use lib.ListN.{length}
 use Rattle.spec.specs.Form.{newest}
 use Rattle.spec.specs.Scan.{scanIndex}
 use Rattle.spec.specs.Store.{chunkCount}
-use Rattle.scan.specs.Layout.{bodiesFrom}
+use Rattle.index_writer.specs.Layout.{bodiesFrom}
 use Rattle.scan.proofs.Answers.{scan-done}
 use Rattle.scan.proofs.Fits.{count-few, index-fits, len-is}
-use Rattle.scan.proofs.Moves.{odd-moves, odd-usable}
+use Rattle.index_writer.proofs.Moves.{odd-moves, odd-usable}
 use Rattle.scan.proofs.scanned.Statement.{statement}
 use Rattle.scan.proofs.scanned.Tie as tie
 

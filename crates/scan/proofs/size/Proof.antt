@@ -1,15 +1,15 @@
 -- `scan::size` meets its contract: the arrays are made and filled, and the bodies measured. Assumes nothing.
-use mathlib.Core.Path.{_≡_, sym, _∙_}
+use mathlib.Core.Path.{sym, _∙_}
 use Prim.Native.Nat.{_+_, _*_, _<_}
 use native.Mathlib.Omega.{arith}
 use lib.ListN.{length}
 use Rattle.spec.proofs.KeywordLaws.{keyword-front}
 use Rattle.spec.proofs.StoreLaws.{store-good}
-use Rattle.scan.specs.Layout.{Walks}
+use Rattle.index_writer.specs.Layout.{Walks}
 use Rattle.scan.proofs.Answers.{size-refused, size-done}
 use Rattle.scan.proofs.Arrays.{walks-read, can-make, can-measure, made, made-kept, table-empty}
 use Rattle.scan.proofs.Fits.{front-fits, entries-fit, directory-fits, whole-fits, len-is}
-use Rattle.scan.proofs.Parts.{Passed, passed-both}
+use Rattle.scan.proofs.Checks.{Passed, passed-both}
 use Rattle.scan.proofs.size.Statement.{statement}
 use Rattle.scan.proofs.size.Tie as tie
 

@@ -5,9 +5,9 @@ use native.Mathlib.Omega.{arith}
 use lib.ListN.{length, take, drop}
 use Rattle.spec.specs.Form.{newest}
 use Rattle.automaton.specs.Walking.{walkedOf, walkLog}
-use Rattle.records.specs.Patches.{patched}
-use Rattle.records.specs.Runs.{logRun, cursor, movedBy}
-use Rattle.records.proofs.Joining.{moved-length}
+use Rattle.offset_lists.specs.Patches.{patched}
+use Rattle.offset_lists.specs.Runs.{logRun, cursor, movedBy}
+use Rattle.offset_lists.proofs.Joining.{moved-length}
 use Rattle.windows.specs.Windows.{CanWindow}
 use Rattle.windows.proofs.Windowing.{end-inside, end-short, end-on, can-on, root-first, window-walks, node-next, logged-part, logged-length}
 use Rattle.windows.proofs.Windowing.{logged-room, fill-can, fill-out, fill-cursors, fill-start, fill-start-cursors, fill-end}

@@ -1,0 +1,4 @@
+pub mod Regions
+pub mod Parts
+pub mod Turns
+pub mod Moves

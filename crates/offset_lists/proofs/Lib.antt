@@ -1,0 +1,3 @@
+pub mod Patching
+pub mod Filling
+pub mod Joining
