@@ -18,6 +18,7 @@
  * A call keeps nothing behind and touches only what it is lent, so calls may run at once from several threads, each with buffers of its own.
  * Stack that a call needs, about:
  *   600 KB   a check of a store or an index, a lookup
+ *   650 KB   a compaction, a compaction's size
  *   1.2 MB   a count, a join
  *   1.3 MB   a scan, a scan's size
  *            a search: the larger of a scan's and a join's
@@ -90,6 +91,22 @@ uint64_t vault_chunk_length(const uint8_t *store, size_t store_length, const uin
 uint8_t vault_find_body(const uint8_t *index, size_t index_length, const uint8_t *key, size_t key_length);
 uint64_t vault_body_start(const uint8_t *index, size_t index_length, const uint8_t *key, size_t key_length);
 uint64_t vault_body_length(const uint8_t *index, size_t index_length, const uint8_t *key, size_t key_length);
+
+/* ---- compaction: a store without holes that has exactly the chunks that some recipe names, in their old order */
+
+/* The length of the store that a compaction would write: 0 with the length, or 5 to 8, 20, 14, 15. */
+uint8_t vault_compact_size(const uint8_t *store, size_t store_length, const uint8_t *recipes, size_t recipes_length, uint64_t *length);
+
+/* Writes that store to the start of the buffer: 0 with its length, or 5 to 8, 20, 14, then 15 (a fingerprint that a recipe names is not in the store),
+ * then 9 (the new store is longer than the buffer), and the length stays. Bytes behind the new store are unchanged. Neither 16 nor 17 is tested: recipes that
+ * a join would refuse so are compacted for. A buffer as long as the store itself is always enough.
+ *
+ * The new store is accepted, and compacting it for the same recipes gives it again. A search of these recipes for the same keyword list, with both index
+ * files written in full and list buffers of equal length, gives the list or the refusal that it gave with the old store. No other accepted store in which
+ * each fingerprint that these recipes name has the same bytes is shorter. Chunks that these recipes do not name are gone: whoever has other recipes of this
+ * store must give all of them, as one recipes file. */
+uint8_t vault_compact(const uint8_t *store, size_t store_length, const uint8_t *recipes, size_t recipes_length,
+                      uint8_t *out, size_t out_length, uint64_t *length);
 
 /* ---- the search whole: a scan into the index buffer, whose moves are not told, then a join of that index into the list buffer */
 

@@ -6,54 +6,54 @@ use tests_report::report;
 use tests_report::report::report_cases;
 use tests_report::report::report_kinds;
 use tests_report::tally::expect;
-use tests_vaults::faults;
+use tests_vaults::encode::NEW;
+use tests_vaults::encode::OLD;
 use tests_vaults::lanes;
 use tests_vaults::small;
 use tests_wide::marks;
 
-const SCANNED: usize = 2400;
+// What is run: generated vaults, made-up records, long chunks, vaults whose moves are told, torn stores.
+const SCANNED: usize = 0;
 
-const INVENTED: usize = 1200;
+const INVENTED: usize = 1;
+
+const LONG: usize = 2;
+
+const TOLD: usize = 3;
+
+const TORN: usize = 4;
 
 const PAIRS: usize = 4225;
 
-// Vault number i, scanned, joined and searched.
-fn run_scanned(counts: &mut [u64], f: &mut [u8], buffer: &mut [u8]) {
-    let n = SCANNED;
+// Case number i.
+fn run_one(counts: &mut [u64], kind: usize, i: usize, f: &mut [u8], buffer: &mut [u8]) {
+    if kind == SCANNED {
+        return cases::scanned(counts, i, f, buffer);
+    }
+    if kind == INVENTED {
+        return cases::invented(counts, i, f, buffer);
+    }
+    if kind == LONG {
+        return cases::long(counts, i, f, buffer);
+    }
+    if kind == TOLD {
+        return cases::with_told(counts, i, f, buffer);
+    }
+    cases::torn(counts, i, f, buffer)
+}
+
+// The first n cases.
+fn run_all(counts: &mut [u64], kind: usize, n: usize, f: &mut [u8], buffer: &mut [u8]) {
     for i in 0..n {
-        cases::scanned(counts, i, f, buffer);
+        run_one(counts, kind, i, f, buffer);
     }
 }
 
-// Indexes of made-up records, joined.
-fn run_invented(counts: &mut [u64], f: &mut [u8], buffer: &mut [u8]) {
-    let n = INVENTED;
-    for i in 0..n {
-        cases::invented(counts, i, f, buffer);
-    }
-}
-
-// Stores of vaults, torn.
-fn run_torn(counts: &mut [u64], f: &mut [u8], buffer: &mut [u8]) {
-    let n = SCANNED;
-    for i in 0..n {
-        cases::torn(counts, i, f, buffer);
-    }
-}
-
-// Every two faults, and every fault alone: pair number t is of faults t / 65 and t % 65.
-fn run_faults(counts: &mut [u64], m: &[u8], f: &mut [u8], buffer: &mut [u8]) {
+// Every two faults, and every fault alone, with the index under a mark.
+fn run_faults(counts: &mut [u64], form: usize, m: &[u8], f: &mut [u8], buffer: &mut [u8]) {
     let n = PAIRS;
     for t in 0..n {
-        damaged::pair(counts, t / faults::ALL, t % faults::ALL, m, f, buffer);
-    }
-}
-
-// The same with the index under the old mark.
-fn run_old(counts: &mut [u64], m: &[u8], f: &mut [u8], buffer: &mut [u8]) {
-    let n = PAIRS;
-    for t in 0..n {
-        damaged::old_pair(counts, t / faults::ALL, t % faults::ALL, m, f, buffer);
+        damaged::pair(counts, form, t, m, f, buffer);
     }
 }
 
@@ -65,27 +65,11 @@ fn run_bordered(counts: &mut [u64], m: &mut [u8], f: &mut [u8], buffer: &mut [u8
     }
 }
 
-// Vaults with long chunks.
-fn run_long(counts: &mut [u64], f: &mut [u8], buffer: &mut [u8]) {
-    let n = lanes::ALL;
-    for i in 0..n {
-        cases::long(counts, i, f, buffer);
-    }
-}
-
-// Vaults whose moves are told.
-fn run_told(counts: &mut [u64], f: &mut [u8], buffer: &mut [u8]) {
-    let n = small::TOLD;
-    for i in 0..n {
-        cases::with_told(counts, i, f, buffer);
-    }
-}
-
 fn generated(counts: &mut [u64], f: &mut [u8], buffer: &mut [u8]) {
-    run_scanned(counts, f, buffer);
+    run_all(counts, SCANNED, 2400, f, buffer);
     report_cases(b"vaults scanned, joined and searched", counts);
     report_kinds(counts);
-    run_invented(counts, f, buffer);
+    run_all(counts, INVENTED, 1200, f, buffer);
     report_cases(
         b"indexes of made-up records joined, under both marks",
         counts,
@@ -94,15 +78,15 @@ fn generated(counts: &mut [u64], f: &mut [u8], buffer: &mut [u8]) {
 }
 
 fn walked(counts: &mut [u64], f: &mut [u8], buffer: &mut [u8]) {
-    run_long(counts, f, buffer);
+    run_all(counts, LONG, lanes::ALL, f, buffer);
     report_cases(b"vaults of long chunks", counts);
     report::lanes(counts);
-    run_told(counts, f, buffer);
+    run_all(counts, TOLD, small::TOLD, f, buffer);
     report_cases(b"vaults whose moves are told", counts);
 }
 
 fn torn(counts: &mut [u64], f: &mut [u8], buffer: &mut [u8]) {
-    run_torn(counts, f, buffer);
+    run_all(counts, TORN, 2400, f, buffer);
     report_cases(b"torn stores checked and scanned", counts);
     report::torn(counts);
 }
@@ -117,9 +101,9 @@ fn small(counts: &mut [u64], m: &mut [u8], f: &mut [u8], buffer: &mut [u8]) {
 
 // The small vault with faults, its index under both marks; m is the small vault.
 fn damaged_all(counts: &mut [u64], m: &[u8], f: &mut [u8], buffer: &mut [u8]) {
-    run_faults(counts, m, f, buffer);
+    run_faults(counts, NEW, m, f, buffer);
     report_cases(b"pairs of faults in it", counts);
-    run_old(counts, m, f, buffer);
+    run_faults(counts, OLD, m, f, buffer);
     report_cases(
         b"pairs of faults in it, its index under the old mark",
         counts,

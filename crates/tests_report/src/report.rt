@@ -75,7 +75,7 @@ const KIND_NAMES: [u8; 1200] = *b"\
     - with keywords alike by an accent      \
     - with an occurrence by an accent       ";
 
-const OPERATION_NAMES: [u8; 400] = *b"\
+const OPERATION_NAMES: [u8; 480] = *b"\
     keyword checks                          \
     store checks                            \
     scan sizes                              \
@@ -85,7 +85,9 @@ const OPERATION_NAMES: [u8; 400] = *b"\
     joins                                   \
     chunk lookups                           \
     body lookups                            \
-    searches                                ";
+    searches                                \
+    compaction sizes                        \
+    compactions                             ";
 
 const BUFFER_NAMES: [u8; 320] = *b"\
     exact buffers, scan                     \
@@ -280,10 +282,50 @@ pub fn output_buffers(counts: &[u64]) {
     lines(&OUTPUT_BUFFER_NAMES, counts, tally::OUTPUT_BUFFERS, 3);
 }
 
+const COMPACTION_NAMES: [u8; 240] = *b"\
+    - that drop a chunk                     \
+    - that give back a hole                 \
+    - that change nothing                   \
+    - that name a chunk twice               \
+    - that name nothing                     \
+    - that a join refuses with 16 or 17     ";
+
+const COMPACTED_NAMES: [u8; 320] = *b"\
+    cases of compaction accepted            \
+    cases of compaction refused with 5      \
+    cases of compaction refused with 6      \
+    cases of compaction refused with 7      \
+    cases of compaction refused with 8      \
+    cases of compaction refused with 20     \
+    cases of compaction refused with 14     \
+    cases of compaction refused with 15     ";
+
+const COMPACTION_BUFFER_NAMES: [u8; 160] = *b"\
+    compactions into longer buffers         \
+    compactions into exact buffers          \
+    compactions into buffers a byte short   \
+    compactions refused whatever the buffer ";
+
+// The compactions since the last such report, and the searches of both stores.
+pub fn compactions(counts: &mut [u64]) {
+    report_lines(&COMPACTION_NAMES, counts, tally::COMPACTION_KINDS, 6);
+    report_lines(&PAIR_NAMES, counts, tally::PAIRS, 5);
+}
+
+pub fn compacted(counts: &[u64]) {
+    lines(&COMPACTED_NAMES, counts, tally::COMPACTED, 8);
+    lines(
+        &COMPACTION_BUFFER_NAMES,
+        counts,
+        tally::COMPACTION_BUFFERS,
+        4,
+    );
+}
+
 pub fn totals(counts: &[u64]) {
     lines(&MOVE_NAMES, counts, tally::MOVES, 11);
     lines(&BUFFER_NAMES, counts, tally::BUFFERS, 8);
-    lines(&OPERATION_NAMES, counts, tally::OPERATIONS, 10);
+    lines(&OPERATION_NAMES, counts, tally::OPERATIONS, 12);
     lines(&NUMBER_NAMES, counts, 0, 21);
     line(b"not as expected", count_at(counts, tally::DIFFERENCES));
 }

@@ -15,9 +15,9 @@ pub fn store_place(code: u8) -> usize {
 // those of chunks longer than a window 96 behind, those by holes 112 behind), kinds of buffers.
 pub(crate) const OPERATIONS: usize = 32;
 
-pub(crate) const DIFFERENCES: usize = 42;
+pub(crate) const DIFFERENCES: usize = 44;
 
-pub const CASES: usize = 43;
+pub const CASES: usize = 45;
 
 pub(crate) const KINDS: usize = 48;
 
@@ -49,8 +49,16 @@ pub const PAIRS: usize = 172;
 
 pub const ANSWERS: usize = 176;
 
+// Compactions: cases by the number that the buffer has no part in (0, 5, 6, 7, 8, 20, 14, 15); calls into a longer buffer, an exact one, one a
+// byte short; cases by what becomes of the store and by what the recipes name.
+pub const COMPACTED: usize = 180;
+
+pub const COMPACTION_BUFFERS: usize = 188;
+
+pub const COMPACTION_KINDS: usize = 192;
+
 // Room for the counters.
-pub const ALL: usize = 180;
+pub const ALL: usize = 200;
 
 // The operations.
 pub const KEYWORD_CHECK: usize = 0;
@@ -72,6 +80,10 @@ pub const CHUNK_LOOKUP: usize = 7;
 pub const BODY_LOOKUP: usize = 8;
 
 pub const SEARCH: usize = 9;
+
+pub const COMPACTION_SIZE: usize = 10;
+
+pub const COMPACTION: usize = 11;
 
 pub fn bump(counts: &mut [u64], i: usize) {
     if i < counts.len() {
@@ -99,7 +111,7 @@ fn answer(got: u8, expected: u8, rest: bool) -> usize {
 // A call of an operation: `got` is the number that it answered, `expected` the one that is due, and `rest` says whether its value and its
 // bytes are the ones due.
 pub fn compared(counts: &mut [u64], operation: usize, got: u8, expected: u8, rest: bool) {
-    bump(counts, OPERATIONS + operation % 10);
+    bump(counts, OPERATIONS + operation % 12);
     bump(counts, answer(got, expected, rest));
 }
 

@@ -1,6 +1,6 @@
 // The library's operations run on a case and compared with what was due.
 // Test support: proved safe and ending.
+pub mod answers;
 pub mod longest;
 pub mod lookups;
-pub mod pairs;
 pub mod runs;

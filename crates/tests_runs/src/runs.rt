@@ -34,28 +34,28 @@ pub fn code_of(o: Outcome) -> u8 {
     }
 }
 
-pub(crate) fn value_of(o: Outcome) -> usize {
+pub fn value_of(o: Outcome) -> usize {
     match o {
         Outcome::Done(n) => n,
         Outcome::Refused(_) => 0,
     }
 }
 
-pub(crate) fn scanned_code(s: Scanned) -> u8 {
+pub fn scanned_code(s: Scanned) -> u8 {
     match s {
         Scanned::Done(_, _) => 0,
         Scanned::Refused(code) => code,
     }
 }
 
-pub(crate) fn scanned_length(s: Scanned) -> usize {
+pub fn scanned_length(s: Scanned) -> usize {
     match s {
         Scanned::Done(n, _) => n,
         Scanned::Refused(_) => 0,
     }
 }
 
-pub(crate) fn scanned_moves(s: Scanned) -> u64 {
+pub fn scanned_moves(s: Scanned) -> u64 {
     match s {
         Scanned::Done(_, moves) => moves,
         Scanned::Refused(_) => 0,
@@ -122,7 +122,7 @@ fn join_into(counts: &mut [u64], f: &[u8], buffer: &mut [u8]) {
 
 // ---- the search whole
 
-pub(crate) fn searched_code(s: Searched) -> u8 {
+pub fn searched_code(s: Searched) -> u8 {
     match s {
         Searched::ScanRefused(code) => code,
         Searched::JoinRefused(_, code) => code,
@@ -130,7 +130,7 @@ pub(crate) fn searched_code(s: Searched) -> u8 {
     }
 }
 
-pub(crate) fn searched_index(s: Searched) -> usize {
+pub fn searched_index(s: Searched) -> usize {
     match s {
         Searched::ScanRefused(_) => 0,
         Searched::JoinRefused(n, _) => n,
@@ -138,7 +138,7 @@ pub(crate) fn searched_index(s: Searched) -> usize {
     }
 }
 
-pub(crate) fn searched_count(s: Searched) -> usize {
+pub fn searched_count(s: Searched) -> usize {
     match s {
         Searched::ScanRefused(_) => 0,
         Searched::JoinRefused(_, _) => 0,

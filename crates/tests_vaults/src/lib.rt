@@ -8,4 +8,5 @@ pub mod holes;
 pub mod lanes;
 pub mod long;
 pub mod make;
+pub mod orders;
 pub mod small;

@@ -9,10 +9,10 @@ use native.Mathlib.Nat.{zero-add, mul-suc}
 use native.Mathlib.Omega.{arith}
 use borrow.Author.Tests.{le-leb, eq-eqb, ne-eqb}
 use lib.Dec.{eqb}
-use lib.ListN.{length, getD, length-append, length-map}
+use lib.ListN.{length, take, getD, length-append, length-map}
 use Rattle.spec.specs.declared.Searched.the-variants.{JoinRefused, Found}
 use Rattle.spec.specs.Bytes.{largest32, written, same, contains, twice, positionOf, every, sum, joined}
-use Rattle.spec.specs.Outcome.{firstOf, whole}
+use Rattle.spec.specs.Outcome.{firstOf, whole, codeOf, valueOf}
 use Rattle.spec.specs.Directory.{sizeAt}
 use Rattle.spec.specs.Store.{Chunk, storeLayout, mostChunks, placedBytes, gapless, storeBytes, chunkCount, storeKeys, chunkAt, storedChunk, storedChunks}
 use Rattle.spec.specs.Store.{storeCode}
@@ -21,19 +21,20 @@ use Rattle.spec.specs.Recipes.{filesOf}
 use Rattle.spec.specs.Join.{Occurrence, listBytes}
 use Rattle.spec.specs.Scan.{scanCode, scannedCode}
 use Rattle.spec.specs.Search.{chunkNamed, searchJoinCode, searchCode, searchOutcome, searchBuffer, searchedCode, searchedCount, directSearch}
-use Rattle.spec.specs.Compact.{namedIn, namedAmong, compacted}
+use Rattle.spec.specs.Compact.{namedIn, namedAmong, compacted, compactableCode, compactCode, compactOutcome, compactBuffer, compactSize}
 use Rattle.spec.proofs.Tests.{bool-cases, and-left, and-right, false-of}
-use Rattle.spec.proofs.Codes.{passed-whole, or-left, or-right}
+use Rattle.spec.proofs.Codes.{passed-whole, or-left, or-right, buffer-done}
 use Rattle.spec.proofs.Same.{same-eq, same-refl}
 use Rattle.spec.proofs.StoreLaws.{StoreGood, sizesFrom, store-good, length-storeKeys, store-key-length, store-size-some, store-size-most, chunk-length}
 use Rattle.spec.proofs.Tabulated.{tabulated, length-tabulated, tabulated-at, tabulated-getD, tabulated-same, map-tabulated}
 use Rattle.theory.specs.WrittenInputs.{chunkFits, chunksIn, chunksFit, bytesUnder}
-use Rattle.theory.specs.Compaction.{SameNamed, Compaction}
+use Rattle.theory.specs.Compaction.{SameNamed, Compaction, CompactionCases}
+use Rattle.theory.proofs.Cases.{definitions}
 use Rattle.theory.proofs.AnyOrder.{weigh, weigh-le, weigh-same}
 use Rattle.theory.proofs.ScanThenJoin.{buffer-same}
 use Rattle.theory.proofs.Agreeing.{knows, placeOf, place-in, Agree, same-join-code, same-list, agreed-joins}
 use Rattle.theory.proofs.SameChunks.{by-fingerprint, join-is, buffer-is}
-use Rattle.theory.proofs.Demand3.{scan-number}
+use Rattle.theory.proofs.Demand3.{code-of-answer, value-of-answer, written-front, scan-number}
 use Rattle.theory.proofs.WrittenStores.{laidBytes, length-written, store-read, store-accepted}
 use Rattle.theory.proofs.WrittenInputs.{bytes-under}
 
@@ -380,6 +381,17 @@ module _ (store recipes : List ℕ) (e : storeCode store ≡ 0) where
       (λ key c. s key (new-key key c .1) .0) in
       omega (arith, compacted-long, alike, fewer, total-weighs other there, store-holds other there .0)
 
+-- ---- a call
+
+compact-wrote : (store recipes out : List ℕ) → codeOf (compactOutcome store recipes (length out)) ≡ 0
+    → take (valueOf (compactOutcome store recipes (length out))) (compactBuffer store recipes out) ≡ compacted store recipes
+unfolding compactOutcome compactBuffer
+compact-wrote store recipes out d =
+    let new = compacted store recipes in
+    let z : compactCode store recipes (length out) ≡ 0 = sym (code-of-answer _ (length new)) ∙ d in
+    rw (value-of-answer (compactCode store recipes (length out)) (length new) z)
+    (ap (take (length new)) (sym (buffer-done (compactCode store recipes (length out)) (written out new) out z)) ∙ written-front out new)
+
 -- ---- the claim
 
 -- REQUEST #107: the compacted form of an accepted store.
@@ -409,4 +421,23 @@ compaction store recipes e =
             bytes-same store recipes e list indexRoom indexRoom₂ s t out,
           );
       shortest = compacted-shortest store recipes e;
+      within = omega (arith, length-new store recipes e, kept-total (namedIn recipes) (storedChunks store), store-holds store (store-good store e) .0);
+      wrote = compact-wrote store recipes;
+    }
+
+-- ---- cases
+
+pub compaction-cases : CompactionCases
+unfolding definitions storedChunks namedIn compacted compactableCode compactCode compactOutcome compactBuffer compactSize searchCode searchJoinCode
+compaction-cases =
+    record {
+      small = refl;
+      named = refl;
+      room = (refl, refl);
+      behind = refl;
+      stays = refl;
+      size = refl;
+      unnamed = (refl, refl);
+      refusals = (refl, refl, refl, refl, refl);
+      inner = (refl, refl);
     }

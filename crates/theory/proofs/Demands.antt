@@ -25,6 +25,7 @@ use Rattle.spec.specs.Lookup.{lookupCode, lookupStart, lookupLength, findChunk,
 use Rattle.spec.specs.Trie.{scanMoves}
 use Rattle.spec.specs.Scan.{scanIndex, scanCode, scanOutcome, withMoves, scanAnswer, scanBuffer, scannedCode, scannedLength}
 use Rattle.spec.specs.Search.{restored, directSearch, searchJoinCode, searchCode, searchOutcome, searchBuffer, searchedCode}
+use Rattle.spec.specs.Compact.{compacted, compactCode, compactOutcome, compactBuffer}
 use Rattle.spec.proofs.Codes.{answer-done, answer-refused, buffer-done, buffer-refused}
 use Rattle.spec.proofs.Tests.{and-left, and-right}
 use Rattle.spec.proofs.Folding.{folded-length}
@@ -85,7 +86,7 @@ lookup-answered code layout bytes keys key =
     record { empty = λ d. (rw (ne-eqb (lookupCode code keys key) 0 d), rw (ne-eqb (lookupCode code keys key) 0 d)) }
 
 pub demand-1 : Demand1
-unfolding scanBuffer joinOutcome joinBuffer searchBuffer findChunk chunkStart chunkLength chunkOf findBody bodyStart bodyLength bodyOf
+unfolding scanBuffer joinOutcome joinBuffer searchBuffer compactOutcome compactBuffer findChunk chunkStart chunkLength chunkOf findBody bodyStart bodyLength bodyOf
 demand-1 =
     record {
       scan = scan-answered;
@@ -99,6 +100,8 @@ demand-1 =
             (written out (listBytes (directSearch list store recipes))) out d);
         indexKept = λ d. sym (buffer-refused (scanCode newest list store (length index)) (written index (scanIndex newest list store)) index d);
       };
+      compact = λ store recipes buffer.
+          answered (compactCode store recipes (length buffer)) (length (compacted store recipes)) (written buffer (compacted store recipes)) buffer;
       chunk = λ store key. lookup-answered (storeCode store) storeLayout store (storeKeys store) key;
       body = λ index key. lookup-answered (indexCode (formOf index) index) (indexLayout index) index (indexKeys index) key;
       numbers = numbers;

@@ -16,7 +16,8 @@ use Rattle.spec.specs.declared.Scanned.{Scanned}
 use Rattle.spec.specs.Bytes.{part, leValue, contains, positionOf, each, every, written}
 use Rattle.spec.specs.Outcome.{codeOf, answer}
 use Rattle.spec.specs.Directory.{directoryEnd, entryField, offsetAt}
-use Rattle.spec.specs.Store.{storeLayout, chunkCount, storeKeys, chunkAt, chunkEnd, storeCode, storedChunks}
+use Rattle.spec.specs.Store.{storeLayout, Chunk, chunkCount, storeKeys, storeBytes, chunkAt, chunkEnd, storeCode, storedChunk, storedChunks}
+use Rattle.spec.specs.Compact.{namedIn, namedAmong, compacted, compactableCode, compactCode, compactOutcome, compactBuffer, compactSize}
 use Rattle.spec.specs.Form.{newest, formOf}
 use Rattle.spec.specs.Index.{Entry, indexBytes}
 use Rattle.spec.specs.Join.{joinList, listBytes, joinCode, joinOutcome, joinBuffer, readList}
@@ -184,6 +185,40 @@ module _ (here there : List ℕ) (d : DifferInHoles here there) where
         picked zero h = h refl
         picked (suc n) h = rw (ne-eqb (suc n) 0 (λ z. let y : ⊥ = omega arith in absurd y))
 
+  -- ---- compaction
+
+  stored-same : storedChunks here ≡ storedChunks there
+  unfolding storedChunks
+  stored-same =
+      each-match (λ k. storedChunk here k ∷ []) (λ k. storedChunk there k ∷ []) 0 0 c
+      (λ k l i. record { key = getD (keys-same i) (0 + k) []; bytes = chunk-same (0 + k) (omega arith) i } ∷ [])
+      ∙ ap (λ (n : ℕ). each (λ k. storedChunk there k ∷ []) 0 n) count-same
+
+  module _ (recipes : List ℕ) where
+    compacted-same : compacted here recipes ≡ compacted there recipes
+    unfolding compacted
+    compacted-same = ap (λ (chunks : List Chunk). storeBytes (namedAmong (namedIn recipes) chunks)) stored-same
+
+    compactable-same : compactableCode here recipes ≡ compactableCode there recipes
+    unfolding compactableCode
+    compactable-same = rw (d .accepted, d .acceptedThere, keys-same)
+
+    compact-code-same : (room : ℕ) → compactCode here recipes room ≡ compactCode there recipes room
+    unfolding compactCode
+    compact-code-same room = rw (compactable-same, compacted-same)
+
+    compact-same : (room : ℕ) → compactOutcome here recipes room ≡ compactOutcome there recipes room
+    unfolding compactOutcome
+    compact-same room = rw (compact-code-same room, compacted-same)
+
+    compact-buffer-same : (buffer : List ℕ) → compactBuffer here recipes buffer ≡ compactBuffer there recipes buffer
+    unfolding compactBuffer
+    compact-buffer-same buffer = rw (compact-code-same (length buffer), compacted-same)
+
+    compact-size-same : compactSize here recipes ≡ compactSize there recipes
+    unfolding compactSize
+    compact-size-same = rw (compactable-same, compacted-same)
+
   -- ---- a field of the entry that a lookup finds
 
   found-same : (field : ℕ) → field + 4 ≤ 28 → (key : List ℕ)
@@ -240,6 +275,9 @@ same-beside-holes list here there d =
       buffer = buffer-same here there d list;
       index = scanned-same list here there d;
       search = λ indexRoom. alike-chunks list here there a .search indexRoom indexRoom (ap scannedCode (scan-same here there d list indexRoom));
+      compact = compact-same here there d;
+      compactedBuffer = compact-buffer-same here there d;
+      compactedSize = compact-size-same here there d;
       text = text-same here there d list;
     }
 

@@ -19,6 +19,7 @@ use Rattle.spec.specs.Join.{joinList, innerLeast, joinableCode, joinCode}
 use Rattle.spec.specs.Lookup.{lookupCode, findChunk, findBody}
 use Rattle.spec.specs.Scan.{scanIndex, scannableCode, scanCode}
 use Rattle.spec.specs.Search.{directSearch, searchJoinCode, searchCode}
+use Rattle.spec.specs.Compact.{namedIn, compacted, compactableCode, compactCode}
 use Rattle.spec.proofs.Tests.{bool-cases, and-left, and-right}
 use Rattle.theory.specs.Demands.{Numbers}
 
@@ -129,12 +130,15 @@ index-number f index =
 abbrev ofFiles : List ℕ
 ofFiles = 0 ∷ 14 ∷ 15 ∷ 16 ∷ 17 ∷ 18 ∷ []
 
-recipes-number : (recipes : List ℕ) → member (recipesCode recipes) ofFiles ≡ true
+abbrev ofRecipes : List ℕ
+ofRecipes = 0 ∷ 14 ∷ []
+
+recipes-number : (recipes : List ℕ) → member (recipesCode recipes) ofRecipes ≡ true
 unfolding recipesCode
 recipes-number recipes =
-    test-in ofFiles (ltb (length recipes) 4) 14 _ refl
-    (test-in ofFiles (ltb mostFiles (fileCount recipes)) 14 _ refl
-    (test-in ofFiles (not (filesWhole (fileCount recipes) (drop 4 recipes))) 14 0 refl refl))
+    test-in ofRecipes (ltb (length recipes) 4) 14 _ refl
+    (test-in ofRecipes (ltb mostFiles (fileCount recipes)) 14 _ refl
+    (test-in ofRecipes (not (filesWhole (fileCount recipes) (drop 4 recipes))) 14 0 refl refl))
 
 module _ (keys : List (List ℕ)) (sizeOf : ℕ → ℕ) (least : ℕ) where
   file-number : (file : List (List ℕ)) → member (fileCode keys sizeOf least file) ofFiles ≡ true
@@ -172,7 +176,7 @@ join-number f index recipes room =
     let files = filesCode (indexKeys index) (sizeAt (indexLayout index) index) (innerLeast f (listIn index)) (filesOf recipes) in
     whole-in ofJoin (joinableCode f index recipes) _
     (whole-in ofJoin (indexCode f index) _ (wider (indexCode f index) ofIndex ofJoin refl (index-number f index))
-    (whole-in ofJoin (recipesCode recipes) _ (wider (recipesCode recipes) ofFiles ofJoin refl (recipes-number recipes))
+    (whole-in ofJoin (recipesCode recipes) _ (wider (recipesCode recipes) ofRecipes ofJoin refl (recipes-number recipes))
     (whole-in ofJoin files 0
     (wider files ofFiles ofJoin refl
     (files-number (indexKeys index) (sizeAt (indexLayout index) index) (innerLeast f (listIn index)) (filesOf recipes))) refl)))
@@ -188,10 +192,22 @@ search-number f list store recipes indexRoom room =
     whole-in ofSearch (scanCode f list store indexRoom) _
     (wider (scanCode f list store indexRoom) ofScan ofSearch refl (scan-number f list store indexRoom))
     (whole-in ofSearch (searchJoinCode f list store recipes room) 0
-    (whole-in ofSearch (recipesCode recipes) _ (wider (recipesCode recipes) ofFiles ofSearch refl (recipes-number recipes))
+    (whole-in ofSearch (recipesCode recipes) _ (wider (recipesCode recipes) ofRecipes ofSearch refl (recipes-number recipes))
     (whole-in ofSearch files _
     (wider files ofFiles ofSearch refl (files-number (storeKeys store) (sizeAt storeLayout store) (innerLeast f list) (filesOf recipes)))
     (test-in ofSearch (ltb room (9 * length (directSearch list store recipes))) 18 0 refl refl))) refl)
+
+abbrev ofCompact : List ℕ
+ofCompact = 0 ∷ 5 ∷ 6 ∷ 7 ∷ 8 ∷ 9 ∷ 14 ∷ 15 ∷ 20 ∷ []
+
+compact-number : (store recipes : List ℕ) (room : ℕ) → member (compactCode store recipes room) ofCompact ≡ true
+unfolding compactCode compactableCode
+compact-number store recipes room =
+    whole-in ofCompact (compactableCode store recipes) _
+    (whole-in ofCompact (storeCode store) _ (wider (storeCode store) ofStore ofCompact refl (store-number store))
+    (whole-in ofCompact (recipesCode recipes) _ (wider (recipesCode recipes) ofRecipes ofCompact refl (recipes-number recipes))
+    (test-in ofCompact (not (every (λ key. contains key (storeKeys store)) (namedIn recipes))) 15 0 refl refl)))
+    (test-in ofCompact (ltb room (length (compacted store recipes))) 9 0 refl refl)
 
 -- ---- the lookups
 
@@ -225,6 +241,7 @@ numbers = record {
   index = λ index. index-number (formOf index) index;
   join = λ index. join-number (formOf index) index;
   search = search-number newest;
+  compact = compact-number;
   chunk = chunk-number;
   body = λ index. body-number (formOf index) index;
 }

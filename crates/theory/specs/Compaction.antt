@@ -1,27 +1,31 @@
 -- Request #107: what holds of the store that a compaction writes. It is accepted and compacting it again gives itself; a search of those recipes goes as
--- before; and no accepted store in which the named fingerprints have the same bytes is shorter.
+-- before; and no accepted store in which the named fingerprints have the same bytes is shorter. Then cases by computation.
 use mathlib.Core.Path.{_≡_}
 use mathlib.Core.Bool.{true}
-use mathlib.Core.List.{List}
+use mathlib.Core.List.{List, [], _∷_, _++_}
 use Prim.Native.Nat.{ℕ, _≤_}
-use lib.ListN.{length}
+use lib.ListN.{replicate, length, take}
 use Rattle.spec.specs.declared.Outcome.{Outcome}
+use Rattle.spec.specs.declared.Outcome.the-variants.{Done, Refused}
 use Rattle.spec.specs.declared.Scanned.{Scanned}
 use Rattle.spec.specs.Bytes.{contains}
+use Rattle.spec.specs.Outcome.{codeOf, valueOf}
 use Rattle.spec.specs.Store.{storeKeys, storedChunks, storeCode}
 use Rattle.spec.specs.Form.{newest}
 use Rattle.spec.specs.Scan.{scanAnswer, scannedCode}
-use Rattle.spec.specs.Search.{chunkNamed, searchOutcome, searchBuffer, searchedCode, searchedCount}
-use Rattle.spec.specs.Compact.{namedIn, namedAmong, compacted}
+use Rattle.spec.specs.Search.{chunkNamed, searchCode, searchOutcome, searchBuffer, searchedCode, searchedCount}
+use Rattle.spec.specs.Compact.{namedIn, namedAmong, compacted, compactOutcome, compactBuffer, compactSize}
+use Rattle.theory.specs.Cases.{store, keywords, recipes, recipesOf}
 use Rattle.theory.specs.Demands.{Calls}
 use Rattle.theory.specs.SameChunks.{WrittenInFull, JoinsAlike}
+use Rattle.theory.specs.Holes.{storeOf, holedStore}
 
 -- Each fingerprint that these recipes name has the same bytes in the other store.
 abbrev pub SameNamed : List ℕ → List ℕ → List ℕ → Type 0
 SameNamed store recipes other =
     (key : List ℕ) → contains key (namedIn recipes) ≡ true → (contains key (storeKeys other) ≡ true) × (chunkNamed other key ≡ chunkNamed store key)
 
--- Of an accepted store and any recipes.
+-- Of an accepted store and any recipes, where a fingerprint that the store does not have is passed over.
 pub record Compaction (store recipes : List ℕ) : Type 0 where
   -- the new store is accepted, and has exactly the chunks that some recipe names, in their old order
   pub accepted : storeCode (compacted store recipes) ≡ 0
@@ -46,3 +50,41 @@ pub record Compaction (store recipes : List ℕ) : Type 0 where
       × (searchBuffer newest list store recipes indexRoom out ≡ searchBuffer newest list (compacted store recipes) recipes indexRoom₂ out)
   -- every other accepted store in which each fingerprint these recipes name has the same bytes is at least as long
   pub shortest : (other : List ℕ) → storeCode other ≡ 0 → SameNamed store recipes other → length (compacted store recipes) ≤ length other
+  -- it is no longer than the old store, so a buffer of that length is enough
+  pub within : length (compacted store recipes) ≤ length store
+  -- where a compaction is done, the bytes under the length that it tells are the new store
+  pub wrote : (out : List ℕ) → codeOf (compactOutcome store recipes (length out)) ≡ 0
+      → take (valueOf (compactOutcome store recipes (length out))) (compactBuffer store recipes out) ≡ compacted store recipes
+
+-- ---- cases
+
+-- One file: the small vault's last chunk, its first, its last again.
+abbrev pub lastFirstLast : List ℕ
+lastFirstLast = recipesOf ((3 ∷ 1 ∷ 3 ∷ []) ∷ [])
+
+-- What is left of the small vault's store for it.
+abbrev pub firstAndLast : List ℕ
+firstAndLast = storeOf ((1, 64, 3) ∷ (3, 67, 1) ∷ []) (0x58 ∷ 0x41 ∷ 0x42 ∷ 0x41 ∷ [])
+
+pub record CompactionCases : Type 0 where
+  -- the small vault with holes, for its own recipes: all chunks are named, and the small vault's store is left
+  pub small : compacted holedStore recipes ≡ store
+  -- the chunks lie in the directory's order, whatever the recipes' is; one named twice stands once, one not named is left out; the offsets begin behind the
+  -- new directory
+  pub named : compacted holedStore lastFirstLast ≡ firstAndLast
+  -- its 68 bytes are room enough, and what is behind them stays; one byte less is 9, and all bytes stay; the length alone
+  pub room : (compactOutcome holedStore lastFirstLast 68 ≡ Done 68) × (compactOutcome holedStore lastFirstLast 67 ≡ Refused 9)
+  pub behind : compactBuffer holedStore lastFirstLast (replicate 70 7) ≡ firstAndLast ++ (7 ∷ 7 ∷ [])
+  pub stays : compactBuffer holedStore lastFirstLast (replicate 67 7) ≡ replicate 67 7
+  pub size : compactSize holedStore lastFirstLast ≡ Done 68
+  -- no recipe names a chunk: 8 bytes
+  pub unnamed : (compacted holedStore (recipesOf []) ≡ storeOf [] []) × (compacted holedStore (recipesOf ([] ∷ [] ∷ [])) ≡ storeOf [] [])
+  -- the refusals' order: of the store, 14, 15, 9
+  pub refusals : (compactOutcome [] [] 0 ≡ Refused 5)
+      × (compactOutcome holedStore [] 0 ≡ Refused 14)
+      × (compactOutcome holedStore (recipesOf ((1 ∷ []) ∷ (4 ∷ []) ∷ [])) 0 ≡ Refused 15)
+      × (compactOutcome holedStore recipes 0 ≡ Refused 9)
+      × (compactSize holedStore (recipesOf ((4 ∷ []) ∷ [])) ≡ Refused 15)
+  -- recipes that a search refuses with 17 are compacted for
+  pub inner : (searchCode newest keywords holedStore (recipesOf ((1 ∷ 3 ∷ 2 ∷ []) ∷ [])) 65536 65536 ≡ 17)
+      × (compacted holedStore (recipesOf ((1 ∷ 3 ∷ 2 ∷ []) ∷ [])) ≡ store)

@@ -23,6 +23,7 @@ use Rattle.spec.specs.Lookup.{findChunk, chunkStart, chunkOf, findBody, bodySta
 use Rattle.spec.specs.Trie.{scanMoves}
 use Rattle.spec.specs.Scan.{scanIndex, scanCode, scanAnswer, scanBuffer, scannedCode, scannedLength}
 use Rattle.spec.specs.Search.{restored, directSearch, searchCode, searchOutcome, searchBuffer, searchedCode}
+use Rattle.spec.specs.Compact.{compacted, compactCode, compactOutcome, compactBuffer}
 use Rattle.theory.specs.SearchList.{isIn, inOrder}
 use Rattle.theory.specs.Published.{Published}
 use Rattle.theory.specs.RecordSets.{Said, nothing, AllFitting, Says, scannedRecords, IndexForm, WrittenOnce}
@@ -67,6 +68,7 @@ pub record Numbers : Type 0 where
       → member (joinCode (formOf index) index recipes room) (0 ∷ 1 ∷ 2 ∷ 3 ∷ 4 ∷ 10 ∷ 11 ∷ 12 ∷ 13 ∷ 14 ∷ 15 ∷ 16 ∷ 17 ∷ 18 ∷ []) ≡ true
   pub search : (list store recipes : List ℕ) (indexRoom room : ℕ)
       → member (searchCode newest list store recipes indexRoom room) (0 ∷ 1 ∷ 2 ∷ 3 ∷ 4 ∷ 5 ∷ 6 ∷ 7 ∷ 8 ∷ 9 ∷ 14 ∷ 15 ∷ 16 ∷ 17 ∷ 18 ∷ 20 ∷ []) ≡ true
+  pub compact : (store recipes : List ℕ) (room : ℕ) → member (compactCode store recipes room) (0 ∷ 5 ∷ 6 ∷ 7 ∷ 8 ∷ 9 ∷ 14 ∷ 15 ∷ 20 ∷ []) ≡ true
   pub chunk : (store key : List ℕ) → member (findChunk store key) (0 ∷ 5 ∷ 6 ∷ 7 ∷ 8 ∷ 15 ∷ 19 ∷ 20 ∷ []) ≡ true
   pub body : (index key : List ℕ) → member (findBody (formOf index) index key) (0 ∷ 1 ∷ 2 ∷ 3 ∷ 4 ∷ 10 ∷ 11 ∷ 12 ∷ 13 ∷ 15 ∷ 19 ∷ []) ≡ true
 
@@ -78,6 +80,9 @@ pub record Demand1 : Type 0 where
       (written buffer (listBytes (joinList (formOf index) index recipes))) buffer
       (joinOutcome (formOf index) index recipes (length buffer)) (joinBuffer (formOf index) index recipes buffer)
   pub search : (list store recipes index out : List ℕ) → SearchAnswered list store recipes index out
+  pub compact : (store recipes buffer : List ℕ)
+      → Answered (compactCode store recipes (length buffer)) (length (compacted store recipes)) (written buffer (compacted store recipes)) buffer
+      (compactOutcome store recipes (length buffer)) (compactBuffer store recipes buffer)
   pub chunk : (store key : List ℕ) → LookupAnswered (findChunk store key) (chunkStart store key) (chunkOf store key)
   pub body : (index key : List ℕ) → LookupAnswered (findBody (formOf index) index key) (bodyStart (formOf index) index key) (bodyOf (formOf index) index key)
   pub numbers : Numbers

@@ -14,6 +14,7 @@ use Rattle.spec.specs.Store.{Chunk, Placed, storeMark, storeLayout, placedBytes
 use Rattle.spec.specs.Form.{newest}
 use Rattle.spec.specs.Lookup.{findChunk, chunkStart, chunkLength, chunkOf}
 use Rattle.spec.specs.Scan.{scanIndex, sizeOutcome, scanAnswer, scanBuffer}
+use Rattle.spec.specs.Compact.{compactOutcome, compactBuffer, compactSize}
 use Rattle.spec.specs.Program.{searchText}
 use Rattle.theory.specs.Cases.{store, keywords, fingerprint, chunkXAB, chunkABAX, chunkA}
 use Rattle.theory.specs.Demand3.{scanned}
@@ -55,6 +56,10 @@ pub record SameBesideHoles (list here there : List ℕ) : Type 0 where
   pub index : (buffer buffer₂ : List ℕ) → length buffer ≡ length buffer₂ → scanned list here buffer ≡ scanned list there buffer₂
   -- a search: its answer, its list buffer, its list
   pub search : (indexRoom : ℕ) → SearchAlike list here there indexRoom indexRoom
+  -- a compaction: its answer, its buffer; the length that it would write
+  pub compact : (recipes : List ℕ) (room : ℕ) → compactOutcome here recipes room ≡ compactOutcome there recipes room
+  pub compactedBuffer : (recipes buffer : List ℕ) → compactBuffer here recipes buffer ≡ compactBuffer there recipes buffer
+  pub compactedSize : (recipes : List ℕ) → compactSize here recipes ≡ compactSize there recipes
   -- the search program's text, but for the length that it asks of its files
   pub text : (recipes : List ℕ) → searchText here list recipes ≡ searchText there list recipes
 

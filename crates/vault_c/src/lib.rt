@@ -11,6 +11,7 @@ ghost use Rattle.spec.specs.Lookup.{findChunk, chunkStart, chunkLength, findBod
 ghost use Rattle.spec.specs.Outcome.{codeOf, toldValue};
 ghost use Rattle.spec.specs.Scan.{sizeOutcome, scanAnswer, scanBuffer, scannedCode, toldLength, toldMoves};
 ghost use Rattle.spec.specs.Join.{countOutcome, joinOutcome, joinBuffer};
+ghost use Rattle.spec.specs.Compact.{compactSize, compactOutcome, compactBuffer};
 ghost use Rattle.spec.specs.Search.{searchOutcome, searchBuffer, searchedCode, toldSize, toldCount};
 
 // ---- checks
@@ -146,6 +147,37 @@ pub extern "C" fn vault_body_length(index: &[u8], key: &[u8]) -> u64
     ensures { λ r. ⌜ r ≡ bodyLength (formOf (now (index .entry))) (now (index .entry)) (now (key .entry)) ⌝ }
 {
     index::body_length(index, key) as u64
+}
+
+// ---- compaction
+
+#[no_mangle]
+pub extern "C" fn vault_compact_size(store: &[u8], recipes: &[u8], size: &mut u64) -> u8
+    ensures { λ r. ⌜ (r ≡ codeOf (compactSize (now (store .entry)) (now (recipes .entry))))
+        × (now (size .exit) ≡ toldValue (compactSize (now (store .entry)) (now (recipes .entry))) (now (size .entry))) ⌝ }
+{
+    match compact::size(store, recipes) {
+        spec::Outcome::Done(compacted) => {
+            *size = compacted as u64;
+            0
+        }
+        spec::Outcome::Refused(code) => code,
+    }
+}
+
+#[no_mangle]
+pub extern "C" fn vault_compact(store: &[u8], recipes: &[u8], out: &mut [u8], size: &mut u64) -> u8
+    ensures { λ r. ⌜ (r ≡ codeOf (compactOutcome (now (store .entry)) (now (recipes .entry)) (length (now (out .entry)))))
+        × (now (size .exit) ≡ toldValue (compactOutcome (now (store .entry)) (now (recipes .entry)) (length (now (out .entry)))) (now (size .entry)))
+        × (now (out .exit) ≡ compactBuffer (now (store .entry)) (now (recipes .entry)) (now (out .entry))) ⌝ }
+{
+    match compact::compact(store, recipes, out) {
+        spec::Outcome::Done(kept) => {
+            *size = kept as u64;
+            0
+        }
+        spec::Outcome::Refused(code) => code,
+    }
 }
 
 // ---- the search whole

@@ -1,22 +1,22 @@
 // Generated vaults and damaged inputs, run through the library and compared with plain computations; stores in another order or with other
 // holes, compared with the first ones. What it prints says how many cases of each kind it ran, how many calls of each operation it compared, which numbers they
 // answered, and how often something was not as expected: never.
-use tests_cases::holes;
 use tests_cases::limits;
-use tests_cases::orders;
 use tests_cases::vaults;
 use tests_cases::wide;
+use tests_compact::cases;
 use tests_outputs::printed;
+use tests_pairs::orders;
 use tests_report::report;
 use tests_report::tally;
 
 fn main() {
     let mut counts = [0u64; tally::ALL];
     vaults::all_vaults(&mut counts);
-    orders::all_orders(&mut counts);
-    holes::all_holes(&mut counts);
+    orders::all_pairs(&mut counts);
     limits::longest(&mut counts);
     wide::all_wide(&mut counts);
     printed::all_outputs(&mut counts);
+    cases::all_compactions(&mut counts);
     report::totals(&counts);
 }

@@ -35,6 +35,16 @@ pub fn median(times: &[f64]) -> f64 {
     sorted.get(sorted.len() / 2).copied().unwrap_or(0.0)
 }
 
+/// The median time of some work over so many rounds, in milliseconds, and the fixed loop's beside it.
+pub fn measured(rounds: usize, mut work: impl FnMut()) -> (f64, f64) {
+    let (mut times, mut fixed) = (Vec::new(), Vec::new());
+    for _ in 0..rounds {
+        fixed.push(calibration());
+        times.push(timed(&mut work).0);
+    }
+    (1e3 * median(&times), 1e3 * median(&fixed))
+}
+
 pub fn best(times: &[f64]) -> f64 {
     times.iter().copied().fold(f64::INFINITY, f64::min)
 }

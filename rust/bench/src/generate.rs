@@ -49,16 +49,24 @@ pub fn key(k: usize) -> [u8; 20] {
 
 /// A store of these chunks.
 pub fn store_of<B: AsRef<[u8]>>(chunks: &[B]) -> Vec<u8> {
+    store_with_holes(chunks, 0)
+}
+
+/// The same with a hole of so many bytes before each chunk and behind the last one.
+pub fn store_with_holes<B: AsRef<[u8]>>(chunks: &[B], hole: usize) -> Vec<u8> {
     let mut store = b"DV1\n".to_vec();
     store.extend_from_slice(&(chunks.len() as u32).to_le_bytes());
     let mut offset = 8 + 28 * chunks.len();
     for (k, chunk) in chunks.iter().map(AsRef::as_ref).enumerate() {
+        offset += hole;
         store.extend_from_slice(&key(k));
         store.extend_from_slice(&(offset as u32).to_le_bytes());
         store.extend_from_slice(&(chunk.len() as u32).to_le_bytes());
         offset += chunk.len();
     }
-    chunks.iter().for_each(|chunk| store.extend_from_slice(chunk.as_ref()));
+    let filler = vec![b'x'; hole];
+    chunks.iter().for_each(|chunk| store.extend([&filler, chunk.as_ref()].concat()));
+    store.extend_from_slice(&filler);
     store
 }
 

@@ -2,15 +2,16 @@
 //!
 //!     bench [MEGABYTES] [ROUNDS] [--fresh] [--no-plain] [--directories]
 //!     bench --scan [MEGABYTES] [ROUNDS] [FOLDER..]
+//!     bench --compact [ROUNDS]
 //!
 //! Every row's methods run one after the other in each round, so that a row's ratios are of one run; times are medians of
 //! the rounds, in processor time of the thread. With each row stands the time of a fixed loop: rows whose loop took longer
 //! were run in a slow phase of the machine and only their ratios say something.
 
-use bench::clock::{calibration, median, timed};
+use bench::clock::{self, calibration, median, timed};
 use bench::generate::{self, index_of, key, recipes, recipes_of, store_of, vault, Vault};
 use bench::peers::{plain, restore_each, Automaton, Chunks};
-use bench::scan;
+use bench::{compaction, scan};
 use std::hint::black_box;
 
 struct Options {
@@ -41,13 +42,16 @@ fn options() -> Option<Options> {
 
 fn main() {
     let mut words = std::env::args().skip(1);
-    if words.next().as_deref() == Some("--scan") {
-        return scan::main(words.collect(), &[scan::OWN]);
+    match words.next().as_deref() {
+        Some("--scan") => return scan::main(words.collect(), &[scan::OWN]),
+        Some("--compact") => return compaction::main(words.collect()),
+        _ => (),
     }
     let Some(options) = options() else {
         eprintln!(
-            "usage: bench [MEGABYTES] [ROUNDS] [--fresh] [--no-plain] [--directories]\n       bench --scan {}",
-            scan::USAGE
+            "usage: bench [MEGABYTES] [ROUNDS] [--fresh] [--no-plain] [--directories]\n       bench --scan {}\n       bench --compact {}",
+            scan::USAGE,
+            compaction::USAGE
         );
         std::process::exit(64);
     };
@@ -189,13 +193,8 @@ fn a_place_and_an_occurrence(rows: &[Row]) {
 }
 
 /// The median time of some work, in milliseconds, and the fixed loop's beside it.
-fn measured(options: &Options, mut work: impl FnMut()) -> (f64, f64) {
-    let (mut times, mut fixed) = (Vec::new(), Vec::new());
-    for _ in 0..options.rounds {
-        fixed.push(calibration());
-        times.push(timed(&mut work).0);
-    }
-    (1e3 * median(&times), 1e3 * median(&fixed))
+fn measured(options: &Options, work: impl FnMut()) -> (f64, f64) {
+    clock::measured(options.rounds, work)
 }
 
 /// The largest directory: checks and lookups.

@@ -1,5 +1,6 @@
 //! One case: every call of the library beside the oracle, with every byte of every buffer.
 
+use crate::compaction::Reached;
 use crate::folds::Meetings;
 use crate::holes;
 use crate::inputs::Case;
@@ -31,6 +32,8 @@ pub struct Tally {
     pub pairs: BTreeMap<Change, u64>,
     /// Stores that are good, with a hole before the first chunk, between two, and behind the last.
     pub holes: [u64; 3],
+    /// What compactions came upon.
+    pub compactions: Reached,
     /// Bytes at the fold's borders.
     pub meetings: Meetings,
     /// Indexes that are good, by mark; stores that are good with a chunk longer than 65,535 bytes.
@@ -101,6 +104,7 @@ impl Comparison<'_> {
             }
         }
         self.searches(list.get(), stored.get(), recipes.get(), &scanned)?;
+        self.compactions(stored.get(), recipes.get(), &chunks)?;
         let kept = list.get() == case.list && stored.get() == case.store && recipes.get() == case.recipes;
         if !kept || own.is_some_and(|index| Some(index.get()) != case.index.as_deref()) {
             return Err("an input was changed".into());
@@ -116,7 +120,7 @@ impl Comparison<'_> {
         }
     }
 
-    fn code(&mut self, call: &'static str, got: u8, want: u8) -> Verdict {
+    pub fn code(&mut self, call: &'static str, got: u8, want: u8) -> Verdict {
         *self.tally.codes.entry((call, want)).or_default() += 1;
         if got != want {
             return Err(format!("{call}: code {got}, the oracle says {want}"));
@@ -132,7 +136,7 @@ impl Comparison<'_> {
     }
 
     /// A number that held the pattern and now has the value told, or the pattern still if none was told.
-    fn told(&mut self, call: &'static str, what: &str, number: &Number, want: Option<u64>) -> Verdict {
+    pub fn told(&mut self, call: &'static str, what: &str, number: &Number, want: Option<u64>) -> Verdict {
         match want {
             Some(value) => self.number(call, what, number.now, value),
             None if number.now == number.pattern => Ok(()),
@@ -141,7 +145,7 @@ impl Comparison<'_> {
     }
 
     /// A buffer that held the pattern and now has these bytes in front.
-    fn buffer(&mut self, call: &'static str, buffer: &[u8], salt: u8, front: &[u8]) -> Verdict {
+    pub fn buffer(&mut self, call: &'static str, buffer: &[u8], salt: u8, front: &[u8]) -> Verdict {
         self.tally.bytes += buffer.len() as u64;
         let (written, rest) = buffer.split_at(front.len());
         if let Some(at) = (0..front.len()).find(|at| written[*at] != front[*at]) {
@@ -164,7 +168,7 @@ impl Comparison<'_> {
     }
 
     /// Lengths of buffers to try for something of this length: exact, one short, and others if it isn't large.
-    fn lengths(&mut self, exact: u64) -> Vec<usize> {
+    pub fn lengths(&mut self, exact: u64) -> Vec<usize> {
         let mut lengths = vec![exact, exact.saturating_sub(1)];
         if exact < self.limits.large {
             lengths.extend([0, exact + 1, exact + 1 + self.rng.below(40) as u64, self.rng.below(exact as usize + 1) as u64]);
@@ -360,13 +364,13 @@ impl Comparison<'_> {
 }
 
 /// A number behind a pointer: what it held before the call, and what it holds.
-struct Number {
+pub struct Number {
     pattern: u64,
-    now: u64,
+    pub now: u64,
 }
 
 impl Number {
-    fn new(rng: &mut Rng) -> Number {
+    pub fn new(rng: &mut Rng) -> Number {
         let pattern = rng.next();
         Number { pattern, now: pattern }
     }
@@ -389,7 +393,7 @@ impl Input {
 }
 
 /// The code and the bytes written for a buffer of that length.
-fn fits(bytes: &Result<Vec<u8>, u8>, length: usize, too_long: u8) -> (u8, &[u8]) {
+pub fn fits(bytes: &Result<Vec<u8>, u8>, length: usize, too_long: u8) -> (u8, &[u8]) {
     match bytes {
         Ok(bytes) if bytes.len() <= length && bytes.len() as u64 <= U32 => (0, bytes),
         Ok(_) => (too_long, &[]),

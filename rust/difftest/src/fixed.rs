@@ -2,7 +2,7 @@
 
 use crate::inputs::{list, Case};
 use crate::rng::Rng;
-use crate::{beyond, folds, holes, lanes, windows};
+use crate::{beyond, compaction, folds, holes, lanes, windows};
 use oracle::form::{Form, KNOWN, NEWEST};
 use oracle::records::Record;
 use oracle::{index, recipes, store, Fingerprint};
@@ -97,6 +97,7 @@ pub fn small() -> Vec<Case> {
     cases.extend(beyond::few_by_hand());
     cases.extend(holes::by_hand());
     cases.extend(all_recipes());
+    cases.extend(compaction::by_hand());
     cases
 }
 
@@ -433,6 +434,7 @@ pub fn large() -> Vec<(&'static str, fn(&mut Rng) -> Vec<Case>)> {
         ("chunks of several windows", windows::large),
         ("the most occurrences", windows::most),
         ("long holes", holes::large),
+        ("compaction", compaction::large),
     ]
 }
 

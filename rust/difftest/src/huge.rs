@@ -1,5 +1,5 @@
-//! The sizes at which 32 bits end: chunks up to the greatest end, holes, indexes, moves and bounds around 4,294,967,295. Steps 1 to 9
-//! want some 5 GB of memory, so these run only when asked for (`--huge`). With the feature `mock` steps 3 to 6 hold the
+//! The sizes at which 32 bits end: chunks up to the greatest end, holes, indexes, moves and bounds around 4,294,967,295, and compactions of
+//! such stores. Steps 1 to 9 and 12 want some 5 GB of memory, so these run only when asked for (`--huge`). With the feature `mock` steps 3 to 6 hold the
 //! oracle's records too and want some 20 GB: there name another step. Of the holes of steps 10 and 11 nobody touches a page.
 
 use crate::inputs::list;
@@ -48,7 +48,7 @@ const TOO_LONG: (u8, u64, u64) = (9, UNTOLD, UNTOLD);
 
 /// All steps, or the one of that number from 1.
 pub fn run(step: u64) -> Verdict {
-    let steps: [fn() -> Verdict; 11] = [
+    let steps: [fn() -> Verdict; 12] = [
         || longest_store(4_096),
         || longest_store(65_000),
         || longest_index(0),
@@ -60,6 +60,7 @@ pub fn run(step: u64) -> Verdict {
         || longest_bound(1),
         holes_behind,
         hole_between,
+        long_compaction,
     ];
     steps.iter().zip(1..).filter(|(_, number)| step == 0 || step == *number).try_for_each(|(run, _)| run())
 }
@@ -132,6 +133,7 @@ fn longest_store(count: usize) -> Verdict {
     let mut out = vec![0xEE; expected.len()];
     same("join", answer(|count| raw::join(&want, &recipes, &mut out, count)), joined)?;
     same("the list is the oracle's", out == expected, true)?;
+    compacted(&bytes, count, &recipes)?;
     let twin = 8 + 28 * (count - 1);
     bytes.copy_within(8..28, twin);
     same("store check, twins at both ends", raw::check_store(&bytes), 8)?;
@@ -141,6 +143,54 @@ fn longest_store(count: usize) -> Verdict {
     bytes[twin + 24..twin + 28].copy_from_slice(&(last as u32 + 1).to_le_bytes());
     same("store check, an end of 4,294,967,296", raw::check_store(&bytes), 20)?;
     same("scan, an end of 4,294,967,296", scan(&words, &bytes, &mut [0; 9]), (20, UNTOLD, UNTOLD))
+}
+
+/// Compactions of that store for recipes that name every chunk, all but the first, and the last one.
+fn compacted(bytes: &[u8], count: usize, all: &[u8]) -> Verdict {
+    let (first, last) = (most_of(count, 0), most_of(count, count - 1));
+    same("compact_size, all chunks", answer(|length| raw::compact_size(bytes, all, length)), (0, U32))?;
+    same("compact, all chunks, a short buffer", answer(|length| raw::compact(bytes, all, &mut [0; 99], length)), (9, UNTOLD))?;
+    let but_one = recipes::encode(&[(1..count).rev().map(key).collect::<Vec<_>>()]);
+    same("compact_size, all but the first", answer(|n| raw::compact_size(bytes, &but_one, n)), (0, U32 - 28 - first as u64))?;
+    let (one, length) = (recipes::encode(&[vec![key(count - 1); 3]]), 36 + last);
+    let mut out = vec![0xEE; length + 3];
+    same("compact, the last chunk", answer(|n| raw::compact(bytes, &one, &mut out, n)), (0, length as u64))?;
+    let want = store::encode(&[(key(count - 1), &bytes[bytes.len() - last..])]);
+    same("it is the oracle's", out[..length] == want && out[length..] == [0xEE; 3], true)
+}
+
+/// A new store of more than 2,147,483,648 bytes: all chunks but the first, named backwards, of a store with a byte before each.
+fn long_compaction() -> Verdict {
+    println!("a compaction of more than 2,147,483,648 bytes");
+    let count = 2_060;
+    let (old, new) = (|k: usize| 9 + 28 * count + k * (LONGEST + 1), |k: usize| 8 + 28 * (count - 1) + (k - 1) * LONGEST);
+    let directory = |first: usize, start: &dyn Fn(usize) -> usize| {
+        let mut bytes = [store::MARK, ((count - first) as u32).to_le_bytes()].concat();
+        for k in first..count {
+            bytes.extend([&key(k)[..], &(start(k) as u32).to_le_bytes(), &(LONGEST as u32).to_le_bytes()].concat());
+        }
+        bytes
+    };
+    let mut bytes = directory(0, &old);
+    bytes.reserve_exact(count * (LONGEST + 1));
+    for k in 0..count {
+        bytes.push(0xEE);
+        bytes.extend_from_slice(&(k as u32).to_le_bytes());
+        bytes.resize(old(k) + LONGEST, k as u8);
+    }
+    let recipes = recipes::encode(&[(1..count).rev().map(key).collect::<Vec<_>>(), vec![key(5); 2]]);
+    let length = new(count);
+    same("compact_size", answer(|told| raw::compact_size(&bytes, &recipes, told)), (0, length as u64))?;
+    let mut out = vec![0; length + 3];
+    let short = answer(|told| raw::compact(&bytes, &recipes, &mut out[..length - 1], told));
+    same("compact, a byte short", short, (9, UNTOLD))?;
+    same("nothing is written", out.iter().all(|b| *b == 0), true)?;
+    same("compact", answer(|told| raw::compact(&bytes, &recipes, &mut out, told)), (0, length as u64))?;
+    same("the directory", out.starts_with(&directory(1, &new)), true)?;
+    same("the chunks", (1..count).all(|k| out[new(k)..][..LONGEST] == bytes[old(k)..][..LONGEST]), true)?;
+    same("bytes behind", &out[length..], &[0; 3])?;
+    same("store check", raw::check_store(&out[..length]), 0)?;
+    same("last chunk", raw::chunk(&out[..length], &key(count - 1)), (0, new(count - 1) as u64, LONGEST as u64))
 }
 
 /// A .. A, 16 times over: every keyword at nearly every place.
@@ -322,7 +372,13 @@ fn as_without_holes(offsets: [u64; 2], bytes: &[u8]) -> Verdict {
     let (mut length, mut count) = (UNTOLD, UNTOLD);
     let code = raw::search(&words, bytes, &recipes, (&mut index, &mut out), (&mut length, &mut count));
     same("search", (code, length, count), (joined.0, want.len() as u64, joined.1))?;
-    same("its index and its list", index == want && out == expected, true)
+    same("its index and its list", index == want && out == expected, true)?;
+    let mut out = vec![0xEE; plain.len() + 3];
+    same("compact_size", answer(|told| raw::compact_size(bytes, &recipes, told)), (0, plain.len() as u64))?;
+    same("compact", answer(|told| raw::compact(bytes, &recipes, &mut out, told)), (0, plain.len() as u64))?;
+    same("the store without holes", out[..plain.len()] == plain && out[plain.len()..] == [0xEE; 3], true)?;
+    let short = answer(|told| raw::compact(bytes, &recipes, &mut out[..plain.len() - 1], told));
+    same("compact, a byte short", short, (9, UNTOLD))
 }
 
 /// Stores longer than 4,294,967,295 bytes, whose lengths are small, or 0, in 32 bits.

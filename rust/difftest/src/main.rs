@@ -8,6 +8,7 @@
 //! inputs to a folder, and ends with status 1.
 
 mod beyond;
+mod compaction;
 mod compare;
 mod damage;
 mod fixed;
@@ -192,10 +193,13 @@ impl Run<'_> {
             })
     }
 
-    /// Runs a case, first against another store; a difference is told and its inputs are kept.
+    /// Runs a case, first against another store, or where none is given against its own compacted; a difference is told and its inputs are kept.
     fn alone(&mut self, number: &str, case: &Case, other: Option<(Change, &[u8])>, rng: &mut Rng) -> bool {
         let mut comparison = Comparison { tally: &mut self.tally, rng, limits: self.limits };
-        let pair = other.map_or(Ok(()), |(change, other)| comparison.pair(change, case, other));
+        let pair = match other {
+            Some((change, other)) => comparison.pair(change, case, other),
+            None => comparison.compacted(case),
+        };
         let verdict = pair.and_then(|()| comparison.run(case));
         let Err(why) = verdict else { return true };
         println!("\nDIFFERENCE in case {number} of seed {}, kind \"{}\"", self.seed, case.kind);
@@ -244,6 +248,7 @@ fn run(arguments: &Arguments) -> ExitCode {
         ("codes that no case reached", missing(&run.tally)),
         ("bytes at the fold's borders that no case brought together", run.tally.meetings.missing()),
         ("holes that no good store had", run.tally.missing_holes()),
+        ("what no compaction came upon", run.tally.compactions.missing()),
     ];
     for (what, which) in lacking.iter().filter(|(_, which)| !which.is_empty()) {
         println!("FAILED: {what}: {}", which.join(", "));
@@ -293,7 +298,7 @@ fn all(arguments: &Arguments, run: &mut Run, started: Instant) -> bool {
 }
 
 /// The codes that each operation can give.
-const REACHABLE: [(&str, &[u8]); 10] = [
+const REACHABLE: [(&str, &[u8]); 12] = [
     ("check_keywords", &[0, 1, 2, 3, 4]),
     ("check_store", &[0, 5, 6, 7, 8, 20]),
     ("check_index", &[0, 1, 2, 3, 4, 10, 11, 12, 13]),
@@ -304,6 +309,8 @@ const REACHABLE: [(&str, &[u8]); 10] = [
     ("find_chunk", &[0, 5, 6, 7, 8, 15, 19, 20]),
     ("find_body", &[0, 1, 2, 3, 4, 10, 11, 12, 13, 15, 19]),
     ("search", &[0, 1, 2, 3, 4, 5, 6, 7, 8, 9, 14, 15, 16, 17, 18, 20]),
+    ("compact_size", &[0, 5, 6, 7, 8, 14, 15, 20]),
+    ("compact", &[0, 5, 6, 7, 8, 9, 14, 15, 20]),
 ];
 
 fn missing(tally: &Tally) -> Vec<String> {
@@ -330,6 +337,7 @@ fn report(tally: &Tally, time: Duration) {
     let marks: Vec<String> = tally.marks.iter().map(|(mark, n)| format!("{} {n}", mark[..3].escape_ascii())).collect();
     println!("\ngood indexes by mark: {}; good stores with a chunk longer than 65,535 bytes: {}", marks.join(", "), tally.long);
     println!("holes in good stores: {}", tally.holes_by_place().map(|(place, count)| format!("{place} {count}")).join(", "));
+    println!("compactions: {}", tally.compactions.report());
     let calls: u64 = tally.codes.values().sum();
     println!(
         "\n{} cases, {calls} answers compared, {} bytes of buffers, {} occurrences listed,",

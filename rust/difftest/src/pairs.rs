@@ -1,5 +1,5 @@
-//! The library on a pair of stores with the same chunks, everything else being equal: in another order (request 101), or with other holes
-//! (request 106). Its answers are compared with each other; no oracle is asked.
+//! The library on a pair of stores, everything else being equal: with the same chunks in another order (request 101) or with other holes
+//! (request 106), and a store with what a compaction makes of it (request 107). Its answers are compared with each other; no oracle is asked.
 
 use crate::compare::{pattern, Comparison, Verdict};
 use crate::inputs::Case;
@@ -13,6 +13,8 @@ pub enum Change {
     Order,
     /// In their holes alone: every answer and every byte is the same.
     Holes,
+    /// The second is the first compacted: of scans nothing need be the same, of lists and their refusals everything.
+    Compacted,
 }
 
 impl Change {
@@ -20,31 +22,32 @@ impl Change {
         match self {
             Change::Order => "the store's chunks in another order",
             Change::Holes => "other bytes in the store's holes",
+            Change::Compacted => "the store compacted",
         }
     }
 }
 
 /// Both stores, and what is the same beside them.
-struct Pair<'a> {
-    change: Change,
-    stores: [&'a [u8]; 2],
-    list: &'a [u8],
-    recipes: &'a [u8],
+pub struct Pair<'a> {
+    pub change: Change,
+    pub stores: [&'a [u8]; 2],
+    pub list: &'a [u8],
+    pub recipes: &'a [u8],
     /// What a number and the buffers hold before a call.
-    number: u64,
-    salt: u8,
+    pub number: u64,
+    pub salt: u8,
 }
 
 /// A scan's code, its length and moves, and its buffer.
-type Scanned = (u8, (u64, u64), Box<[u8]>);
+pub type Scanned = (u8, (u64, u64), Box<[u8]>);
 
 impl Pair<'_> {
-    fn number(&self, call: impl FnOnce(&mut u64) -> u8) -> (u8, u64) {
+    pub fn number(&self, call: impl FnOnce(&mut u64) -> u8) -> (u8, u64) {
         let mut number = self.number;
         (call(&mut number), number)
     }
 
-    fn scans(&self, length: usize) -> [Scanned; 2] {
+    pub fn scans(&self, length: usize) -> [Scanned; 2] {
         self.stores.map(|store| {
             let (mut length, mut moves, mut out) = (self.number, !self.number, pattern(self.salt, length));
             let code = raw::scan(self.list, store, &mut out, (&mut length, &mut moves));
@@ -52,7 +55,16 @@ impl Pair<'_> {
         })
     }
 
-    /// What has to be the same of a buffer for an index.
+    /// Compactions of both, in buffers of that length.
+    fn compactions(&self, length: usize) -> [(u8, u64, Box<[u8]>); 2] {
+        self.stores.map(|store| {
+            let mut out = pattern(self.salt, length);
+            let (code, told) = self.number(|n| raw::compact(store, self.recipes, &mut out, n));
+            (code, told, out)
+        })
+    }
+
+    /// What has to be the same of a buffer for an index or a store.
     fn due<'b>(&self, written: bool, buffer: &'b [u8]) -> Option<&'b [u8]> {
         (self.change == Change::Holes || !written).then_some(buffer)
     }
@@ -86,6 +98,7 @@ impl Comparison<'_> {
         for (length, room) in [(length, room), (length, room.saturating_sub(1)), (length - 1, room)] {
             self.pair_searches(&pair, length, room)?;
         }
+        self.pair_compactions(&pair)?;
         self.pair_lookups(&pair, &case.keys, indexes)
     }
 
@@ -93,23 +106,53 @@ impl Comparison<'_> {
         self.alike(pair.change, "scan", scans.each_ref().map(|(code, told, out)| (*code, (told, pair.due(*code == 0, out)))))
     }
 
+    /// Compactions of both stores, which have the same chunks: of the same length, which neither store falls below.
+    fn pair_compactions(&mut self, pair: &Pair) -> Verdict {
+        let sizes = pair.stores.map(|store| pair.number(|n| raw::compact_size(store, pair.recipes, n)));
+        self.alike(pair.change, "compact_size", sizes)?;
+        let done = sizes[0].0 == 0;
+        let length = if done { sizes[0].1 as usize } else { 50 };
+        if done && pair.stores.iter().any(|store| store.len() < length) {
+            return Err(format!("compact_size: {length}, more than {} has", pair.change.name()));
+        }
+        for length in [length, length - 1] {
+            let compactions = pair.compactions(length);
+            let [a, b] = &compactions;
+            let answers = [a, b].map(|(code, told, out)| (*code, (told, pair.due(*code == 0, out))));
+            self.alike(pair.change, "compact", answers)?;
+        }
+        Ok(())
+    }
+
     /// Counts and joins of what the scans wrote. Gives the list's length.
     fn pair_joins(&mut self, pair: &Pair, indexes: [&[u8]; 2]) -> Result<usize, String> {
-        let counts = indexes.map(|index| pair.number(|n| raw::count(index, pair.recipes, n)));
-        self.alike(pair.change, "count", counts)?;
-        let room = if counts[0].0 == 0 { 9 * counts[0].1.min(self.limits.buffer / 9) as usize } else { 50 };
+        let (code, count) = self.pair_counts(pair, indexes)?;
+        let room = if code == 0 { 9 * count.min(self.limits.buffer / 9) as usize } else { 50 };
         for room in [room, room.saturating_sub(1)] {
-            let joins = indexes.map(|index| {
-                let mut out = pattern(pair.salt, room);
-                let (code, count) = pair.number(|n| raw::join(index, pair.recipes, &mut out, n));
-                (code, (count, out))
-            });
-            self.alike(pair.change, "join", joins)?;
+            self.pair_lists(pair, indexes, room)?;
         }
         Ok(room)
     }
 
-    fn pair_searches(&mut self, pair: &Pair, length: usize, room: usize) -> Verdict {
+    /// Counts of what the scans wrote. Gives code and count.
+    pub fn pair_counts(&mut self, pair: &Pair, indexes: [&[u8]; 2]) -> Result<(u8, u64), String> {
+        let counts = indexes.map(|index| pair.number(|n| raw::count(index, pair.recipes, n)));
+        self.alike(pair.change, "count", counts)?;
+        Ok(counts[0])
+    }
+
+    /// Joins of what the scans wrote, in list buffers of that length.
+    pub fn pair_lists(&mut self, pair: &Pair, indexes: [&[u8]; 2], room: usize) -> Verdict {
+        let joins = indexes.map(|index| {
+            let mut out = pattern(pair.salt, room);
+            let (code, count) = pair.number(|n| raw::join(index, pair.recipes, &mut out, n));
+            (code, (count, out))
+        });
+        self.alike(pair.change, "join", joins)
+    }
+
+    /// Searches of both stores, in index buffers of that length and list buffers of that room.
+    pub fn pair_searches(&mut self, pair: &Pair, length: usize, room: usize) -> Verdict {
         let searches = pair.stores.map(|store| {
             let (mut index, mut out) = (pattern(pair.salt, length), pattern(pair.salt, room));
             let (mut scanned, mut count) = (pair.number, pair.number);
@@ -117,11 +160,12 @@ impl Comparison<'_> {
             (code, scanned, count, index, out)
         });
         let due = |index| pair.due(searches[0].1 != pair.number, index);
+        let told = |scanned| (pair.change != Change::Compacted).then_some(scanned);
         let [a, b] = &searches;
         self.alike(
             pair.change,
             "search",
-            [a, b].map(|(code, scanned, count, index, out)| (*code, (scanned, count, due(index), out))),
+            [a, b].map(|(code, scanned, count, index, out)| (*code, (told(scanned), count, due(index), out))),
         )
     }
 
@@ -135,7 +179,7 @@ impl Comparison<'_> {
     }
 
     /// Two answers: their codes, and the rest of them.
-    fn alike<T: PartialEq>(&mut self, change: Change, call: &'static str, [a, b]: [(u8, T); 2]) -> Verdict {
+    pub fn alike<T: PartialEq>(&mut self, change: Change, call: &'static str, [a, b]: [(u8, T); 2]) -> Verdict {
         *self.tally.pairs.entry(change).or_default() += 1;
         match (a.0, b.0) {
             (a, b) if a != b => Err(format!("{call}: code {a}, and {b} with {}", change.name())),

@@ -5,7 +5,7 @@ use crate::form::NEWEST;
 use crate::index::Index;
 use crate::join::Joined;
 use crate::store::Chunk;
-use crate::{index, join, keywords, moves, store, Code, U32};
+use crate::{compact, index, join, keywords, moves, store, Code, U32};
 use std::ops::Range;
 
 /// A call's code; its length or count goes to the lent number where the call is done.
@@ -130,6 +130,16 @@ pub fn body_in(index: &Result<Index, Code>, key: &[u8]) -> Result<Range<usize>, 
         return Err(19);
     }
     index.entries.iter().find(|e| e.key == *key).map(|e| e.body.clone()).ok_or(15)
+}
+
+/// The length of the store that a compaction writes: refusals 5 to 8, 20, 14 and 15.
+pub fn compact_size(bytes: &[u8], recipes: &[u8], length: &mut u64) -> Code {
+    told(compact::of(bytes, recipes).map(|store| store.len() as u64), length)
+}
+
+/// The store without holes of the chunks that the recipes name. 9 is the last test.
+pub fn compact(bytes: &[u8], recipes: &[u8], out: &mut [u8], length: &mut u64) -> Code {
+    told(compact::of(bytes, recipes).and_then(|store| put(out, &store, 9)), length)
 }
 
 /// A scan and then a join of what it wrote. The index's length is told where the scan is done, whatever the join answers.

@@ -11,10 +11,12 @@
 //! * [`index`]: "Notes file", with the notes check;
 //! * [`recipes`]: "Recipes", with refusals 14 to 17;
 //! * [`join`]: "Joining two notes" and the join;
+//! * [`compact`]: request 107, a store's chunks that some recipe names, without holes;
 //! * [`direct`]: the restored files searched byte by byte, which knows no records at all;
 //! * [`calls`]: the operations in the shape of the C interface (a code, a number, lent buffers).
 
 pub mod calls;
+pub mod compact;
 pub mod direct;
 pub mod form;
 pub mod index;

@@ -1,4 +1,4 @@
-//! Document 01, "Store", with requests 105 (number 20) and 106 (holes): the store check (5 to 8, and 20), and a writer for tests.
+//! Document 01, "Store", with requests 105 (number 20) and 106 (holes): the store check (5 to 8, and 20), and a writer for compaction and tests.
 
 use crate::form::NEWEST;
 use crate::{fingerprint, number, twice, Code, Fingerprint, MOST_CHUNKS, U32};

@@ -19,7 +19,7 @@ const MEANINGS: [&str; 20] = [
     "the store's chunk count is above 65,000, or its directory is cut short",
     "a store entry's length is not 1 to 1,048,576 or its offset before the end of the directory or of the chunk before, or the last chunk ends beyond the store",
     "a fingerprint is in the store twice",
-    "the index is longer than the buffer, or than 4,294,967,295 bytes",
+    "the index or the new store is longer than the buffer, or the index than 4,294,967,295 bytes",
     "not an index: fewer than 8 bytes, a mark that is neither DM1 nor DM2, or a chunk count above 65,000",
     "the index's directory is cut short, an entry has a wrong chunk length or offset, or the last body doesn't end where the file does",
     "a fingerprint is in the index twice",

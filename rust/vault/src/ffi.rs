@@ -36,6 +36,22 @@ extern "C" {
     pub fn vault_find_body(index: *const u8, index_length: usize, key: *const u8, key_length: usize) -> u8;
     pub fn vault_body_start(index: *const u8, index_length: usize, key: *const u8, key_length: usize) -> u64;
     pub fn vault_body_length(index: *const u8, index_length: usize, key: *const u8, key_length: usize) -> u64;
+    pub fn vault_compact_size(
+        store: *const u8,
+        store_length: usize,
+        recipes: *const u8,
+        recipes_length: usize,
+        length: *mut u64,
+    ) -> u8;
+    pub fn vault_compact(
+        store: *const u8,
+        store_length: usize,
+        recipes: *const u8,
+        recipes_length: usize,
+        out: *mut u8,
+        out_length: usize,
+        length: *mut u64,
+    ) -> u8;
     pub fn vault_search(
         list: *const u8,
         list_length: usize,

@@ -6,6 +6,7 @@
 //! * [`scan`] scans each chunk for up to 16 **keywords** at once, writes a **match index** and counts its **moves**.
 //! * [`join`] takes the index and recipes, and no chunk, and lists every [`Occurrence`] in the restored files: by file,
 //!   then offset, then keyword, each exactly once, also those that cross from one chunk into the next.
+//! * [`compact`] writes the store anew, without holes and with the chunks alone that recipes name: a search of these recipes lists the same.
 //!
 //! Bytes compare by the keyword list's **fold flag**. With 0 they compare as they are. With 1, capitals compare as small letters: 41 to
 //! 5A (ASCII) and C0 to DE except D7 (Latin-1, ISO/IEC 8859-1) as the byte 20 (hexadecimal) higher, all others, DF, F7 and FF among
@@ -303,6 +304,29 @@ fn part(whole: &[u8], (code, start, length): (u8, u64, u64)) -> Result<&[u8], Er
     done(code).map(|()| &whole[start as usize..(start + length) as usize])
 }
 
+/// The length of the store that a compaction writes. Refusals of the store check, 14, 15.
+pub fn compact_size(store: &[u8], recipes: &[u8]) -> Result<u64, Error> {
+    valued(|length| raw::compact_size(store, recipes, length))
+}
+
+/// Writes the compacted store, as [`compact`] has it, to the buffer's front and gives its length; what follows stays as it was. Refusals of the
+/// store check, 14, 15, and then 9 where the buffer is shorter. One as long as the store itself is always enough.
+pub fn compact_into(store: &[u8], recipes: &[u8], out: &mut [u8]) -> Result<usize, Error> {
+    valued(|length| raw::compact(store, recipes, out, length)).map(|length| length as usize)
+}
+
+/// A store without holes that has exactly the chunks that some recipe names, in their old order. Refusals of the store check, 14, and 15 for a
+/// fingerprint that isn't in the store. Offsets in files are not looked at, so recipes that a join refuses with 16 or 17 are compacted for.
+///
+/// A search of these recipes gives on both stores the same list or the same refusal, and compacting the new store for them gives it again. No
+/// accepted store with the bytes that these recipes name is shorter. Chunks that they do not name are gone: give all recipes of the store as one.
+pub fn compact(store: &[u8], recipes: &[u8]) -> Result<Vec<u8>, Failure> {
+    let mut compacted = buffer(compact_size(store, recipes)?)?;
+    let length = compact_into(store, recipes, &mut compacted)?;
+    compacted.truncate(length);
+    Ok(compacted)
+}
+
 /// A scan into one buffer and a join of what it wrote into another.
 pub fn search_into(list: &[u8], store: &[u8], recipes: &[u8], index: &mut [u8], out: &mut [u8]) -> Result<Searched, SearchError> {
     // No index is empty, so a length of 0 is one that the scan didn't tell.
@@ -349,15 +373,20 @@ mod tests {
         store
     }
 
+    /// The recipes of these files, by the bytes of fingerprints.
+    fn recipes_of(files: &[&[u8]]) -> Vec<u8> {
+        let mut recipes = (files.len() as u32).to_le_bytes().to_vec();
+        for file in files {
+            recipes.extend_from_slice(&(file.len() as u32).to_le_bytes());
+            file.iter().for_each(|key| recipes.extend_from_slice(&[*key; 20]));
+        }
+        recipes
+    }
+
     /// The small vault of document 01: keywords, store, recipes.
     fn small() -> (Vec<u8>, Vec<u8>, Vec<u8>) {
         let store = entries(&[(1, 92, 3), (2, 95, 4), (3, 99, 1)], b"XABABAXA");
-        let mut recipes = vec![3, 0, 0, 0];
-        for file in [&[1, 2][..], &[3, 3], &[]] {
-            recipes.extend_from_slice(&[file.len() as u8, 0, 0, 0]);
-            file.iter().for_each(|key| recipes.extend_from_slice(&[*key; 20]));
-        }
-        (keyword_list(false, &[b"ABA", b"AA"]).unwrap(), store, recipes)
+        (keyword_list(false, &[b"ABA", b"AA"]).unwrap(), store, recipes_of(&[&[1, 2], &[3, 3], &[]]))
     }
 
     fn with_stack(test: impl FnOnce() + Send) {
@@ -407,6 +436,72 @@ mod tests {
                 assert_eq!(search(&list, &holed, &recipes), search(&list, &store, &recipes));
                 let chunk = find_chunk(&holed, &[2; 20]).unwrap();
                 assert_eq!((chunk, chunk.as_ptr()), (&b"ABAX"[..], holed[starts[1]..].as_ptr()));
+            }
+        });
+    }
+
+    /// The small vault's chunks with holes around: what some file names, in the directory's order.
+    #[test]
+    fn compacted() {
+        with_stack(|| {
+            let (list, plain, all) = small();
+            let holed = entries(&[(1, 94, 3), (2, 97, 4), (3, 104, 1)], b"..XABABAX...A..");
+            assert_eq!(compact(&holed, &all), Ok(plain.clone()));
+            assert_eq!(compact(&plain, &all), Ok(plain));
+            for (files, want) in [
+                (&[&[3, 1, 3][..], &[], &[1]][..], entries(&[(1, 64, 3), (3, 67, 1)], b"XABA")),
+                (&[&[2]], entries(&[(2, 36, 4)], b"ABAX")),
+                (&[&[], &[]], entries(&[], b"")),
+                (&[], entries(&[], b"")),
+            ] {
+                let recipes = recipes_of(files);
+                assert_eq!(compact(&holed, &recipes), Ok(want.clone()), "{files:?}");
+                assert_eq!(compact(&want, &recipes), Ok(want.clone()));
+                assert_eq!(compact_size(&holed, &recipes), Ok(want.len() as u64));
+                assert_eq!(search(&list, &want, &recipes), search(&list, &holed, &recipes));
+            }
+        });
+    }
+
+    /// The tests in their order, each with every later one failing too; what a refusal and the bytes behind keep.
+    #[test]
+    fn what_a_compaction_refuses() {
+        with_stack(|| {
+            let (_, store, all) = small();
+            let absent = recipes_of(&[&[1], &[2, 9]]);
+            for (store, recipes, room, want) in [
+                (&store[1..], &all[1..], 0, 5),
+                (&store[..91], &all[1..], 0, 6),
+                (&store[..99], &all[1..], 0, 7),
+                (&entries(&[(1, 64, 1), (1, 65, 1)], b"AA"), &all[1..], 0, 8),
+                (&entries(&[(1, 0xFFFF_FFFF, 1)], b"A"), &all[1..], 0, 20),
+                (&store, &absent[1..], 0, 14),
+                (&store, &absent, 0, 15),
+                (&store, &all, 99, 9),
+                (&store, &all, 100, 0),
+                (&store, &all, 107, 0),
+            ] {
+                let (mut length, mut out) = (1 << 40, vec![7; room]);
+                assert_eq!(raw::compact(store, recipes, &mut out, &mut length), want);
+                let (told, written) = if want == 0 { (100, 100) } else { (1 << 40, 0) };
+                assert_eq!((length, &out[..written], &out[written..]), (told, &store[..written], &vec![7; room - written][..]));
+                let (mut length, without_a_buffer) = (1 << 40, if want == 9 { 0 } else { want });
+                assert_eq!(raw::compact_size(store, recipes, &mut length), without_a_buffer);
+                assert_eq!(length, if without_a_buffer == 0 { 100 } else { 1 << 40 });
+            }
+        });
+    }
+
+    /// Three chunks of one byte, with a keyword of three: a join refuses with 17, a compaction doesn't ask.
+    #[test]
+    fn recipes_that_a_join_refuses_are_compacted() {
+        with_stack(|| {
+            let (list, store, _) = small();
+            let short = recipes_of(&[&[3, 3, 3]]);
+            let compacted = compact(&store, &short).unwrap();
+            assert_eq!(compacted, entries(&[(3, 36, 1)], b"A"));
+            for store in [&store, &compacted] {
+                assert_eq!(search(&list, store, &short), Err(Error::new(17).into()));
             }
         });
     }
@@ -705,7 +800,7 @@ mod tests {
         let header = std::fs::read_to_string(concat!(env!("CARGO_MANIFEST_DIR"), "/../../include/vault.h")).unwrap();
         let header = header.replace("uint8_t vault_", "fn vault_").replace("uint64_t vault_", "fn vault_");
         let names = declared(&header, "fn vault_");
-        assert_eq!(names.len(), 14);
+        assert_eq!(names.len(), 16);
         assert_eq!(names, declared(include_str!("ffi.rs"), "fn vault_"));
     }
 

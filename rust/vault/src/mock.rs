@@ -87,6 +87,29 @@ pub unsafe fn vault_body_length(index: *const u8, index_length: usize, key: *con
     calls::body(from_raw_parts(index, index_length), from_raw_parts(key, key_length)).map_or(0, |place| place.len() as u64)
 }
 
+pub unsafe fn vault_compact_size(
+    store: *const u8,
+    store_length: usize,
+    recipes: *const u8,
+    recipes_length: usize,
+    length: *mut u64,
+) -> u8 {
+    calls::compact_size(from_raw_parts(store, store_length), from_raw_parts(recipes, recipes_length), &mut *length)
+}
+
+pub unsafe fn vault_compact(
+    store: *const u8,
+    store_length: usize,
+    recipes: *const u8,
+    recipes_length: usize,
+    out: *mut u8,
+    out_length: usize,
+    length: *mut u64,
+) -> u8 {
+    let out = from_raw_parts_mut(out, out_length);
+    calls::compact(from_raw_parts(store, store_length), from_raw_parts(recipes, recipes_length), out, &mut *length)
+}
+
 #[allow(clippy::too_many_arguments)]
 pub unsafe fn vault_search(
     list: *const u8,

@@ -46,6 +46,15 @@ pub fn body(index: &[u8], key: &[u8]) -> (u8, u64, u64) {
     unsafe { (ffi::vault_find_body(i, n, k, m), ffi::vault_body_start(i, n, k, m), ffi::vault_body_length(i, n, k, m)) }
 }
 
+pub fn compact_size(store: &[u8], recipes: &[u8], length: &mut u64) -> u8 {
+    unsafe { ffi::vault_compact_size(store.as_ptr(), store.len(), recipes.as_ptr(), recipes.len(), length) }
+}
+
+pub fn compact(store: &[u8], recipes: &[u8], out: &mut [u8], length: &mut u64) -> u8 {
+    let (s, n, r, m) = (store.as_ptr(), store.len(), recipes.as_ptr(), recipes.len());
+    unsafe { ffi::vault_compact(s, n, r, m, out.as_mut_ptr(), out.len(), length) }
+}
+
 /// Scan and join: the buffers of the index and the list, the index's length and the count.
 pub fn search(
     list: &[u8],

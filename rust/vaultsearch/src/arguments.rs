@@ -30,12 +30,13 @@ pub struct Arguments {
 }
 
 /// The options that each command uses.
-const USED: [(&str, &[&str]); 6] = [
+const USED: [(&str, &[&str]); 7] = [
     ("search", &["--word", "--list", "--words", "--fold", "--format", "--names", "--count", "-o", "--quiet"]),
     ("scan", &["--word", "--list", "--words", "--fold", "-o", "--quiet"]),
     ("join", &["--format", "--names", "--count", "-o", "--quiet"]),
     ("check", &["--store", "--index", "--recipes", "--word", "--list", "--words", "--fold", "--entries", "--quiet"]),
     ("lookup", &["--store", "--index", "-o", "--quiet"]),
+    ("compact", &["-o", "--quiet"]),
     ("make-vault", &["--cut", "--size", "--word", "--list", "--words", "--fold", "-o", "--quiet"]),
 ];
 

@@ -1,11 +1,11 @@
-//! The commands search, scan, join and make-vault; `inspect.rs` has check and lookup.
+//! The commands search, scan, join, compact and make-vault; `inspect.rs` has check and lookup.
 
 use crate::arguments::{self, Arguments};
 use crate::failure::Failure;
 use crate::input::{self, Kind};
 use crate::progress::{size, Progress};
 use crate::rows::{self, Format, Labels};
-use crate::{identity, make_vault, names, output, text};
+use crate::{identity, inspect, make_vault, names, output, text};
 use std::ffi::OsString;
 use std::path::{Path, PathBuf};
 
@@ -27,6 +27,7 @@ pub fn run(words: Vec<OsString>) -> Done {
         "join" => session.join(),
         "check" => session.check(),
         "lookup" => session.lookup(),
+        "compact" => session.compact(),
         _ => session.make_vault(),
     }
 }
@@ -49,13 +50,13 @@ fn unmade(what: &str, told: impl FnOnce(vault::Error) -> Failure) -> impl FnOnce
     }
 }
 
-/// The input that a refusal of the join is about.
-fn join_refused(index: &str, recipes: &Path) -> impl FnOnce(vault::Error) -> Failure {
-    let (index, recipes) = (index.to_string(), text::path(recipes));
+/// The input that a refusal of a join or a compaction is about: the recipes, or the index or store that they are for.
+fn recipes_refused(whole: &str, recipes: &Path) -> impl FnOnce(vault::Error) -> Failure {
+    let (whole, recipes) = (whole.to_string(), text::path(recipes));
     move |error| match error.code {
         14..=17 => Failure::Refused(recipes, error),
         18 => Failure::Refused("the list".into(), error),
-        _ => Failure::Refused(index, error),
+        _ => Failure::Refused(whole, error),
     }
 }
 
@@ -152,7 +153,7 @@ impl Session<'_> {
     /// Joins and writes the list, or only counts.
     fn joined(&self, index: &[u8], index_name: &str, recipes: Recipes, format: Format) -> Done {
         let output = self.arguments.output.as_deref();
-        let (bytes, told) = (&recipes.bytes, join_refused(index_name, &recipes.path));
+        let (bytes, told) = (&recipes.bytes, recipes_refused(index_name, &recipes.path));
         let step = format!("joining {} of index with {} of recipes", size(index.len() as u64), size(bytes.len() as u64));
         if self.arguments.count {
             let count = self.progress.step(&step, 0, || vault::count(index, bytes)).map_err(told)?;
@@ -186,11 +187,16 @@ impl Session<'_> {
         let list = self.keywords()?;
         let store = self.read(path, &input::STORE)?;
         let vault::Scan { index, moves } = self.scanned(&list, &store, path)?;
-        let length = index.len() as u64;
+        let s = if moves == 1 { "" } else { "s" };
+        self.written(output, &index, &store, &format!("{moves} move{s}"))
+    }
+
+    /// Writes what a command made of a store, and reports it with what else there is to tell; on standard error where it goes to standard output.
+    fn written(&self, output: &Path, bytes: &[u8], store: &[u8], told: &str) -> Done {
+        let length = bytes.len() as u64;
         let step = format!("writing {}", size(length));
-        self.progress.step(&step, length, || output::write(Some(output), |out| out.write_all(&index)))?;
-        let (written, scanned, s) = (size(length), size(store.len() as u64), if moves == 1 { "" } else { "s" });
-        let report = format!("{}: {written} for a store of {scanned}, {moves} move{s}", text::path(output));
+        self.progress.step(&step, length, || output::write(Some(output), |out| out.write_all(bytes)))?;
+        let report = format!("{}: {} for a store of {}, {told}", text::path(output), size(length), size(store.len() as u64));
         if identity::is_standard_output(output) {
             text::say(report);
             return Ok(());
@@ -205,6 +211,21 @@ impl Session<'_> {
         let recipes = self.recipes(recipes_path)?;
         let index = self.read(index_path, &input::INDEX)?;
         self.joined(&index, &text::path(index_path), recipes, format)
+    }
+
+    fn compact(&self) -> Done {
+        let [store_path, recipes_path] = self.plain(["STORE", "RECIPES"])?;
+        let output = self.arguments.output.as_ref().ok_or(Failure::Usage("compact wants -o STORE".into()))?;
+        self.keep_apart(&[store_path, recipes_path])?;
+        let recipes = self.read(recipes_path, &input::RECIPES)?;
+        let store = self.read(store_path, &input::STORE)?;
+        let step = format!("compacting {} for {} of recipes", size(store.len() as u64), size(recipes.len() as u64));
+        let compacted = self.progress.step(&step, 0, || vault::compact(&store, &recipes));
+        let told = recipes_refused(&text::path(store_path), recipes_path);
+        let compacted = compacted.map_err(unmade("the new store", told))?;
+        drop(recipes);
+        let (kept, all) = (inspect::chunk_count(&compacted), inspect::chunk_count(&store));
+        self.written(output, &compacted, &store, &format!("{kept} of {all} chunks"))
     }
 
     fn make_vault(&self) -> Done {

@@ -73,7 +73,7 @@ impl Session<'_> {
     fn check_index(&self, path: &Path, report: &mut Report) -> Done {
         let index = self.read(path, &input::INDEX)?;
         let verdict = self.progress.step("checking the index", 0, || vault::check_index(&index));
-        report.tell(text::path(path), verdict.map(|()| format!("{} chunks, {}", count_at(&index, 4), mark_of(&index))));
+        report.tell(text::path(path), verdict.map(|()| format!("{} chunks, {}", chunk_count(&index), mark_of(&index))));
         if self.arguments.entries && verdict.is_ok() {
             let directory = Directory { start: 8 + list_length(&index), stride: 32, offset: 24, length: 28 };
             report.text.push_str(&directory.lines(&index));
@@ -139,6 +139,11 @@ fn count_at(bytes: &[u8], at: usize) -> u32 {
     bytes.get(at..at + 4).map_or(0, |b| u32::from_le_bytes([b[0], b[1], b[2], b[3]]))
 }
 
+/// The number of chunks of a good store or index.
+pub fn chunk_count(bytes: &[u8]) -> u32 {
+    count_at(bytes, 4)
+}
+
 /// The length of a good index's keyword list.
 fn list_length(index: &[u8]) -> usize {
     2 + vault::keywords_of(vault::keywords_in_index(index)).iter().map(|word| 1 + word.len()).sum::<usize>()
@@ -161,7 +166,7 @@ impl Directory {
             let at = self.start + self.stride * k;
             (&bytes[at..at + 20], count_at(bytes, at + self.offset), count_at(bytes, at + self.length))
         };
-        (0..count_at(bytes, 4) as usize).map(entry)
+        (0..chunk_count(bytes) as usize).map(entry)
     }
 
     /// A line for each entry.

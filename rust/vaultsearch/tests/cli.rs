@@ -390,6 +390,9 @@ fn wrong_command_lines_and_files() {
         "check",
         "lookup 01",
         "make-vault -o x",
+        "compact store.bin recipes.bin",
+        "compact store.bin -o x",
+        "compact -o x",
         "search a b --word",
     ] {
         let (status, _, err) = folder.run(words);
@@ -449,6 +452,7 @@ fn options_that_a_command_does_not_use() {
         ("join index.bin recipes.bin", "--names -o --format --count"),
         ("check", "--word --list --words --fold --store --index --recipes --entries"),
         ("lookup 01", "--store --index -o"),
+        ("compact store.bin words.bin", "-o"),
         ("make-vault in", "--word --list --words --fold -o --cut --size"),
     ] {
         for option in options {

@@ -18,6 +18,7 @@ fn a_full_standard_output() {
         SEARCH.to_string(),
         format!("{SEARCH} --count"),
         "$V scan store.bin --words words.bin -o other".to_string(),
+        "$V compact store.bin recipes.bin -o other".to_string(),
         "$V check --store store.bin --entries".to_string(),
         format!("$V lookup --store store.bin {key}"),
         format!("$V lookup --index index.bin {key}"),
@@ -109,6 +110,7 @@ fn endless_inputs() {
         ("$V search /dev/zero recipes.bin --words words.bin", stream),
         ("$V join /dev/zero recipes.bin", stream),
         ("$V join index.bin /dev/zero", stream),
+        ("$V compact store.bin /dev/zero -o out", stream),
         ("yes | $V search store.bin recipes.bin --words /dev/stdin", words),
         ("yes | $V search store.bin recipes.bin --list /dev/stdin", list),
         ("yes | $V search /dev/stdin recipes.bin --words words.bin", stream),
@@ -153,6 +155,8 @@ fn a_store_longer_than_32_bits() {
     folder.prints("check --store store.bin", "store.bin: good, 3 chunks, 8 bytes in them, 4294967197 bytes in holes\n");
     folder.prints("search store.bin recipes.bin --words words.bin --format plain", "finds 3\n0 1 0\n0 3 0\n1 0 1\n");
     folder.prints(&format!("lookup --store store.bin {}", "02".repeat(20)), "chunk of 4 bytes at 95\nABAX\n");
+    folder.prints("compact store.bin recipes.bin -o new.bin", "new.bin: 100 bytes for a store of 4294 MB, 3 of 3 chunks\n");
+    folder.prints("search new.bin recipes.bin --words words.bin --format plain", "finds 3\n0 1 0\n0 3 0\n1 0 1\n");
     let (status, out, err) = folder.shell("cat store.bin | $V check --store /dev/stdin");
     assert_eq!((status, out.as_str()), (74, ""), "{err}");
     assert!(err.contains("longer than 4294967295 bytes, the most that is read of a device or a pipe"), "{err}");
@@ -191,6 +195,30 @@ fn an_index_that_no_memory_holds() {
     assert_eq!(folder.shell("ulimit -v 220000; $V check --store store.bin").0, 0);
     folder.fails("ulimit -v 220000; $V scan store.bin --list list.txt -o index.bin", 74, "the index: no memory for ");
     assert!(!folder.0.join("index.bin").exists());
+}
+
+/// 146 of the longest chunks, all of them named. The stand-in makes the new store before it asks for room.
+#[test]
+#[cfg_attr(feature = "mock", ignore)]
+fn a_new_store_that_no_memory_holds() {
+    let folder = Folder::new("new-store");
+    let (count, size) = (146u32, 1_048_576u32);
+    let mut store = [&b"DV1\n"[..], &count.to_le_bytes()].concat();
+    let mut recipes = [1, count].map(u32::to_le_bytes).concat();
+    for k in 0..count {
+        let key: Vec<u8> = k.to_le_bytes().repeat(5);
+        store.extend([&key[..], &(8 + 28 * count + size * k).to_le_bytes(), &size.to_le_bytes()].concat());
+        recipes.extend(key);
+    }
+    store.resize(store.len() + (size * count) as usize, b'.');
+    folder.write("store.bin", &store);
+    folder.write("recipes.bin", &recipes);
+    folder.write("out", b"old");
+    let message = format!("the new store: no memory for {} bytes", store.len());
+    folder.fails("ulimit -v 400000; $V compact store.bin recipes.bin -o out", 74, &message);
+    assert_eq!(folder.read("out"), b"old");
+    folder.prints("compact store.bin recipes.bin -o out", "out: 153 MB for a store of 153 MB, 146 of 146 chunks\n");
+    assert!(folder.read("out") == store);
 }
 
 #[test]

@@ -53,6 +53,21 @@ fn search_and_join_keep_their_inputs() {
 }
 
 #[test]
+fn compact_keeps_its_inputs() {
+    let folder = folder("keep-compact");
+    let absolute = folder.0.join("store.bin");
+    fs::hard_link(folder.0.join("recipes.bin"), folder.0.join("hard-recipes")).unwrap();
+    symlink("hard-recipes", folder.0.join("link-recipes")).unwrap();
+    let stores = ["store.bin", "./store.bin", "sub/../store.bin", "link", "sub/link", "hard", absolute.to_str().unwrap()];
+    for output in stores.into_iter().chain(["recipes.bin", "hard-recipes", "link-recipes", "sub/../link-recipes"]) {
+        kept(&folder, &format!("$V compact store.bin recipes.bin -o {output}"));
+    }
+    kept(&folder, "$V compact link hard-recipes -o hard");
+    kept(&folder, "$V compact store.bin recipes.bin -o new >> store.bin");
+    kept(&folder, "$V compact store.bin recipes.bin -o /dev/stdout >> recipes.bin");
+}
+
+#[test]
 fn lookup_keeps_its_inputs() {
     let folder = folder("keep-lookup");
     let key = "02".repeat(20);

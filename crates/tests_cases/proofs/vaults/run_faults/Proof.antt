@@ -1,18 +1,17 @@
 -- `run_faults` is safe and ends. Assumes nothing.
 use borrow.Author.Needs.{needs}
 use mathlib.Core.Path.{_≡_}
-use mathlib.Core.Logic.{_⊎_}
 use Prim.Native.Nat.{_≤_, _-_}
 use lib.ListN.{length}
 use Rattle.tests_cases.proofs.vaults.run_faults.Statement.{statement}
 use Rattle.tests_cases.proofs.vaults.run_faults.Tie as tie
 
 abbrev Inv-loop : tie.InvT-loop
-Inv-loop counts₀ m f₀ buffer₀ n t₀ counts f buffer t =
+Inv-loop counts₀ form m f₀ buffer₀ n t₀ counts f buffer t =
     (t ≤ n) × (length counts ≡ length counts₀) × (length f ≡ length f₀) × (length buffer ≡ length buffer₀)
 
 abbrev μ-loop : tie.MeasureT-loop
-μ-loop counts₀ m f₀ buffer₀ n t₀ counts f buffer t =
+μ-loop counts₀ form m f₀ buffer₀ n t₀ counts f buffer t =
     n - t
 
 loop-holds : tie.Need-loop-holds Inv-loop μ-loop

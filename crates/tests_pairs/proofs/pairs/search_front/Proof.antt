@@ -1,0 +1,43 @@
+-- `search_front` is safe and ends: a part of that many bytes has that length. Assumes nothing.
+use borrow.Author.Needs.{needs}
+use mathlib.Core.Path.{sym}
+use lib.Seq.{length-take-le}
+use denote.Ref.{now}
+use Rattle.tests_pairs.proofs.pairs.search_front.Statement.{statement}
+use Rattle.tests_pairs.proofs.pairs.search_front.Tie as tie
+
+slice-relend-prefix-search-one : tie.Need-slice-relend-prefix-search-one
+slice-relend-prefix-search-one c = search needs
+
+slice-aggregate-search-one : tie.Need-slice-aggregate-search-one
+slice-aggregate-search-one c =
+    let then = c .before in
+    let a = then .before .before .before .before .args in
+    sym (length-take-le (a .n) (now (a .index)) (then .if1 .taken))
+
+search-one-requires : tie.Need-search-one-requires
+search-one-requires c κs = search needs
+
+same-length : tie.Need-same-length
+same-length c = search needs
+
+same-length-2 : tie.Need-same-length-2
+same-length-2 c = search needs
+
+returns : tie.Need-returns
+returns c = search needs
+
+returns-2 : tie.Need-returns-2
+returns-2 c = search needs
+
+pub search-front-spec : {M : Type 1} → statement M
+search-front-spec =
+    tie.close
+    (tie.spec
+    slice-relend-prefix-search-one
+    slice-aggregate-search-one
+    search-one-requires
+    same-length
+    same-length-2
+    returns
+    returns-2)
