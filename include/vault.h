@@ -12,9 +12,13 @@
  * The chunks of a store lie behind its directory, in the directory's order, and do not overlap. Between these, and behind the last one, the store may have
  * holes: unused bytes, of any number and content. On two accepted stores that differ only there, with the same other arguments and buffers of equal
  * length, every call answers and writes the same. Chunks end within 4,294,967,295 bytes; the store itself may be longer.
- * A chunk has 1 to 1,048,576 bytes. An index begins with its mark: a scan writes 44 4D 32 0A (hexadecimal; DM2), with which each offset inside a chunk
- * and each exact count takes 3 bytes. An index with the older mark 44 4D 31 0A (DM1) is read too by every call that takes an index: there these
- * fields take 2 bytes, and a chunk has at most 65,535.
+ * A chunk has 1 to 1,048,576 bytes. An index begins with its mark: a scan writes 44 4D 33 0A (hexadecimal; DM3), with which each offset inside a chunk
+ * and each exact count takes 3 bytes. Of a keyword of n bytes and a chunk of at most n - 2 it has, behind their other record, the set of inner starts (kind
+ * 4): bit p of 4 bytes, least significant first, says that the chunk is the keyword's bytes from p on, for p from 1 to n - 1 - the chunk's length. By these a
+ * join lists keywords over any number of chunks. An index with an older mark is read too by every call that takes an index: 44 4D 32 0A (DM2) has the same
+ * fields and no sets, 44 4D 31 0A (DM1) no sets, fields of 2 bytes and chunks of at most 65,535. These two know a keyword over two chunks only, so
+ * a join of them refuses with 17 where a chunk that is neither first nor last in its file is shorter than the longest keyword less one byte. With the newest
+ * mark 17 never comes.
  * A call keeps nothing behind and touches only what it is lent, so calls may run at once from several threads, each with buffers of its own.
  * Stack that a call needs, about:
  *   600 KB   a check of a store or an index, a lookup
@@ -43,7 +47,7 @@ uint8_t vault_check_keywords(const uint8_t *list, size_t list_length);
  * may have any length from 8 on. */
 uint8_t vault_check_store(const uint8_t *store, size_t store_length);
 
-/* A match index, under either mark: 10, 1 to 4, 11 to 13. */
+/* A match index, under any of the three marks: 10, 1 to 4, 11 to 13. */
 uint8_t vault_check_index(const uint8_t *index, size_t index_length);
 
 /* ---- scan: the match index of a store, for a keyword list */
@@ -63,18 +67,19 @@ uint8_t vault_scan_size(const uint8_t *list, size_t list_length, const uint8_t *
  * Where the buffer is at least as long as a bound that the call works out by itself from the lengths alone, each chunk is walked to write
  * only; else once to measure and, where a keyword occurs in it, to write. Writing walks a chunk of at most 65,536 bytes once and a longer one
  * twice; moves are counted for one walk. For c chunks the bound is
- *   8 + list_length + 32 c + keywords x (11 c + 3 x store_length),
+ *   8 + list_length + 32 c + keywords x (17 c + 3 x store_length),
  * holes counted, where that is at most 4,294,967,295. Answer, index and moves are the same either way. */
 uint8_t vault_scan(const uint8_t *list, size_t list_length, const uint8_t *store, size_t store_length,
                    uint8_t *out, size_t out_length, uint64_t *length, uint64_t *moves);
 
 /* ---- join: the occurrences in the files of the recipes, from an index alone */
 
-/* How many occurrences a join would list: 0 with the count, or 10, 1 to 4, 11 to 17. */
+/* How many occurrences a join would list: 0 with the count, or 10, 1 to 4, 11 to 16, and 17 of an index with an older mark. */
 uint8_t vault_count(const uint8_t *index, size_t index_length, const uint8_t *recipes, size_t recipes_length, uint64_t *count);
 
 /* Writes the list to the start of the buffer, 9 bytes an occurrence: file (4), offset (4), keyword (1), least significant byte first,
- * rising by file, offset, keyword: 0 with the count, or 10, 1 to 4, 11 to 18. Bytes behind the list are unchanged. */
+ * rising by file, offset, keyword: 0 with the count, or 10, 1 to 4, 11 to 18 (17 of an index with an older mark only). Bytes behind the list are
+ * unchanged. */
 uint8_t vault_join(const uint8_t *index, size_t index_length, const uint8_t *recipes, size_t recipes_length,
                    uint8_t *out, size_t out_length, uint64_t *count);
 
@@ -99,7 +104,7 @@ uint8_t vault_compact_size(const uint8_t *store, size_t store_length, const uint
 
 /* Writes that store to the start of the buffer: 0 with its length, or 5 to 8, 20, 14, then 15 (a fingerprint that a recipe names is not in the store),
  * then 9 (the new store is longer than the buffer), and the length stays. Bytes behind the new store are unchanged. Neither 16 nor 17 is tested: recipes that
- * a join would refuse so are compacted for. A buffer as long as the store itself is always enough.
+ * a join would refuse so, of some index, are compacted for. A buffer as long as the store itself is always enough.
  *
  * The new store is accepted, and compacting it for the same recipes gives it again. A search of these recipes for the same keyword list, with both index
  * files written in full and list buffers of equal length, gives the list or the refusal that it gave with the old store. No other accepted store in which
@@ -110,8 +115,8 @@ uint8_t vault_compact(const uint8_t *store, size_t store_length, const uint8_t *
 
 /* ---- the search whole: a scan into the index buffer, whose moves are not told, then a join of that index into the list buffer */
 
-/* 0 with the index's length and the count; or the scan's number, and both stay; or the join's number with the index's length, and the count
- * stays. */
+/* 0 with the index's length and the count; or the scan's number, and both stay; or the join's number, which is never 17, with the index's length, and the
+ * count stays. */
 uint8_t vault_search(const uint8_t *list, size_t list_length, const uint8_t *store, size_t store_length,
                      const uint8_t *recipes, size_t recipes_length, uint8_t *index, size_t index_buffer_length,
                      uint8_t *out, size_t out_length, uint64_t *index_length, uint64_t *count);

@@ -8,6 +8,7 @@ use native.Mathlib.Omega.{arith}
 use lib.ListN.{length}
 use Rattle.spec.specs.Keywords.{flagOf, folded, foldedKeywords, keywordFrontCode}
 use Rattle.spec.specs.Join.{keywordAt}
+use Rattle.spec.specs.Form.{Form}
 use Rattle.spec.specs.Records.{recordOf}
 use Rattle.spec.proofs.Folding.{folded-length}
 use Rattle.spec.proofs.KeywordLaws.{accepted, folded-count, folded-keyword}
@@ -47,11 +48,11 @@ module _ (list chunk : List ℕ) where
       ap (nodeAt keywords) (ap (λ (u : List ℕ). nodeNumber keywords (nodeFrom keywords u text)) root)
       ∙ node-of-number keywords (nodeAfter keywords text) (ap (isNode keywords) (walk-node keywords text) ∙ longest-is-node keywords text)
 
-  module _ (k : ℕ) (h : k < length keywords) where
-    pub chunk-prefix : prefixAt (keywordAt keywords k) (nodeAt keywords (walkedOf list 0 chunk 0 .node)) ≡ recordOf (keywordAt keywords k) text .prefix
+  module _ (f : Form) (k : ℕ) (h : k < length keywords) where
+    pub chunk-prefix : prefixAt (keywordAt keywords k) (nodeAt keywords (walkedOf list 0 chunk 0 .node)) ≡ recordOf f (keywordAt keywords k) text .prefix
     chunk-prefix =
-        ap (prefixAt (keywordAt keywords k)) chunk-node ∙ sym (prefix-at-node keywords (keywordAt keywords k) (keyword-contained keywords k h) text)
+        ap (prefixAt (keywordAt keywords k)) chunk-node ∙ sym (prefix-at-node keywords (keywordAt keywords k) (keyword-contained keywords k h) f text)
 
     pub chunk-offsets : length chunk ≤ 1048576 → 1 ≤ length (keywordAt keywords k)
-        → offsetsIn keywords k (walkLog list 0 chunk 0) ≡ recordOf (keywordAt keywords k) text .offsets
-    chunk-offsets l n = ap (offsetsIn keywords k) chunk-log ∙ log-record keywords k text (omega (arith, folded-length (flagOf list) chunk)) h n
+        → offsetsIn keywords k (walkLog list 0 chunk 0) ≡ recordOf f (keywordAt keywords k) text .offsets
+    chunk-offsets l n = ap (offsetsIn keywords k) chunk-log ∙ log-record keywords k f text (omega (arith, folded-length (flagOf list) chunk)) h n

@@ -10,10 +10,10 @@ use borrow.Author.Tests.{ltb-false}
 use lib.Dec.{eqb, ltb}
 use lib.ListN.{length, take}
 use lib.Pow.{pow-pos, high, low, field, mod-mod-pow}
-use Rattle.spec.specs.Bytes.{each, keep}
+use Rattle.spec.specs.Bytes.{each, keep, setOf}
 use Rattle.spec.specs.Keywords.{longest}
-use Rattle.spec.specs.Table.{setOf}
 use Rattle.spec.specs.Join.{keywordAt}
+use Rattle.spec.specs.Form.{Form}
 use Rattle.spec.specs.Records.{recordOf}
 use Rattle.spec.proofs.Tests.{bool-cases}
 use Rattle.spec.proofs.Each.{each-match}
@@ -126,16 +126,16 @@ module _ (keywords : List (List ℕ)) (k : ℕ) where
       (λ p h. let n : suc (suc at) + p - at ≡ suc (suc (suc at) + p - suc at) = omega arith in rw n))
 
   -- the offsets of keyword k in a chunk
-  pub log-offsets : (chunk : List ℕ) → length chunk ≤ 1048576 → k < length keywords
-      → offsetsIn keywords k (logFrom keywords [] 0 chunk) ≡ walkRecord keywords (keywordAt keywords k) chunk .offsets
+  pub log-offsets : (f : Form) (chunk : List ℕ) → length chunk ≤ 1048576 → k < length keywords
+      → offsetsIn keywords k (logFrom keywords [] 0 chunk) ≡ walkRecord f keywords (keywordAt keywords k) chunk .offsets
   unfolding walkRecord isNode
-  log-offsets chunk h l =
+  log-offsets f chunk h l =
       log-along [] 0 chunk refl (omega arith) l ∙ along-each [] 0 chunk
       ∙ each-match _ _ 1 1 (length chunk) (λ p m. let n : 1 + p - 0 ≡ 1 + p = omega arith in rw n)
 
   -- those of its match record
-  pub log-record : (chunk : List ℕ) → length chunk ≤ 1048576 → k < length keywords → 1 ≤ length (keywordAt keywords k)
-      → offsetsIn keywords k (logFrom keywords [] 0 chunk) ≡ recordOf (keywordAt keywords k) chunk .offsets
+  pub log-record : (f : Form) (chunk : List ℕ) → length chunk ≤ 1048576 → k < length keywords → 1 ≤ length (keywordAt keywords k)
+      → offsetsIn keywords k (logFrom keywords [] 0 chunk) ≡ recordOf f (keywordAt keywords k) chunk .offsets
   unfolding walkRecord
-  log-record chunk h l n =
-      log-offsets chunk h l ∙ sym (offsets-at-nodes keywords (keywordAt keywords k) (keyword-contained keywords k l) chunk n)
+  log-record f chunk h l n =
+      log-offsets f chunk h l ∙ sym (offsets-at-nodes keywords (keywordAt keywords k) (keyword-contained keywords k l) f chunk n)

@@ -5,9 +5,8 @@ use mathlib.Core.List.{List, [], _∷_, _++_}
 use Prim.Native.Nat.{ℕ, suc, _+_, _-_, _*_, _/_, _%_, _^_}
 use lib.ListN.{length}
 use lib.Dec.{eqb, ltb}
-use Rattle.spec.specs.Bytes.{each, keep}
+use Rattle.spec.specs.Bytes.{each, keep, setOf}
 use Rattle.spec.specs.Keywords.{foldByte}
-use Rattle.spec.specs.Table.{setOf}
 use Rattle.spec.specs.Join.{keywordAt}
 use Rattle.spec.specs.Trie.{Step, step}
 use Rattle.trie.specs.Endings.{isEnding, prefixAt}

@@ -159,7 +159,10 @@ module _ (format : Format) (n size : ℕ) (bytes : List ℕ) (h : Head format 1 
   none-offsets : readOffsets (formIn format) bytes ≡ []
   none-offsets = read-1 (formIn format) bytes (h .is) ∙ rw zero-count
 
-  none-is : readRecord (formIn format) bytes ≡ record { prefix = getD bytes 2 0; suffix = getD bytes 3 0; offsets = [] }
+  abbrev bare : MatchRecord
+  bare = record { prefix = getD bytes 2 0; suffix = getD bytes 3 0; offsets = []; inner = 0 }
+
+  none-is : readRecord (formIn format) bytes ≡ bare
   none-is = read-some (formIn format) bytes (omega (arith, h .is)) ∙ rw none-offsets
 
   pub none-first : fieldAt bytes 5 (format .width) ≢ 0 → 0 ≡ goodSize format n size bytes
@@ -170,7 +173,7 @@ module _ (format : Format) (n size : ℕ) (bytes : List ℕ) (h : Head format 1 
   pub none-small : getD bytes 2 0 ≤ 1 → getD bytes 3 0 ≤ 1 → 0 ≡ goodSize format n size bytes
   none-small p s =
       refuse-full format n size bytes (omega (arith, h .long)) (h .lengths) (omega (arith, h .is))
-      (λ t. false≢true (sym (t .large) ∙ rw none-is (tiny-test format n _ refl p s (rw none-is at (t .nonempty)))))
+      (λ t. false≢true (sym (t .large) ∙ rw none-is (tiny-test format n bare refl p s (rw none-is at (t .nonempty)))))
 
   pub none-good : AllBytes bytes → fieldAt bytes 5 (format .width) ≡ 0 → (1 < getD bytes 2 0) ⊎ (1 < getD bytes 3 0)
       → 5 + format .width ≡ goodSize format n size bytes
@@ -190,14 +193,11 @@ module _ (format : Format) (n size : ℕ) (bytes : List ℕ) (h : Head format 1 
       })
       (sym (size-1 (formIn format) bytes (h .is)))
     where
-      r : MatchRecord
-      r = record { prefix = getD bytes 2 0; suffix = getD bytes 3 0; offsets = [] }
-
-      large : (1 < getD bytes 2 0) ⊎ (1 < getD bytes 3 0) → isTiny (formIn format) n r ≡ false
+      large : (1 < getD bytes 2 0) ⊎ (1 < getD bytes 3 0) → isTiny (formIn format) n bare ≡ false
       large (inl l) = rw (leb-false (getD bytes 2 0) 1 l)
       large (inr l) = rw (leb-false (getD bytes 3 0) 1 l, and-false)
 
-      nonempty : (1 < getD bytes 2 0) ⊎ (1 < getD bytes 3 0) → isEmpty r ≡ false
+      nonempty : (1 < getD bytes 2 0) ⊎ (1 < getD bytes 3 0) → isEmpty bare ≡ false
       nonempty (inl l) = rw (eqb-ne (getD bytes 2 0) 0 (omega arith))
       nonempty (inr l) = rw (eqb-ne (getD bytes 3 0) 0 (omega arith), and-false)
 

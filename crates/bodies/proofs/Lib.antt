@@ -2,4 +2,5 @@ pub mod StepLaws
 pub mod RecordChecks
 pub mod Orders
 pub mod KindChecks
+pub mod SetChecks
 pub mod Turns

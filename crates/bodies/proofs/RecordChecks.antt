@@ -94,7 +94,7 @@ module _ (f : Form) (n size : ℕ) (bytes : List ℕ) (start : 1 ≤ length byte
 -- ---- tiny records
 
 pub read-zero : (f : Form) (bytes : List ℕ) → getD bytes 1 0 ≡ 0
-    → readRecord f bytes ≡ record { prefix = getD bytes 2 0 % f .tinyStep; suffix = getD bytes 2 0 / f .tinyStep; offsets = [] }
+    → readRecord f bytes ≡ record { prefix = getD bytes 2 0 % f .tinyStep; suffix = getD bytes 2 0 / f .tinyStep; offsets = []; inner = 0 }
 unfolding readRecord
 read-zero f bytes z = rw z
 
@@ -111,7 +111,7 @@ kind-least m = go (leb m 1) (leb m 254)
     go false false = omega arith
 
 abbrev tinyOf : Form → ℕ → MatchRecord
-tinyOf f v = record { prefix = v % f .tinyStep; suffix = v / f .tinyStep; offsets = [] }
+tinyOf f v = record { prefix = v % f .tinyStep; suffix = v / f .tinyStep; offsets = []; inner = 0 }
 
 empty-zero : (f : Form) (v : ℕ) → v ≡ 0 → isEmpty (tinyOf f v) ≡ true
 empty-zero f v z = rw (z, zero-mod, zero-div)
@@ -193,7 +193,7 @@ tiny-is f n size bytes zero-kind t =
 -- ---- full records
 
 abbrev pub fullOf : Form → List ℕ → MatchRecord
-fullOf f bytes = record { prefix = getD bytes 2 0; suffix = getD bytes 3 0; offsets = readOffsets f bytes }
+fullOf f bytes = record { prefix = getD bytes 2 0; suffix = getD bytes 3 0; offsets = readOffsets f bytes; inner = 0 }
 
 pub read-some : (f : Form) (bytes : List ℕ) → 1 ≤ getD bytes 1 0 → readRecord f bytes ≡ fullOf f bytes
 unfolding readRecord

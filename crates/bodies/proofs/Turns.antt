@@ -1,7 +1,7 @@
 -- The body check, a turn for each keyword: what the bytes from the place on say of the rest of the keywords is what the body says of all.
 use mathlib.Core.Path.{_≡_, refl, sym, ap, _∙_}
 use mathlib.Core.Logic.{_≢_, _⊎_, inl, inr}
-use mathlib.Core.Bool.{Bool, true, false, _&&_, cond, and-true, false≢true}
+use mathlib.Core.Bool.{Bool, true, false, _&&_, not, cond, and-true, false≢true}
 use mathlib.Core.List.{List, [], _∷_}
 use Prim.Native.Nat.{ℕ, suc, _+_, _-_, _≤_, _<_}
 use native.Mathlib.Numerals.{add-one}
@@ -11,15 +11,16 @@ use lib.ListN.{length, take, drop, getD, length-drop, length-take, drop-of-lengt
 use lib.Seq.{drop-cons, drop-drop, getD-take, take-all, length-take-le}
 use Rattle.spec.specs.Bytes.{begins}
 use Rattle.spec.specs.declared.Format.{Format}
-use Rattle.spec.specs.Form.{formIn}
-use Rattle.spec.specs.Records.{recordSize, goodBody}
-use Rattle.bodies.specs.Steps.{goodFrom, recordGood}
-use Rattle.spec.proofs.Tests.{le-or-lt, and-left, eqb-same, eqb-ne}
+use Rattle.spec.specs.Form.{Form, formIn}
+use Rattle.spec.specs.Records.{recordSize, setIsNext, recordIsNext, recordTaken, setTaken, behindKeyword, goodBody}
+use Rattle.bodies.specs.Steps.{goodFrom, recordGood, setGood, recordGoodNext, setGoodNext}
+use Rattle.spec.proofs.Tests.{le-or-lt, bool-cases, and-left, and-right, eqb-same, eqb-ne}
 use Rattle.spec.proofs.RecordLaws.{eq-of}
-use Rattle.bodies.specs.Check.{goodSize, Lengths, KeywordLengths}
-use Rattle.bodies.proofs.StepLaws.{good-is-from, good-end, good-absent, good-here}
+use Rattle.bodies.specs.Check.{goodSize, recordPart, setPart, Lengths, KeywordLengths}
+use Rattle.bodies.proofs.StepLaws.{good-is-from, good-end, taken-here, taken-none, set-here, set-none, good-step, good-absent}
 use Rattle.bodies.proofs.KindChecks.{fields-good}
 use Rattle.bodies.proofs.RecordChecks.{tiny-of, full-of, size-zero, size-least}
+use Rattle.bodies.proofs.SetChecks.{set-head, six}
 
 -- the part that starts at `at` is all behind it
 pub behind : (body : List ℕ) (at : ℕ) → take (length body - at) (drop at body) ≡ drop at body
@@ -58,7 +59,7 @@ size-good format n size bytes d = go (recordGood (formIn format) n (getD bytes 0
     go false q = absurd (q refl)
 
 -- a good record lies within the bytes
-size-within : (format : Format) (n size : ℕ) (bytes : List ℕ) → Lengths format n size → 1 ≤ length bytes → goodSize format n size bytes ≤ length bytes
+pub size-within : (format : Format) (n size : ℕ) (bytes : List ℕ) → Lengths format n size → 1 ≤ length bytes → goodSize format n size bytes ≤ length bytes
 size-within format n size bytes l start = go (le-or-lt (goodSize format n size bytes) 0) (le-or-lt 1 (getD bytes 1 0))
   where
     go : (goodSize format n size bytes ≤ 0) ⊎ (0 < goodSize format n size bytes) → (1 ≤ getD bytes 1 0) ⊎ (getD bytes 1 0 < 1)
@@ -72,7 +73,91 @@ size-within format n size bytes l start = go (le-or-lt (goodSize format n size b
         let g = size-good format n size bytes (omega arith) in
         omega (arith, g .1, size-zero (formIn format) bytes z, tiny-of (formIn format) n size bytes start z (g .0) .long)
 
+-- ---- a part: one more than what is taken, or 0
+
+part-zero : (b : Bool) (taken : ℕ) → cond b (taken + 1) 0 ≡ 0 → b ≡ false
+part-zero true taken e = let z : ⊥ = omega arith in absurd z
+part-zero false taken e = refl
+
+part-some : (b : Bool) (taken : ℕ) → cond b (taken + 1) 0 ≢ 0 → (b ≡ true) × (cond b (taken + 1) 0 ≡ taken + 1)
+part-some true taken d = (refl, refl)
+part-some false taken d = absurd (d refl)
+
+module _ (format : Format) (n k size : ℕ) (bytes : List ℕ) where
+  abbrev f : Form
+  f = formIn format
+
+  -- a set is next, and no record
+  pub record-absent : setIsNext f k bytes ≡ true → 1 ≡ recordPart format n k size bytes
+  unfolding recordPart recordGoodNext recordTaken
+  record-absent q = rw q
+
+  pub record-next : begins (k ∷ []) bytes ≡ true → setIsNext f k bytes ≡ false → recordIsNext f k bytes ≡ true
+  record-next h q = rw (q, h)
+
+  -- what the record check says of the bytes, where a record is next
+  module _ (next : recordIsNext f k bytes ≡ true) where
+    record-head : (1 ≤ length bytes) × (getD bytes 0 0 ≡ k)
+    record-head = begins-head bytes k (and-right (not (setIsNext f k bytes)) (begins (k ∷ []) bytes) next)
+
+    good-is : recordGoodNext f n k size bytes ≡ recordGood f n (getD bytes 0 0) size bytes
+    unfolding recordGoodNext
+    good-is = rw next (ap (λ (x : ℕ). recordGood f n x size bytes) (sym (record-head .1)))
+
+    pub record-bad : goodSize format n size bytes ≡ 0 → 0 ≡ recordPart format n k size bytes
+    unfolding recordPart
+    record-bad e = rw (good-is ∙ size-bad format n size bytes e)
+
+    pub record-taken : (taken : ℕ) → taken ≡ goodSize format n size bytes → taken ≢ 0 → taken + 1 ≡ recordPart format n k size bytes
+    unfolding recordPart
+    record-taken taken q d =
+        let g = size-good format n size bytes (λ z. d (q ∙ z)) in
+        rw (good-is ∙ g .0, taken-here f k bytes next) (ap (λ (x : ℕ). x + 1) (q ∙ g .1))
+
+  -- a good record lies within the bytes
+  record-within : Lengths format n size → recordGoodNext f n k size bytes ≡ true → recordTaken f k bytes ≤ length bytes
+  unfolding goodSize
+  record-within l e = go (bool-cases (recordIsNext f k bytes))
+    where
+      go : (recordIsNext f k bytes ≡ true) ⊎ (recordIsNext f k bytes ≡ false) → recordTaken f k bytes ≤ length bytes
+      go (inl q) =
+          let s : goodSize format n size bytes ≡ recordSize f bytes = rw (sym (good-is q) ∙ e) in
+          omega (arith, taken-here f k bytes q, s, size-within format n size bytes l (record-head q .0))
+      go (inr q) = omega (arith, taken-none f k bytes q)
+
+  pub set-absent : setIsNext f k bytes ≡ false → 1 ≡ setPart format n k size bytes
+  unfolding setPart setGoodNext setTaken
+  set-absent q = rw q
+
+  module _ (here : setIsNext f k bytes ≡ true) where
+    set-is : setGoodNext f n k size bytes ≡ setGood n (getD bytes 0 0) size bytes
+    unfolding setGoodNext
+    set-is = rw here (ap (λ (x : ℕ). setGood n x size bytes) (sym (set-head f k bytes here .1)))
+
+    pub set-bad : setGood n (getD bytes 0 0) size bytes ≡ false → 0 ≡ setPart format n k size bytes
+    unfolding setPart
+    set-bad e = rw (set-is ∙ e)
+
+    pub set-taken : setGood n (getD bytes 0 0) size bytes ≡ true → 7 ≡ setPart format n k size bytes
+    unfolding setPart
+    set-taken e = rw (set-is ∙ e, set-here f k bytes here)
+
+  -- a good set lies within the bytes
+  set-within : setGoodNext f n k size bytes ≡ true → setTaken f k bytes ≤ length bytes
+  set-within e = go (bool-cases (setIsNext f k bytes))
+    where
+      go : (setIsNext f k bytes ≡ true) ⊎ (setIsNext f k bytes ≡ false) → setTaken f k bytes ≤ length bytes
+      go (inl q) =
+          let start : 1 ≤ length bytes = omega (arith, set-head f k bytes q .0) in
+          omega (arith, set-here f k bytes q, six n size bytes (sym (set-is q) ∙ e) start .0)
+      go (inr q) = omega (arith, set-none f k bytes q)
+
 -- ---- a turn
+
+behind-both : (f : Form) (k : ℕ) (bytes : List ℕ)
+    → behindKeyword f k bytes ≡ drop (setTaken f k (drop (recordTaken f k bytes) bytes)) (drop (recordTaken f k bytes) bytes)
+unfolding behindKeyword
+behind-both f k bytes = refl
 
 module _ (format : Format) (lengths body : List ℕ) (count size : ℕ) (ready : KeywordLengths format count size lengths) where
   -- what is left of the check, from keyword k and the place `at` on
@@ -83,49 +168,96 @@ module _ (format : Format) (lengths body : List ℕ) (count size : ℕ) (ready :
   left-all = sym (good-is-from (formIn format) (take count lengths) size body)
 
   module _ (k at : ℕ) (h : k < count) where
-    here : drop k (take count lengths) ≡ getD lengths k 0 ∷ drop (k + 1) (take count lengths)
+    abbrev n : ℕ
+    n = getD lengths k 0
+
+    abbrev form : Form
+    form = formIn format
+
+    abbrev rest : List ℕ
+    rest = drop at body
+
+    here : drop k (take count lengths) ≡ n ∷ drop (k + 1) (take count lengths)
     here =
         let l : k < length (take count lengths) = rw (length-take-le count lengths (ready .room)) h in
         drop-cons (take count lengths) k 0 l ∙ rw (getD-take count lengths k 0 h, add-one)
 
-    pub turn-absent : begins (k ∷ []) (drop at body) ≡ false → left (k + 1) at ≡ left k at
-    turn-absent e = sym (rw (here, add-one) (good-absent (formIn format) k (getD lengths k 0) (drop (suc k) (take count lengths)) size (drop at body) e))
+    pub turn-length : Lengths format n size
+    turn-length = record { fields = ready .fields; positive = ready .each k h .0; short = ready .each k h .1; fit = ready .fit }
 
-    module _ (e : begins (k ∷ []) (drop at body) ≡ true) where
-      pub turn-length : Lengths format (getD lengths k 0) size
-      turn-length = record { fields = ready .fields; positive = ready .each k h .0; short = ready .each k h .1; fit = ready .fit }
+    pub turn-absent : begins (k ∷ []) rest ≡ false → left (k + 1) at ≡ left k at
+    turn-absent e =
+        sym (rw (here, add-one)
+        (good-absent form (fields-good format (ready .fields)) k n (drop (suc k) (take count lengths)) size rest (ready .each k h .0) (ready .fit) e))
 
-      step : left k at
-          ≡ (recordGood (formIn format) (getD lengths k 0) k size (drop at body)
-          && goodFrom (formIn format) (k + 1) (drop (k + 1) (take count lengths)) size (drop (recordSize (formIn format) (drop at body)) (drop at body)))
-      step =
-          let rest = drop (suc k) (take count lengths) in
-          let good = fields-good format (ready .fields) in
-          rw (here, add-one) (good-here (formIn format) good k (getD lengths k 0) rest size (drop at body) (ready .each k h .0) (ready .fit) e)
+    -- behind the record
+    abbrev after : List ℕ
+    after = drop (recordTaken form k rest) rest
 
-      pub turn-start : 1 ≤ length (take (length body - at) (drop at body))
-      turn-start = rw (behind body at) (begins-head (drop at body) k e .0)
+    step : left k at
+        ≡ (recordGoodNext form n k size rest
+        && (setGoodNext form n k size after && goodFrom form (k + 1) (drop (k + 1) (take count lengths)) size (behindKeyword form k rest)))
+    step =
+        rw (here, add-one)
+        (good-step form (fields-good format (ready .fields)) k n (drop (suc k) (take count lengths)) size rest (ready .each k h .0) (ready .fit))
 
-      -- what the record check of the part from `at` on says
-      module _ (taken : ℕ) (q : taken ≡ goodSize format (getD lengths k 0) size (take (length body - at) (drop at body))) where
-        is : taken ≡ goodSize format (getD lengths k 0) size (drop at body)
-        is = q ∙ ap (goodSize format (getD lengths k 0) size) (behind body at)
+    -- what the record's part says
+    module _ (first : ℕ) (q : first ≡ recordPart format n k size rest) where
+      pub turn-bad : first ≡ 0 → false ≡ left k at
+      unfolding recordPart
+      turn-bad z = sym (step ∙ rw (part-zero (recordGoodNext form n k size rest) (recordTaken form k rest) (sym q ∙ z)))
 
-        number : recordGood (formIn format) (getD lengths k 0) k size (drop at body)
-            ≡ recordGood (formIn format) (getD lengths k 0) (getD (drop at body) 0 0) size (drop at body)
-        number = ap (λ (x : ℕ). recordGood (formIn format) (getD lengths k 0) x size (drop at body)) (sym (begins-head (drop at body) k e .1))
+      module _ (d : first ≢ 0) where
+        fine : (recordGoodNext form n k size rest ≡ true) × (recordPart format n k size rest ≡ recordTaken form k rest + 1)
+        unfolding recordPart
+        fine = part-some (recordGoodNext form n k size rest) (recordTaken form k rest) (λ z. d (q ∙ z))
 
-        pub turn-bad : taken ≡ 0 → false ≡ left k at
-        turn-bad z = sym (step ∙ rw (number, size-bad format (getD lengths k 0) size (drop at body) (sym is ∙ z)))
+        abbrev place : ℕ
+        place = at + (first - 1)
 
-        pub turn-good : taken ≢ 0 → left (k + 1) (at + taken) ≡ left k at
-        turn-good d =
-            let g = size-good format (getD lengths k 0) size (drop at body) (λ z. d (is ∙ z)) in
-            sym (step ∙ rw (number, g .0, drop-drop, ← (is ∙ g .1)))
+        place-is : place ≡ at + recordTaken form k rest
+        place-is = omega (arith, q, fine .1)
 
-        pub turn-within : at ≤ length body → at + taken ≤ length body
-        turn-within l =
-            omega (arith, is, length-drop at body, size-within format (getD lengths k 0) size (drop at body) turn-length (begins-head (drop at body) k e .0))
+        pub turn-within : at ≤ length body → place ≤ length body
+        turn-within l = omega (arith, place-is, length-drop at body, record-within format n k size rest turn-length (fine .0))
+
+        after-is : after ≡ drop place body
+        after-is = drop-drop (recordTaken form k rest) at body ∙ ap (λ (x : ℕ). drop x body) (sym place-is)
+
+        -- what the set's part says
+        module _ (second : ℕ) (r : second ≡ setPart format n k size (drop place body)) where
+          pub turn-set-bad : second ≡ 0 → false ≡ left k at
+          unfolding setPart
+          turn-set-bad z =
+              let b : setGoodNext form n k size after ≡ false =
+              ap (setGoodNext form n k size) after-is
+              ∙ part-zero (setGoodNext form n k size (drop place body)) (setTaken form k (drop place body)) (sym r ∙ z)
+              in
+              sym (step ∙ rw (fine .0, b))
+
+          module _ (e : second ≢ 0) where
+            set-fine : (setGoodNext form n k size (drop place body) ≡ true)
+                × (setPart format n k size (drop place body) ≡ setTaken form k (drop place body) + 1)
+            unfolding setPart
+            set-fine = part-some (setGoodNext form n k size (drop place body)) (setTaken form k (drop place body)) (λ z. e (r ∙ z))
+
+            -- behind the set
+            end-is : place + (second - 1) ≡ place + setTaken form k (drop place body)
+            end-is = omega (arith, r, set-fine .1)
+
+            pub turn-end : at ≤ length body → place + (second - 1) ≤ length body
+            turn-end l = omega (arith, end-is, turn-within l, length-drop place body, set-within format n k size (drop place body) (set-fine .0))
+
+            pub turn-good : left (k + 1) (place + (second - 1)) ≡ left k at
+            turn-good =
+                let b : setGoodNext form n k size after ≡ true = ap (setGoodNext form n k size) after-is ∙ set-fine .0 in
+                let c : behindKeyword form k rest ≡ drop (place + (second - 1)) body =
+                behind-both form k rest
+                ∙ ap (λ (l : List ℕ). drop (setTaken form k l) l) after-is
+                ∙ drop-drop (setTaken form k (drop place body)) place body
+                ∙ ap (λ (x : ℕ). drop x body) (sym end-is)
+                in
+                sym (step ∙ rw (fine .0, b, c))
 
   pub left-end : (k at : ℕ) → count ≤ k → at ≤ length body → eqb at (length body) ≡ left k at
   left-end k at h l =

@@ -8,12 +8,20 @@ use lib.Dec.{eqb, leb}
 use Rattle.spec.specs.Bytes.{fieldAt, fieldsOf, rising, every}
 use Rattle.spec.specs.declared.Format.{Format}
 use Rattle.spec.specs.Form.{formIn}
-use Rattle.spec.specs.Records.{reach, recordSize}
-use Rattle.bodies.specs.Steps.{recordGood}
+use Rattle.spec.specs.Records.{reach, recordSize, recordTaken, setTaken}
+use Rattle.bodies.specs.Steps.{recordGood, recordGoodNext, setGoodNext}
 
 -- The size of the good record that the bytes start with, for a keyword of length n and a chunk of length `size`; 0 if they start with none.
 unfoldable pub goodSize : Format → ℕ → ℕ → List ℕ → ℕ
 goodSize format n size bytes = cond (recordGood (formIn format) n (getD bytes 0 0) size bytes) (recordSize (formIn format) bytes) 0
+
+-- One more than the bytes that keyword k's record takes, which is 1 where it is not next; 0 where it is not good.
+unfoldable pub recordPart : Format → ℕ → ℕ → ℕ → List ℕ → ℕ
+recordPart format n k size bytes = cond (recordGoodNext (formIn format) n k size bytes) (recordTaken (formIn format) k bytes + 1) 0
+
+-- The same of its set.
+unfoldable pub setPart : Format → ℕ → ℕ → ℕ → List ℕ → ℕ
+setPart format n k size bytes = cond (setGoodNext (formIn format) n k size bytes) (setTaken (formIn format) k bytes + 1) 0
 
 -- Offsets rise and leave room for the n bytes of the keyword.
 unfoldable pub offsetsInRange : ℕ → ℕ → List ℕ → Bool

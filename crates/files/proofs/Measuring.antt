@@ -1,9 +1,9 @@
 -- The walk over a file's places: before place j, what the places from j on still add, and still write. Assumes nothing.
 use mathlib.Core.Path.{_≡_, refl, sym, ap, _∙_}
 use mathlib.Core.Logic.{_⊎_, inl, inr}
-use mathlib.Core.Bool.{Bool, true, false, _&&_, _||_, not, and-false, true≢false}
+use mathlib.Core.Bool.{Bool, true, false, _&&_, _||_, not, cond, and-false, true≢false}
 use mathlib.Core.List.{List, [], _∷_}
-use Prim.Native.Nat.{ℕ, zero, suc, _+_, _≤_, _<_, min}
+use Prim.Native.Nat.{ℕ, zero, suc, _+_, _-_, _≤_, _<_, min}
 use native.Mathlib.Nat.{zero-add}
 use native.Mathlib.Numerals.{add-one}
 use native.Mathlib.Omega.{arith}
@@ -11,15 +11,26 @@ use borrow.Author.Tests.{lt-ltb, le-ltb, lt-leb, le-leb}
 use lib.Dec.{leb, ltb}
 use lib.ListN.{length, take, drop, getD, set, drop-of-length-le, length-drop}
 use lib.Seq.{drop-cons}
+use Rattle.spec.specs.declared.Opened.{Opened}
 use Rattle.spec.specs.Bytes.{contains, positionOf, every, sum, written}
 use Rattle.spec.specs.Outcome.{firstOf}
 use Rattle.spec.specs.Recipes.{allButLast, innerLong, sizesIn, fileCode}
 use Rattle.spec.proofs.Tests.{le-or-lt}
 use Rattle.spec.proofs.EntryLaws.{contains-position}
-use Rattle.files.specs.Measures.{innerShort, entriesIn, Measured}
+use Rattle.files.specs.Measures.{leastIn, innerShort, entriesIn, Measured}
 use Rattle.files.proofs.Slots.{Tested, filled, filled-start, filled-on, filled-end, filled-missing}
 
 -- ---- inner chunks
+
+-- what they must have
+module _ (opened : Opened) where
+  pub least-none : opened .format .sets ≡ true → 0 ≡ leastIn opened
+  unfolding leastIn
+  least-none e = ap (λ (b : Bool). cond b 0 (opened .longest - 1)) (sym e)
+
+  pub least-longest : opened .format .sets ≡ false → opened .longest - 1 ≡ leastIn opened
+  unfolding leastIn
+  least-longest e = ap (λ (b : Bool). cond b 0 (opened .longest - 1)) (sym e)
 
 pub inner-first : (j n size innerLeast : ℕ) → j ≡ 0 → false ≡ innerShort j n size innerLeast
 inner-first j n size innerLeast e = rw e

@@ -2,9 +2,10 @@
 use mathlib.Core.Path.{_≡_}
 use mathlib.Core.Bool.{Bool, false, _&&_, not, cond}
 use mathlib.Core.List.{List, [], _∷_}
-use Prim.Native.Nat.{ℕ, suc, _<_, min}
+use Prim.Native.Nat.{ℕ, suc, _-_, _<_, min}
 use lib.Dec.{ltb}
 use lib.ListN.{length, take, getD}
+use Rattle.spec.specs.declared.Opened.{Opened}
 use Rattle.spec.specs.Bytes.{contains, positionOf, every, sum, written}
 use Rattle.spec.specs.Directory.{sizeAt}
 use Rattle.spec.specs.Recipes.{innerLong, sizesIn}
@@ -16,6 +17,10 @@ keysAt index start count = keysFrom index start 32 count
 
 abbrev pub sizesAt : List ℕ → ℕ → ℕ → ℕ
 sizesAt index start k = sizeAt (layoutOf start 32 20 24 28) index k
+
+-- What an inner chunk must have, by an opened index: nothing where its format has sets, else the longest keyword's length minus 1.
+unfoldable pub leastIn : Opened → ℕ
+leastIn opened = cond (opened .format .sets) 0 (opened .longest - 1)
 
 -- Place j of n is neither first nor last, and its chunk is shorter than is due.
 abbrev pub innerShort : ℕ → ℕ → ℕ → ℕ → Bool

@@ -1,15 +1,15 @@
-// A file against a directory: a fingerprint that is not there, a file that is too long, an inner chunk that is too short (document 01,
-// refusals 15, 16, 17). A file is the bytes of its fingerprints. Every place is looked up once; the entries of the first places are left
-// in slots, so that who walks the file next need not look them up again.
+// A file against a directory: a fingerprint that is not there, a file that is too long, an inner chunk that is too short for the index's format
+// (document 01, refusals 15, 16, 17). A file is the bytes of its fingerprints. Every place is looked up once; the entries of the first places
+// are left in slots, so that who walks the file next need not look them up again.
 ghost use mathlib.Core.Path.{_≡_};
 ghost use mathlib.Core.List.{[], _∷_};
-ghost use Prim.Native.Nat.{_+_, _-_, _*_, _≤_, _<_, min};
+ghost use Prim.Native.Nat.{_+_, _*_, _≤_, _<_, min};
 ghost use lib.ListN.{length, take, set};
 ghost use Rattle.spec.specs.Bytes.{part, positionOf, written};
 ghost use Rattle.spec.specs.Outcome.{firstOf};
 ghost use Rattle.spec.specs.Recipes.{named, fileCode};
 ghost use Rattle.directory.specs.Chains.{Lies, Chained};
-ghost use Rattle.files.specs.Measures.{keysAt, sizesAt, innerShort, entriesIn, Measured};
+ghost use Rattle.files.specs.Measures.{keysAt, sizesAt, leastIn, innerShort, entriesIn, Measured};
 
 // The entry of fingerprint j of a file; the number of entries where there is none.
 pub fn entry_of(file: &[u8], j: usize, index: &[u8], opened: spec::Opened, chains: &[u32]) -> usize
@@ -60,9 +60,13 @@ fn capped(total: usize, size: usize) -> usize
 
 // The least length of a chunk that is neither first nor last in its file.
 fn inner_least(opened: spec::Opened) -> usize
-    ensures { λ r. ⌜ r ≡ (opened .longest) - 1 ⌝ }
+    ensures { λ r. ⌜ r ≡ leastIn opened ⌝ }
 {
+    let sets = opened.format.sets;
     let longest = opened.longest;
+    if sets {
+        return 0;
+    }
     if longest == 0 {
         return 0;
     }
@@ -104,7 +108,7 @@ fn measure_file(
     requires { ⌜ Lies (now index) (opened .directory) 32 (opened .entries) ⌝ }
     requires { ⌜ Chained (keysAt (now index) (opened .directory) (opened .entries)) 0 (now chains) ⌝ }
     ensures { λ r. ⌜ Measured (keysAt (now (index .entry)) (opened .directory) (opened .entries)) (sizesAt (now (index .entry)) (opened .directory))
-        ((opened .longest) - 1) (named (now (file .entry))) (now (slots .entry)) (now (slots .exit)) (r .missing) (r .total) (r .short) ⌝ }
+        (leastIn opened) (named (now (file .entry))) (now (slots .entry)) (now (slots .exit)) (r .missing) (r .total) (r .short) ⌝ }
 {
     let least = inner_least(opened);
     let count = opened.entries;
@@ -162,7 +166,7 @@ pub fn file_code(
     requires { ⌜ Lies (now index) (opened .directory) 32 (opened .entries) ⌝ }
     requires { ⌜ Chained (keysAt (now index) (opened .directory) (opened .entries)) 0 (now chains) ⌝ }
     ensures { λ r. ⌜ (r ≡ fileCode (keysAt (now (index .entry)) (opened .directory) (opened .entries)) (sizesAt (now (index .entry)) (opened .directory))
-        ((opened .longest) - 1) (named (now (file .entry))))
+        (leastIn opened) (named (now (file .entry))))
         × (now (slots .exit) ≡ written (now (slots .entry)) (take (length (now (slots .entry)))
         (entriesIn (keysAt (now (index .entry)) (opened .directory) (opened .entries)) (named (now (file .entry)))))) ⌝ }
 {

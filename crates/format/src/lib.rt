@@ -1,6 +1,7 @@
-// The format of a match index, by its mark (document 01, "Notes file"). Every reader takes the width of a field and the longest chunk from here.
+// The format of a match index, by its mark (document 01, "Notes file"). Every reader takes the width of a field, the longest chunk and whether there
+// are sets from here.
 ghost use mathlib.Core.Path.{_≡_};
-ghost use Rattle.spec.specs.Form.{form1, newest, formOf, formatOf};
+ghost use Rattle.spec.specs.Form.{form1, form2, newest, formOf, formatOf};
 
 // Document 01's format: mark 44 4D 31 0A, fields of 2 bytes, chunks of at most 65,535 bytes.
 fn first() -> spec::Format
@@ -10,17 +11,32 @@ fn first() -> spec::Format
         number: 1,
         width: 2,
         longest: 65535,
+        sets: false,
     }
 }
 
-// The format that a scan writes, request #105's: mark 44 4D 32 0A, fields of 3 bytes, chunks of at most 1,048,576 bytes.
-fn latest() -> spec::Format
-    ensures { λ r. ⌜ r ≡ formatOf newest ⌝ }
+// Request #105's format: mark 44 4D 32 0A, fields of 3 bytes, chunks of at most 1,048,576 bytes.
+fn second() -> spec::Format
+    ensures { λ r. ⌜ r ≡ formatOf form2 ⌝ }
 {
     spec::Format {
         number: 2,
         width: 3,
         longest: 1048576,
+        sets: false,
+    }
+}
+
+// The format that a scan writes, request #108's: mark 44 4D 33 0A, the fields and chunks of the second, and sets of inner starts.
+fn latest() -> spec::Format
+    ensures { λ r. ⌜ r ≡ formatOf newest ⌝ }
+{
+    let fields = second();
+    spec::Format {
+        number: 3,
+        width: fields.width,
+        longest: fields.longest,
+        sets: true,
     }
 }
 
@@ -31,9 +47,13 @@ pub fn of(index: &[u8]) -> spec::Format
     if index.len() < 4 {
         return latest();
     }
-    let mark: [u8; 4] = [0x44, 0x4D, 0x31, 0x0A];
-    if field::equal(&index[..4], &mark) {
+    let first_mark: [u8; 4] = [0x44, 0x4D, 0x31, 0x0A];
+    if field::equal(&index[..4], &first_mark) {
         return first();
+    }
+    let second_mark: [u8; 4] = [0x44, 0x4D, 0x32, 0x0A];
+    if field::equal(&index[..4], &second_mark) {
+        return second();
     }
     latest()
 }

@@ -12,7 +12,7 @@ use Rattle.spec.specs.Bytes.{fieldAt, same, each}
 use Rattle.spec.specs.declared.Format.{Format}
 use Rattle.spec.specs.Directory.{Layout, directoryEnd, entryField, sizeAt, offsetAt, lengthAt, entriesCode}
 use Rattle.spec.specs.Store.{chunkCount}
-use Rattle.spec.specs.Form.{Form, form1, newest, formOf, formatOf, formIn}
+use Rattle.spec.specs.Form.{Form, form1, form2, newest, formOf, formatOf, formIn}
 use Rattle.spec.specs.Records.{goodBody}
 use Rattle.spec.specs.Index.{indexLayout, indexKeys, bodyAt, goodAt, allGood, headerCode, directoryCode}
 use Rattle.spec.proofs.Tests.{false-of}
@@ -30,11 +30,12 @@ use Rattle.index.specs.Stages.{Headed, Laid, Lens}
 -- the digit of a mark
 digit-small : (index : List ℕ) → formatOf (formOf index) .number ≤ 9
 unfolding formOf
-digit-small index = go (same (take 4 index) (form1 .mark))
+digit-small index = go (same (take 4 index) (form1 .mark)) (same (take 4 index) (form2 .mark))
   where
-    go : (b : Bool) → formatOf (cond b form1 newest) .number ≤ 9
-    go true = omega arith
-    go false = omega arith
+    go : (b c : Bool) → formatOf (cond b form1 (cond c form2 newest)) .number ≤ 9
+    go true c = omega arith
+    go false true = omega arith
+    go false false = omega arith
 
 module _ (index : List ℕ) (format : Format) (is : format ≡ formatOf (formOf index)) where
   pub form-is : formIn format ≡ formOf index

@@ -1,14 +1,12 @@
--- The moves of a scan, chunk by chunk, and the chunks' marks. Assumes nothing.
+-- The moves of a scan, chunk by chunk. Assumes nothing.
 use mathlib.Core.Path.{_≡_, sym, ap, _∙_}
-use mathlib.Core.Logic.{⊎-elim}
 use mathlib.Core.Bool.{Bool, true, false, cond}
 use mathlib.Core.List.{List, [], _∷_, map}
 use Prim.Native.Nat.{ℕ, _+_, _-_, _%_, _≤_, _<_}
 use native.Mathlib.Nat.{sub-zero}
 use native.Mathlib.Numerals.{add-one}
 use native.Mathlib.Omega.{arith}
-use lib.ListN.{length, getD, set}
-use lib.Seq.{getD-set-same, getD-set-other}
+use lib.ListN.{length, getD}
 use lib.Dec.{eqb}
 use Rattle.spec.specs.Bytes.{sum}
 use Rattle.spec.specs.Keywords.{flagOf, folded, foldedKeywords}
@@ -17,10 +15,9 @@ use Rattle.spec.specs.Trie.{movesOf, movesOfAll, scanMoves}
 use Rattle.spec.proofs.Each.{each-step}
 use Rattle.spec.proofs.Folding.{folded-length}
 use Rattle.spec.proofs.Tabulated.{tabulated, map-tabulated, tabulated-same}
-use Rattle.spec.proofs.Tests.{le-or-lt}
 use Rattle.trie.proofs.Walks as walks
-use Rattle.chunkwalk.specs.Marks.{chunkMoves, markOf, walkedMoves}
-use Rattle.index_writer.specs.Layout.{Marked, AllUsable, AllOdd, movesWritten}
+use Rattle.chunkwalk.specs.Marks.{chunkMoves, walkedMoves}
+use Rattle.index_writer.specs.Layout.{AllOdd, movesWritten}
 
 -- the logs (b) are as long as they were (a)
 pub record Lengths (a₀ a₁ a₂ a₃ b₀ b₁ b₂ b₃ : List ℕ) : Type 0 where
@@ -77,17 +74,3 @@ module _ (list store : List ℕ) where
   odd-moves marks h odd =
       ap sum (tabulated-same (writtenAt marks) movesAt (chunkCount store) (λ k l. rw (odd k (omega arith))))
       ∙ rw (← sub-zero (chunkCount store)) moves-all
-
-  pub odd-usable : (marks : List ℕ) → chunkCount store ≤ length marks → AllOdd marks → AllUsable list store marks
-  odd-usable marks h odd j l z = let x : ⊥ = omega (arith, odd j (omega arith)) in absurd x
-
-  pub marked-usable : (marks : List ℕ) → Marked list store marks (chunkCount store) → AllUsable list store marks
-  marked-usable marks m j l z = m j l
-
-  -- a mark more
-  pub marked-more : (marks : List ℕ) (k x : ℕ) → k < length marks → x ≡ markOf list (chunkAt store k) → Marked list store marks k
-      → Marked list store (set marks k x) (k + 1)
-  marked-more marks k x h e m j l = ⊎-elim
-      (λ (q : k ≤ j). let z : j ≡ k = omega arith in rw z (getD-set-same marks k x 0 h ∙ e))
-      (λ (q : j < k). getD-set-other marks k j x 0 (omega arith) ∙ m j q)
-      (le-or-lt k j)

@@ -103,13 +103,13 @@ module _ (list store : List ℕ) (good : storeCode store ≡ 0) where
     pub body-short : (k : ℕ) → k < chunkCount store → length (chunkAt store k) ≤ 1048576
     body-short k l = omega (arith, chunk-length store (store-good store good) k l, store-size-most store (store-good store good) k l)
 
-    bodies-short : (n k : ℕ) → n + k ≡ chunkCount store → length (bodiesFrom newest list store k) ≤ 50331824 * n
+    bodies-short : (n k : ℕ) → n + k ≡ chunkCount store → length (bodiesFrom newest list store k) ≤ 50331920 * n
     bodies-short zero k e = omega (arith, ap length (bodies-end newest list store k (omega arith)))
     bodies-short (suc n) k e =
         let one = body-few list (chunkAt store k) accept (body-short k (omega arith)) in
         omega (arith, bodies-length newest list store k (omega arith), one, bodies-short n (k + 1) (omega arith))
 
-    pub bodies-most : length (bodiesFrom newest list store 0) ≤ 50331824 * chunkCount store
+    pub bodies-most : length (bodiesFrom newest list store 0) ≤ 50331920 * chunkCount store
     bodies-most = bodies-short (chunkCount store) 0 (omega arith)
 
 -- ---- the index from its four writes

@@ -24,6 +24,10 @@ unfoldable pub tailBytes : Form → List ℕ → List ℕ → List ℕ
 tailBytes f list store =
     directoryBytes (8 + length list + 32 * chunkCount store) (entriesFrom f list store 0) ++ bodiesFrom f list store 0
 
+-- The chunks' marks, in store order.
+unfoldable pub marksOf : List ℕ → List ℕ → List ℕ
+marksOf list store = each (λ j. markOf list (chunkAt store j) ∷ []) 0 (chunkCount store)
+
 -- The moves of the chunks that are walked when the bodies are written, by their marks.
 unfoldable pub movesWritten : List ℕ → List ℕ → List ℕ → ℕ
 movesWritten list store marks = sum (each (λ j. walkedMoves list (chunkAt store j) (getD marks j 0) ∷ []) 0 (chunkCount store))
@@ -39,10 +43,6 @@ pub record Walks (list : List ℕ) (words : Keywords) (store : List ℕ) (count 
 pub record CanPutEntry (buffer : List ℕ) (at : ℕ) (key : List ℕ) : Type 0 where
   pub long : length key ≡ 20
   pub room : at + 32 ≤ length buffer
-
--- The marks of the first n chunks are kept.
-abbrev pub Marked : List ℕ → List ℕ → List ℕ → ℕ → Type 0
-Marked list store marks n = (j : ℕ) → j < n → getD marks j 0 ≡ markOf list (chunkAt store j)
 
 -- A writer may go by the marks.
 abbrev pub AllUsable : List ℕ → List ℕ → List ℕ → Type 0

@@ -7,13 +7,12 @@ ghost use lib.ListN.{length};
 ghost use Rattle.spec.specs.Bytes.{splice};
 ghost use Rattle.spec.specs.Form.{newest};
 ghost use Rattle.spec.specs.Index.{entryBytes};
-ghost use Rattle.spec.specs.Store.{chunkCount};
 ghost use Rattle.spec.specs.Scan.{scanIndex};
 ghost use Rattle.spec.specs.Trie.{scanMoves};
-ghost use Rattle.index_writer.specs.Layout.{bodiesFrom, tailBytes, movesWritten, Marked, CanMeasure, CanPutEntry, CanPutEntries};
+ghost use Rattle.index_writer.specs.Layout.{bodiesFrom, tailBytes, marksOf, movesWritten, CanMeasure, CanPutEntry, CanPutEntries};
 
 // The mark of a match index.
-const MARK: [u8; 4] = [0x44, 0x4D, 0x32, 0x0A];
+const MARK: [u8; 4] = [0x44, 0x4D, 0x33, 0x0A];
 
 // A length of bytes, and the moves of the walks.
 pub struct Sum {
@@ -23,7 +22,7 @@ pub struct Sum {
 
 // ---- measuring
 
-// Walks every chunk: the length of all bodies, the moves, and each chunk's mark.
+// Walks every chunk: the length of all bodies, the moves, and each chunk's mark, in the buffer's first numbers.
 pub fn measure_bodies(
     list: &[u8],
     words: keywords::Keywords,
@@ -41,7 +40,7 @@ pub fn measure_bodies(
     requires { ⌜ CanMeasure (now list) words (now store) count (now table) (now ends) (now tails) (now log) (now run1) (now run2) (now run3) (now marks) ⌝ }
     ensures { λ r. ⌜ (r .size ≡ length (bodiesFrom newest (now (list .entry)) (now (store .entry)) 0))
         × (r .moves ≡ scanMoves (now (list .entry)) (now (store .entry)))
-        × Marked (now (list .entry)) (now (store .entry)) (now (marks .exit)) (chunkCount (now (store .entry))) ⌝ }
+        × (now (marks .exit) ≡ splice (now (marks .entry)) 0 (marksOf (now (list .entry)) (now (store .entry)))) ⌝ }
 {
     let mut size: usize = 0;
     let mut moves: u64 = 0;

@@ -10,9 +10,9 @@ use lib.ListN.{length, length-append}
 use lib.Dec.{eqb}
 use lib.Pow.{shr-le, shr-shr}
 use lib.Count.{trailingZeros, under, ones, ones-step, ones-le}
-use Rattle.spec.specs.Bytes.{each, keep}
+use Rattle.spec.specs.Bytes.{each, keep, inSet}
 use Rattle.spec.specs.Table.{setOf}
-use Rattle.spec.proofs.Sets.{hasBit, has-set, has-above}
+use Rattle.spec.proofs.Sets.{has-set, has-above}
 use Rattle.spec.proofs.Each.{each-match, each-append, each-none}
 use Rattle.listing.specs.Streams.{bits}
 
@@ -67,16 +67,16 @@ bits-length (suc d) from x h =
     go (suc (suc r)) l = let z : ⊥ = omega arith in absurd z
 
 -- the members by their tests
-bits-each : (d from x : ℕ) → bits d from x ≡ each (λ s. keep (hasBit x s) (from + s)) 0 d
-unfolding bits hasBit
+bits-each : (d from x : ℕ) → bits d from x ≡ each (λ s. keep (inSet x s) (from + s)) 0 d
+unfolding bits inSet
 bits-each zero from x = refl
 bits-each (suc d) from x =
     ap₂ {C = List ℕ} (λ a b. a ++ b) first (bits-each d (suc from) (x / 2) ∙ each-match _ _ 0 1 d (λ p l. step p))
   where
-    first : keep (eqb (x % 2) 1) from ≡ keep (hasBit x 0) (from + 0)
+    first : keep (eqb (x % 2) 1) from ≡ keep (inSet x 0) (from + 0)
     first = rw (add-zero, div-one)
 
-    step : (p : ℕ) → keep (hasBit (x / 2) (0 + p)) (suc from + (0 + p)) ≡ keep (hasBit x (1 + p)) (from + (1 + p))
+    step : (p : ℕ) → keep (inSet (x / 2) (0 + p)) (suc from + (0 + p)) ≡ keep (inSet x (1 + p)) (from + (1 + p))
     step p =
         let n : suc from + (0 + p) ≡ from + (1 + p) = omega arith in
         let q : x / 2 / 2 ^ p ≡ x / 2 ^ (1 + p) = shr-shr x 1 p in
@@ -86,8 +86,8 @@ bits-each (suc d) from x =
 pub bits-set : (t : ℕ → Bool) (n d from : ℕ) → n ≤ d → bits d from (setOf t n) ≡ each (λ s. keep (t s) (from + s)) 0 n
 bits-set t n d from h =
     let e : d ≡ n + (d - n) = omega arith in
-    bits-each d from (setOf t n) ∙ ap (each (λ s. keep (hasBit (setOf t n) s) (from + s)) 0) e ∙ each-append _ 0 n (d - n)
-    ∙ rw (each-none (λ s. keep (hasBit (setOf t n) s) (from + s)) (0 + n) (d - n) (λ p u v. rw (has-above t n p (omega arith))), append-nil)
+    bits-each d from (setOf t n) ∙ ap (each (λ s. keep (inSet (setOf t n) s) (from + s)) 0) e ∙ each-append _ 0 n (d - n)
+    ∙ rw (each-none (λ s. keep (inSet (setOf t n) s) (from + s)) (0 + n) (d - n) (λ p u v. rw (has-above t n p (omega arith))), append-nil)
     (each-match _ _ 0 0 n (λ p l. rw (has-set t n (0 + p) (omega arith))))
 
 -- a set that is not empty has its lowest member among its digits

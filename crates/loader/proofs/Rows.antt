@@ -1,22 +1,25 @@
 -- The row of one record. What is read through a part of the index is what the index has there, so each kind's row is a matter of
 -- places; the record's size, known to be there, gives the room for every read. Assumes nothing.
-use mathlib.Core.Path.{_≡_, refl, sym, ap, _∙_, subst}
+use mathlib.Core.Path.{_≡_, refl, sym, ap, ap₂, _∙_, subst}
 use mathlib.Core.Logic.{_≢_, _⊎_, inl, inr}
-use mathlib.Core.Bool.{true, false, and-true}
+use mathlib.Core.Bool.{Bool, true, false, _&&_, cond, and-true, and-false}
 use mathlib.Core.List.{List, [], _∷_}
 use Prim.Native.Nat.{ℕ, zero, suc, _+_, _-_, _*_, _/_, _%_, _≤_, _<_}
-use native.Mathlib.Nat.{add-zero, mul-suc}
+use native.Mathlib.Nat.{add-zero, zero-add, mul-suc}
 use native.Mathlib.Omega.{arith}
 use lib.Dec.{eqb}
 use lib.ListN.{length, take, drop, getD, length-drop}
 use lib.Seq.{length-take-le, take-take, drop-drop, getD-take, getD-drop}
 use Rattle.spec.specs.Bytes.{part, leValue, fieldAt, fieldsOf, begins}
 use Rattle.spec.specs.Form.{Form}
-use Rattle.spec.specs.Records.{MatchRecord, readOffsets, readRecord, recordSize}
-use Rattle.spec.proofs.Tests.{eqb-same, eqb-ne, cond-elim, bool-cases}
+use Rattle.spec.specs.Records.{MatchRecord, emptyRecord, withSet, readOffsets, readRecord, recordSize}
+use Rattle.spec.specs.Records.{setIsNext, recordIsNext, recordTaken, setTaken, readSet, readKeyword}
+use Rattle.spec.proofs.Tests.{le-or-lt, leb-true, leb-false, eqb-same, eqb-ne, cond-elim, bool-cases}
+use Rattle.spec.proofs.Begins.{begins-short}
+use Rattle.spec.proofs.RecordLaws.{bool-ext, eq-of}
 use Rattle.spec.proofs.Splices.{drop-take}
 use Rattle.spec.proofs.FieldLists.{length-fieldsOf}
-use Rattle.loader.specs.Loaded.{recordNext, sizeNext, Row, rowAt}
+use Rattle.loader.specs.Loaded.{behindRecord, keywordTaken, Row, rowAt, rowEnd, setAt}
 
 -- ---- parts of a list
 
@@ -81,11 +84,11 @@ module _ (f : Form) (bytes : List ℕ) where
   unfolding recordSize
   size-three h i j = rw (eqb-ne kind 0 h, eqb-ne kind 1 i, eqb-ne kind 2 j)
 
-  read-tiny : kind ≡ 0 → readRecord f bytes ≡ record { prefix = getD bytes 2 0 % f .tinyStep; suffix = getD bytes 2 0 / f .tinyStep; offsets = [] }
+  read-tiny : kind ≡ 0 → readRecord f bytes ≡ record { prefix = getD bytes 2 0 % f .tinyStep; suffix = getD bytes 2 0 / f .tinyStep; offsets = []; inner = 0 }
   unfolding readRecord
   read-tiny e = rw e
 
-  read-full : kind ≢ 0 → readRecord f bytes ≡ record { prefix = getD bytes 2 0; suffix = getD bytes 3 0; offsets = readOffsets f bytes }
+  read-full : kind ≢ 0 → readRecord f bytes ≡ record { prefix = getD bytes 2 0; suffix = getD bytes 3 0; offsets = readOffsets f bytes; inner = 0 }
   unfolding readRecord
   read-full h = rw (eqb-ne kind 0 h)
 
@@ -231,53 +234,265 @@ module _ (f : Form) (index : List ℕ) (at len : ℕ) (inside : at + len ≤ len
       go (suc (suc zero)) e count z = row-so (row-two (λ q. omega arith) e)
       go (suc (suc (suc n))) e count z = row-so (row-three (λ q. omega arith) (λ q. omega arith) (λ q. omega arith) _ refl)
 
--- ---- the row of the next keyword
+-- ---- the next keyword
 
-module _ (f : Form) (index : List ℕ) (at len k : ℕ) (inside : at + len ≤ length index) where
-  -- its number is not next
-  pub row-absent : begins (k ∷ []) (part index at len) ≡ false
-      → RowAt index (f .width) at (0 ∷ 0 ∷ at ∷ 0 ∷ []) (recordNext f k (part index at len)) (sizeNext f k (part index at len))
-  unfolding recordNext sizeNext fieldsOf
-  row-absent e = rw e (record { holds = record { prefix = refl; suffix = refl; offsets = refl; inside = omega arith; many = refl }; ends = omega arith })
+module _ (index : List ℕ) (at len : ℕ) (inside : at + len ≤ length index) where
+  part-length : length (part index at len) ≡ len
+  part-length = length-take-le len (drop at index) (rw length-drop (omega arith))
 
-  begins-at : 0 < len → begins (k ∷ []) (part index at len) ≡ eqb k (getD index at 0)
-  begins-at h = go (part index at len) (byte-at 0 len at index h ∙ ap (λ (i : ℕ). getD index i 0) (add-zero at)) (omega (arith, part-length))
+  first-byte : 0 < len → getD (part index at len) 0 0 ≡ getD index at 0
+  first-byte h = byte-at 0 len at index h ∙ ap (λ (i : ℕ). getD index i 0) (add-zero at)
+
+  -- its number, and its number and kind
+  begins-at : (k : ℕ) → 0 < len → begins (k ∷ []) (part index at len) ≡ eqb k (getD index at 0)
+  begins-at k h = go (part index at len) (first-byte h) (omega (arith, part-length))
     where
-      part-length : length (part index at len) ≡ len
-      part-length = length-take-le len (drop at index) (rw length-drop (omega arith))
-
       go : (l : List ℕ) → getD l 0 0 ≡ getD index at 0 → 0 < length l → begins (k ∷ []) l ≡ eqb k (getD index at 0)
       go [] e p = let z : ⊥ = omega arith in absurd z
       go (x ∷ l) e p = rw e (and-true (eqb k (getD index at 0)))
 
-  pub row-none-left : len ≡ 0 → RowAt index (f .width) at (0 ∷ 0 ∷ at ∷ 0 ∷ []) (recordNext f k (part index at len)) (sizeNext f k (part index at len))
-  row-none-left z = row-absent (rw z)
+  begins-two : (k kind : ℕ) → 1 < len → begins (k ∷ kind ∷ []) (part index at len) ≡ (eqb k (getD index at 0) && eqb kind (getD index (at + 1) 0))
+  begins-two k kind h = go (part index at len) (first-byte (omega arith)) (byte-at 1 len at index h) (omega (arith, part-length))
+    where
+      go : (l : List ℕ) → getD l 0 0 ≡ getD index at 0 → getD l 1 0 ≡ getD index (at + 1) 0 → 1 < length l
+          → begins (k ∷ kind ∷ []) l ≡ (eqb k (getD index at 0) && eqb kind (getD index (at + 1) 0))
+      go [] e d p = let z : ⊥ = omega arith in absurd z
+      go (x ∷ []) e d p = let z : ⊥ = omega arith in absurd z
+      go (x ∷ y ∷ l) e d p = rw (e, d, and-true)
 
-  pub row-other : 0 < len → getD index at 0 ≢ k → RowAt index (f .width) at (0 ∷ 0 ∷ at ∷ 0 ∷ []) (recordNext f k (part index at len)) (sizeNext f k (part index at len))
-  row-other h n = row-absent (begins-at h ∙ eqb-ne k (getD index at 0) (λ e. n (sym e)))
+  short-two : (k kind : ℕ) → len < 2 → begins (k ∷ kind ∷ []) (part index at len) ≡ false
+  short-two k kind h = begins-short (k ∷ kind ∷ []) (part index at len) (omega (arith, part-length))
 
-  module _ (nonempty : 0 < len) (here : getD index at 0 ≡ k) where
-    begins-here : begins (k ∷ []) (part index at len) ≡ true
-    begins-here = begins-at nonempty ∙ rw here (eqb-same k)
+-- what tells that its set is next
+module _ (f : Form) (index : List ℕ) (at len k : ℕ) (inside : at + len ≤ length index) where
+  pub no-sets : f .sets ≡ false → false ≡ setIsNext f k (part index at len)
+  no-sets e = ap (λ (b : Bool). b && begins (k ∷ 4 ∷ []) (part index at len)) (sym e)
 
-    pub size-here : sizeNext f k (part index at len) ≡ recordSize f (part index at len)
-    unfolding sizeNext
-    size-here = rw begins-here
+  no-begins : begins (k ∷ 4 ∷ []) (part index at len) ≡ false → false ≡ setIsNext f k (part index at len)
+  no-begins e = rw e (sym (and-false (f .sets)))
 
-    pub row-here : (row : List ℕ) → row ≡ rowAt (f .width) at (recordSize f (part index at len)) (readRecord f (part index at len))
-        → row ≡ rowAt (f .width) at (sizeNext f k (part index at len)) (recordNext f k (part index at len))
-    unfolding recordNext
-    row-here row h = rw (size-here, begins-here) h
+  pub too-short : len < 2 → false ≡ setIsNext f k (part index at len)
+  too-short h = no-begins (short-two index at len inside k 4 h)
+
+  pub other-number : 2 ≤ len → getD index at 0 ≢ k → false ≡ setIsNext f k (part index at len)
+  other-number h n = no-begins (rw (begins-two index at len inside k 4 h, eqb-ne k (getD index at 0) (λ e. n (sym e))))
+
+  pub other-kind : 2 ≤ len → getD index (at + 1) 0 ≢ 4 → false ≡ setIsNext f k (part index at len)
+  other-kind h n =
+      no-begins (rw (begins-two index at len inside k 4 h, eqb-ne 4 (getD index (at + 1) 0) (λ e. n (sym e))) (and-false (eqb k (getD index at 0))))
+
+  pub its-kind : f .sets ≡ true → 2 ≤ len → getD index at 0 ≡ k → eqb (getD index (at + 1) 0) 4 ≡ setIsNext f k (part index at len)
+  its-kind e h n = sym two ∙ ap (λ (b : Bool). b && begins (k ∷ 4 ∷ []) (part index at len)) (sym e)
+    where
+      turned : (a b : ℕ) → eqb a b ≡ eqb b a
+      turned a b = bool-ext (eqb a b) (eqb b a) (λ e. let z : a ≡ b = eq-of a b e in rw z (eqb-same b)) (λ e. let z : b ≡ a = eq-of b a e in rw z (eqb-same a))
+
+      two : begins (k ∷ 4 ∷ []) (part index at len) ≡ eqb (getD index (at + 1) 0) 4
+      two = rw (begins-two index at len inside k 4 h, n, eqb-same k) (turned 4 (getD index (at + 1) 0))
+
+-- what it takes and says
+module _ (f : Form) (k : ℕ) (bytes : List ℕ) where
+  pub set-taken : setIsNext f k bytes ≡ true → setTaken f k bytes ≡ 6
+  unfolding setTaken
+  set-taken q = rw q
+
+  pub no-set-taken : setIsNext f k bytes ≡ false → setTaken f k bytes ≡ 0
+  unfolding setTaken
+  no-set-taken q = rw q
+
+  pub set-read : setIsNext f k bytes ≡ true → readSet f k bytes ≡ fieldAt bytes 2 4
+  unfolding readSet
+  set-read q = rw q
+
+  pub no-set-read : setIsNext f k bytes ≡ false → readSet f k bytes ≡ 0
+  unfolding readSet
+  no-set-read q = rw q
+
+  record-taken : recordIsNext f k bytes ≡ true → recordTaken f k bytes ≡ recordSize f bytes
+  unfolding recordTaken
+  record-taken q = rw q
+
+  no-record-taken : recordIsNext f k bytes ≡ false → recordTaken f k bytes ≡ 0
+  unfolding recordTaken
+  no-record-taken q = rw q
+
+  keyword-read : recordIsNext f k bytes ≡ true → readKeyword f k bytes ≡ withSet (readRecord f bytes) (readSet f k (behindRecord f k bytes))
+  unfolding readKeyword
+  keyword-read q = ap (λ (b : Bool). withSet (cond b (readRecord f bytes) emptyRecord) (readSet f k (behindRecord f k bytes))) q
+
+  no-keyword-read : recordIsNext f k bytes ≡ false → readKeyword f k bytes ≡ withSet emptyRecord (readSet f k (behindRecord f k bytes))
+  unfolding readKeyword
+  no-keyword-read q = ap (λ (b : Bool). withSet (cond b (readRecord f bytes) emptyRecord) (readSet f k (behindRecord f k bytes))) q
+
+-- its number is not next, so nothing of it is
+module _ (f : Form) (k : ℕ) where
+  other-set : (bytes : List ℕ) → begins (k ∷ []) bytes ≡ false → setIsNext f k bytes ≡ false
+  other-set [] e = and-false (f .sets)
+  other-set (b ∷ bytes) e = let z : eqb k b ≡ false = sym (and-true (eqb k b)) ∙ e in rw (z, and-false)
+
+  other-record : (bytes : List ℕ) → begins (k ∷ []) bytes ≡ false → recordIsNext f k bytes ≡ false
+  other-record bytes e = rw (e, and-false)
+
+  other-taken : (bytes : List ℕ) → begins (k ∷ []) bytes ≡ false → keywordTaken f k bytes ≡ 0
+  other-taken bytes e =
+      ap (λ (n : ℕ). n + setTaken f k (drop n bytes)) (no-record-taken f k bytes (other-record bytes e))
+      ∙ zero-add (setTaken f k bytes) ∙ no-set-taken f k bytes (other-set bytes e)
+
+-- ---- its row
+
+-- a row says nothing of the set
+with-set : {index row : List ℕ} {width at size set : ℕ} {r : MatchRecord} → RowAt index width at row r size → RowAt index width at row (withSet r set) size
+with-set h = record {
+  holds = record {
+    prefix = h .holds .prefix;
+    suffix = h .holds .suffix;
+    offsets = h .holds .offsets;
+    inside = h .holds .inside;
+    many = h .holds .many;
+  };
+  ends = h .ends;
+}
+
+module _ (f : Form) (index : List ℕ) (at len k : ℕ) (inside : at + len ≤ length index) where
+  abbrev here : List ℕ
+  here = part index at len
+
+  -- the row where its record is not next
+  row-absent : recordIsNext f k here ≡ false → RowAt index (f .width) at (0 ∷ 0 ∷ at ∷ 0 ∷ []) (readKeyword f k here) (recordTaken f k here)
+  unfolding fieldsOf
+  row-absent e =
+      rw (no-keyword-read f k here e, no-record-taken f k here e)
+      (record { holds = record { prefix = refl; suffix = refl; offsets = refl; inside = omega arith; many = refl }; ends = omega arith })
+
+  pub row-set : setIsNext f k here ≡ true → RowAt index (f .width) at (0 ∷ 0 ∷ at ∷ 0 ∷ []) (readKeyword f k here) (recordTaken f k here)
+  row-set q = row-absent (rw q)
+
+  -- a step where its number is not next: none is left, or another's is next
+  other-here : (len ≡ 0) ⊎ ((0 < len) × (getD index at 0 ≢ k)) → begins (k ∷ []) here ≡ false
+  other-here (inl z) = rw z
+  other-here (inr (h, n)) = begins-at index at len inside k h ∙ eqb-ne k (getD index at 0) (λ e. n (sym e))
+
+  pub step-other : (len ≡ 0) ⊎ ((0 < len) × (getD index at 0 ≢ k))
+      → (0 ∷ 0 ∷ at ∷ 0 ∷ [] ≡ rowAt (f .width) at (recordTaken f k here) (readKeyword f k here)) × (at ≡ at + keywordTaken f k here)
+  step-other o = (row-is (row-absent (other-record f k here (other-here o))), omega (arith, other-taken f k here (other-here o)))
+
+  -- its number is next, and what it takes is there: a set alone, or a record
+  module _ (room : keywordTaken f k here ≤ len) (nonempty : 0 < len) (first : getD index at 0 ≡ k) where
+    next-here : setIsNext f k here ≡ false → recordIsNext f k here ≡ true
+    next-here q = rw q (begins-at index at len inside k nonempty ∙ rw first (eqb-same k))
+
+    size-here : setIsNext f k here ≡ false → recordTaken f k here ≡ recordSize f here
+    size-here q = record-taken f k here (next-here q)
+
+    pub whole-here : setIsNext f k here ≡ false → recordSize f here ≤ len
+    whole-here q = omega (arith, room, size-here q)
+
+    alone-room : setIsNext f k here ≡ true → 6 ≤ len
+    alone-room q =
+        let e : keywordTaken f k here ≡ setTaken f k here =
+        ap (λ (n : ℕ). n + setTaken f k (drop n here)) (no-record-taken f k here (rw q)) ∙ zero-add (setTaken f k here) in
+        omega (arith, room, e, set-taken f k here q)
+
+    -- room for the reads before it is known which
+    pub head-least : at + 3 ≤ length index
+    head-least = go (bool-cases (setIsNext f k here))
+      where
+        go : (setIsNext f k here ≡ true) ⊎ (setIsNext f k here ≡ false) → at + 3 ≤ length index
+        go (inl q) = omega (arith, inside, alone-room q)
+        go (inr q) = room-least f index at len inside (whole-here q)
+
+    pub head-full : getD index (at + 1) 0 ≢ 0 → at + 5 ≤ length index
+    head-full h = go (bool-cases (setIsNext f k here))
+      where
+        go : (setIsNext f k here ≡ true) ⊎ (setIsNext f k here ≡ false) → at + 5 ≤ length index
+        go (inl q) = omega (arith, inside, alone-room q)
+        go (inr q) = omega (arith, room-full f index at len inside (whole-here q) h)
+
+    -- another kind than a set's is a record's
+    pub not-set : getD index (at + 1) 0 ≢ 4 → setIsNext f k here ≡ false
+    not-set h = go (le-or-lt 2 len)
+      where
+        go : (2 ≤ len) ⊎ (len < 2) → setIsNext f k here ≡ false
+        go (inl l) = sym (other-kind f index at len k inside l h)
+        go (inr s) = sym (too-short f index at len k inside s)
+
+    pub row-here : (q : setIsNext f k here ≡ false) {a b c d : ℕ} → RowAt index (f .width) at (a ∷ b ∷ c ∷ d ∷ []) (readRecord f here) (recordSize f here)
+        → a ∷ b ∷ c ∷ d ∷ [] ≡ rowAt (f .width) at (recordTaken f k here) (readKeyword f k here)
+    unfolding rowAt
+    row-here q h = rw (keyword-read f k here (next-here q), size-here q) (row-is h)
 
   -- THE ROW OF THE NEXT KEYWORD holds its record
-  pub next-holds : sizeNext f k (part index at len) ≤ len
-      → RowAt index (f .width) at (rowAt (f .width) at (sizeNext f k (part index at len)) (recordNext f k (part index at len)))
-      (recordNext f k (part index at len)) (sizeNext f k (part index at len))
-  unfolding recordNext sizeNext
-  next-holds h = go (bool-cases (begins (k ∷ []) (part index at len)))
+  pub next-holds : recordTaken f k here ≤ len
+      → RowAt index (f .width) at (rowAt (f .width) at (recordTaken f k here) (readKeyword f k here)) (readKeyword f k here) (recordTaken f k here)
+  unfolding rowAt
+  next-holds h = go (bool-cases (recordIsNext f k here))
     where
-      go : (begins (k ∷ []) (part index at len) ≡ true) ⊎ (begins (k ∷ []) (part index at len) ≡ false)
-          → RowAt index (f .width) at (rowAt (f .width) at (sizeNext f k (part index at len)) (recordNext f k (part index at len)))
-          (recordNext f k (part index at len)) (sizeNext f k (part index at len))
-      go (inl e) = rw e (row-holds f index at len inside (rw e at h))
+      go : (recordIsNext f k here ≡ true) ⊎ (recordIsNext f k here ≡ false)
+          → RowAt index (f .width) at (rowAt (f .width) at (recordTaken f k here) (readKeyword f k here)) (readKeyword f k here) (recordTaken f k here)
+      go (inl e) = rw (keyword-read f k here e, record-taken f k here e) (with-set (row-holds f index at len inside (rw (record-taken f k here e) at h)))
       go (inr e) = row-so (row-absent e)
+
+  -- THE STEP behind its row, whose list ends where the record does
+  module _ (row : List ℕ) (r : row ≡ rowAt (f .width) at (recordTaken f k here) (readKeyword f k here)) where
+    pub row-ends : recordTaken f k here ≤ len → rowEnd (f .width) row ≡ at + recordTaken f k here
+    row-ends h = rw r (next-holds h .ends)
+
+    module _ (room : keywordTaken f k here ≤ len) where
+      ends : rowEnd (f .width) row ≡ at + recordTaken f k here
+      ends = row-ends (omega (arith, room))
+
+      pub end-room : rowEnd (f .width) row ≤ at + len
+      end-room = omega (arith, ends, room)
+
+      pub behind-row : part index (rowEnd (f .width) row) (at + len - rowEnd (f .width) row) ≡ behindRecord f k here
+      behind-row =
+          let n : at + len - rowEnd (f .width) row ≡ len - recordTaken f k here = omega (arith, ends) in
+          ap₂ (part index) ends n ∙ sym (part-drop (recordTaken f k here) len at index (omega (arith, room)))
+
+      pub step-next : rowEnd (f .width) row + setTaken f k (part index (rowEnd (f .width) row) (at + len - rowEnd (f .width) row))
+          ≡ at + keywordTaken f k here
+      step-next = omega (arith, ends, ap (setTaken f k) behind-row)
+
+-- where a set ends that may be next
+module _ (f : Form) (index : List ℕ) (at len k : ℕ) (inside : at + len ≤ length index) where
+  pub end-set : setIsNext f k (part index at len) ≡ true → at + 6 ≡ at + setTaken f k (part index at len)
+  end-set q = omega (arith, set-taken f k (part index at len) q)
+
+  pub end-none : setIsNext f k (part index at len) ≡ false → at ≡ at + setTaken f k (part index at len)
+  end-none q = omega (arith, no-set-taken f k (part index at len) q)
+
+  pub end-other : (len ≡ 0) ⊎ ((0 < len) × (getD index at 0 ≢ k)) → at ≡ at + setTaken f k (part index at len)
+  end-other o = end-none (other-set f k (part index at len) (other-here f index at len k inside o))
+
+-- ---- the set behind a row
+
+module _ (f : Form) (index : List ℕ) (end : ℕ) (row : List ℕ) (k : ℕ) where
+  abbrev from : ℕ
+  from = rowEnd (f .width) row
+
+  abbrev left : ℕ
+  left = end - from
+
+  pub set-short : left < 6 → 0 ≡ setAt f index end row k
+  unfolding setAt
+  set-short h = rw (leb-false 6 left h)
+
+  set-whole : 6 ≤ left → setAt f index end row k ≡ readSet f k (part index from left)
+  unfolding setAt
+  set-whole h = rw (leb-true 6 left h)
+
+  pub set-here : 6 ≤ left → setIsNext f k (part index from left) ≡ true → fieldAt index (from + 2) 4 ≡ setAt f index end row k
+  set-here h q = sym (set-whole h ∙ set-read f k (part index from left) q ∙ field-at 4 2 left from index h)
+
+  pub set-absent : 6 ≤ left → setIsNext f k (part index from left) ≡ false → 0 ≡ setAt f index end row k
+  set-absent h q = sym (set-whole h ∙ no-set-read f k (part index from left) q)
+
+  -- a set that is whole where it is next is what is read there
+  pub set-fits : setTaken f k (part index from left) ≤ left → setAt f index end row k ≡ readSet f k (part index from left)
+  set-fits h = go (le-or-lt 6 left) (bool-cases (setIsNext f k (part index from left)))
+    where
+      go : (6 ≤ left) ⊎ (left < 6) → (setIsNext f k (part index from left) ≡ true) ⊎ (setIsNext f k (part index from left) ≡ false)
+          → setAt f index end row k ≡ readSet f k (part index from left)
+      go (inl l) _ = set-whole l
+      go (inr s) (inl q) = let z : ⊥ = omega (arith, set-taken f k (part index from left) q) in absurd z
+      go (inr s) (inr q) = sym (set-short s) ∙ sym (no-set-read f k (part index from left) q)

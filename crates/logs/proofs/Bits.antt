@@ -1,67 +1,37 @@
 -- Sets of keywords as the code goes through them: the lowest member, then those above it. Assumes nothing.
 use mathlib.Core.Path.{_≡_, refl, sym, ap, _∙_}
-use mathlib.Core.Logic.{_≢_, _⊎_, inl, inr, ⊎-elim}
-use mathlib.Core.Bool.{Bool, true, false, cond, _&&_, and-false, true≢false}
+use mathlib.Core.Logic.{⊎-elim}
+use mathlib.Core.Bool.{true, false, cond, _&&_, and-false, true≢false}
 use mathlib.Core.List.{List}
 use Prim.Native.Nat.{ℕ, zero, suc, _+_, _-_, _/_, _%_, _^_, _≤_, _<_}
-use native.Mathlib.Nat.{eq-or-lt-of-le, le-of-suc-le-suc, lt-of-lt-of-le, div-eq-of-lt, div-one}
+use native.Mathlib.Nat.{lt-of-lt-of-le, div-one}
 use native.Mathlib.Omega.{arith}
 use lib.ListN.{length, getD, set}
 use lib.Seq.{getD-set-same, getD-set-other}
 use lib.Dec.{eqb, ltb}
-use lib.Pow.{pow-mono, shr-le, shr-shr, high, low, field, mod-mod-pow}
+use lib.Pow.{pow-mono, shr-le, shr-shr}
 use lib.Count.{trailingZeros, under}
 use borrow.Author.Tests.{lt-ltb, le-ltb}
-use Rattle.spec.specs.Table.{setOf}
+use Rattle.spec.specs.Bytes.{inSet}
 use Rattle.spec.proofs.Tests.{le-or-lt}
-use Rattle.spec.proofs.Sets.{set-lt}
-use Rattle.logs.specs.Log.{hasBit}
-
--- a bit of a number hangs only on what is below 2 to a higher power
-bit-low : (x s n : ℕ) → s < n → x / 2 ^ s % 2 ≡ (x % 2 ^ n) / 2 ^ s % 2
-bit-low x s n h =
-    let e : n - (1 + s) + (1 + s) ≡ n = omega arith in
-    sym (field x 1 s)
-    ∙ ap (λ (y : ℕ). y / 2 ^ s) (sym (mod-mod-pow x (n - (1 + s)) (1 + s)) ∙ ap (λ (m : ℕ). x % 2 ^ m % 2 ^ (1 + s)) e)
-    ∙ field (x % 2 ^ n) 1 s
-
--- a set has exactly the numbers that pass
-pub has-set : (t : ℕ → Bool) (n s : ℕ) → s < n → hasBit (setOf t n) s ≡ t s
-unfolding hasBit
-has-set t zero s h = let z : ⊥ = omega arith in absurd z
-has-set t (suc n) s h = go (eq-or-lt-of-le (le-of-suc-le-suc h)) (has-set t n s)
-  where
-    top : (b : Bool) → eqb (cond b 1 0 % 2) 1 ≡ b
-    top true = refl
-    top false = refl
-
-    go : (s ≡ n) ⊎ (s < n) → (s < n → hasBit (setOf t n) s ≡ t s) → hasBit (setOf t (suc n)) s ≡ t s
-    go (inl e) ih = rw (e, high (cond (t n) 1 0) n (set-lt t n)) (top (t n))
-    go (inr l) ih = rw (bit-low (setOf t (suc n)) s n l, low (cond (t n) 1 0) n (set-lt t n)) (ih l)
-
-pub has-above : (x n s : ℕ) → x < 2 ^ n → n ≤ s → hasBit x s ≡ false
-unfolding hasBit
-has-above x n s l h = rw (div-eq-of-lt (lt-of-lt-of-le l (pow-mono h)))
-
-pub has-none : (s : ℕ) → hasBit 0 s ≡ false
-has-none s = has-above 0 0 s (omega arith) (omega arith)
+use Rattle.spec.proofs.Sets.{none-above, none-empty}
 
 -- ---- the lowest member
 
-has-half : (x s : ℕ) → hasBit (x / 2) s ≡ hasBit x (suc s)
-unfolding hasBit
+has-half : (x s : ℕ) → inSet (x / 2) s ≡ inSet x (suc s)
+unfolding inSet
 has-half x s = let q : x / 2 / 2 ^ s ≡ x / 2 ^ (1 + s) = shr-shr x 1 s in let n : 1 + s ≡ suc s = omega arith in rw (q, n)
 
-has-shift : (x from s : ℕ) → hasBit (x / 2 ^ from) s ≡ hasBit x (from + s)
-unfolding hasBit
+has-shift : (x from s : ℕ) → inSet (x / 2 ^ from) s ≡ inSet x (from + s)
+unfolding inSet
 has-shift x from s = rw (shr-shr x from s)
 
 record Lowest (x z : ℕ) : Type 0 where
-  here : hasBit x z ≡ true
-  below : (j : ℕ) → j < z → hasBit x j ≡ false
+  here : inSet x z ≡ true
+  below : (j : ℕ) → j < z → inSet x j ≡ false
 
 lowest : (d x : ℕ) → 0 < x → x < 2 ^ d → Lowest x (trailingZeros d x)
-unfolding trailingZeros hasBit
+unfolding trailingZeros inSet
 lowest zero x p h = let z : ⊥ = omega arith in absurd z
 lowest (suc d) x p h = go (x % 2) refl (λ q. lowest d (x / 2) q (omega arith))
   where
@@ -70,7 +40,7 @@ lowest (suc d) x p h = go (x % 2) refl (λ q. lowest d (x / 2) q (omega arith))
         let l = ih (omega arith) in
         record { here = sym (has-half x (trailingZeros d (x / 2))) ∙ l .here; below = λ j m. first j m (l .below) }
       where
-        first : (j : ℕ) → j < suc (trailingZeros d (x / 2)) → ((i : ℕ) → i < trailingZeros d (x / 2) → hasBit (x / 2) i ≡ false) → hasBit x j ≡ false
+        first : (j : ℕ) → j < suc (trailingZeros d (x / 2)) → ((i : ℕ) → i < trailingZeros d (x / 2) → inSet (x / 2) i ≡ false) → inSet x j ≡ false
         first zero m b = rw (div-one, e)
         first (suc j) m b = sym (has-half x j) ∙ b j (omega arith)
     go (suc r) e ih = record { here = rw (div-one, e) (one r (omega arith)); below = λ j m. let z : ⊥ = omega arith in absurd z }
@@ -86,8 +56,8 @@ module _ (members : ℕ) where
   pub record Next (from k rest : ℕ) : Type 0 where
     pub low : from ≤ k
     pub known : k < 16
-    pub here : hasBit members k ≡ true
-    pub between : (j : ℕ) → from ≤ j → j < k → hasBit members j ≡ false
+    pub here : inSet members k ≡ true
+    pub between : (j : ℕ) → from ≤ j → j < k → inSet members j ≡ false
     pub above : rest ≡ members / 2 ^ (k + 1)
 
   pub next-member : (from rest : ℕ) → members < 65536 → rest ≡ members / 2 ^ from → 0 < rest
@@ -95,13 +65,13 @@ module _ (members : ℕ) where
   next-member from rest few e p =
       let z : ℕ = trailingZeros 32 rest in
       let l : Lowest rest z = lowest 32 rest p (omega (arith, small)) in
-      let h : hasBit members (from + z) ≡ true = sym (has-shift members from z) ∙ ap (λ (x : ℕ). hasBit x z) (sym e) ∙ l .here in
+      let h : inSet members (from + z) ≡ true = sym (has-shift members from z) ∙ ap (λ (x : ℕ). inSet x z) (sym e) ∙ l .here in
       record {
         low = omega arith;
-        known = ⊎-elim (λ g. absurd (true≢false (sym h ∙ has-above members 16 (from + z) few g))) (λ g. g) (le-or-lt 16 (from + z));
+        known = ⊎-elim (λ g. absurd (true≢false (sym h ∙ none-above members (from + z) (lt-of-lt-of-le few (pow-mono g))))) (λ g. g) (le-or-lt 16 (from + z));
         here = h;
         between = λ j a b. let n : from + (j - from) ≡ j = omega arith in
-            ap (hasBit members) (sym n) ∙ sym (has-shift members from (j - from)) ∙ ap (λ (x : ℕ). hasBit x (j - from)) (sym e) ∙ l .below (j - from)
+            ap (inSet members) (sym n) ∙ sym (has-shift members from (j - from)) ∙ ap (λ (x : ℕ). inSet x (j - from)) (sym e) ∙ l .below (j - from)
             (omega arith);
         above = ap (λ (x : ℕ). x / 2 ^ z / 2) e ∙ ap (λ (x : ℕ). x / 2) (shr-shr members from z) ∙ shr-shr members (from + z) 1;
       }
@@ -110,17 +80,17 @@ module _ (members : ℕ) where
       small = rw e (shr-le members from)
 
   -- none is left
-  pub no-member : (from j : ℕ) → 0 ≡ members / 2 ^ from → from ≤ j → hasBit members j ≡ false
+  pub no-member : (from j : ℕ) → 0 ≡ members / 2 ^ from → from ≤ j → inSet members j ≡ false
   no-member from j e h =
       let n : from + (j - from) ≡ j = omega arith in
-      ap (hasBit members) (sym n) ∙ sym (has-shift members from (j - from)) ∙ ap (λ (x : ℕ). hasBit x (j - from)) (sym e) ∙ has-none (j - from)
+      ap (inSet members) (sym n) ∙ sym (has-shift members from (j - from)) ∙ ap (λ (x : ℕ). inSet x (j - from)) (sym e) ∙ none-empty (j - from)
 
   -- ---- a number for each keyword, changed for the members
 
   module _ (f : ℕ → ℕ → ℕ) where
     -- what a change leaves of each number, for the members below `from`
     abbrev pub Changed : ℕ → List ℕ → List ℕ → Type 0
-    Changed from l₀ l = (j : ℕ) → getD l j 0 ≡ cond (ltb j from && hasBit members j) (f j (getD l₀ j 0)) (getD l₀ j 0)
+    Changed from l₀ l = (j : ℕ) → getD l j 0 ≡ cond (ltb j from && inSet members j) (f j (getD l₀ j 0)) (getD l₀ j 0)
 
     pub changed-start : (l : List ℕ) → Changed 0 l l
     changed-start l j = rw (le-ltb j 0 (omega arith))
@@ -133,22 +103,22 @@ module _ (members : ℕ) where
         → Changed (k + 1) l₀ (set l k x)
     changed-turn from k rest x l₀ l n h e c j = ⊎-elim below (λ g. ⊎-elim same beyond (le-or-lt j k) g) (le-or-lt (suc j) k)
       where
-        below : suc j ≤ k → getD (set l k x) j 0 ≡ cond (ltb j (k + 1) && hasBit members j) (f j (getD l₀ j 0)) (getD l₀ j 0)
+        below : suc j ≤ k → getD (set l k x) j 0 ≡ cond (ltb j (k + 1) && inSet members j) (f j (getD l₀ j 0)) (getD l₀ j 0)
         below g = getD-set-other l k j x 0 (omega arith) ∙ c j ∙ ⊎-elim
             (λ (q : from ≤ j). rw (n .between j q g, and-false, and-false))
             (λ (q : j < from). rw (lt-ltb j from q, lt-ltb j (k + 1) (omega arith)))
             (le-or-lt from j)
 
-        same : j ≤ k → k < suc j → getD (set l k x) j 0 ≡ cond (ltb j (k + 1) && hasBit members j) (f j (getD l₀ j 0)) (getD l₀ j 0)
+        same : j ≤ k → k < suc j → getD (set l k x) j 0 ≡ cond (ltb j (k + 1) && inSet members j) (f j (getD l₀ j 0)) (getD l₀ j 0)
         same a b =
             let q : j ≡ k = omega arith in
             rw (q, getD-set-same l k x 0 h, lt-ltb k (k + 1) (omega arith), n .here) e
 
-        beyond : k < j → k < suc j → getD (set l k x) j 0 ≡ cond (ltb j (k + 1) && hasBit members j) (f j (getD l₀ j 0)) (getD l₀ j 0)
+        beyond : k < j → k < suc j → getD (set l k x) j 0 ≡ cond (ltb j (k + 1) && inSet members j) (f j (getD l₀ j 0)) (getD l₀ j 0)
         beyond a b = getD-set-other l k j x 0 (omega arith) ∙ changed-not from j l₀ l c (omega (arith, n .low)) ∙ rw (le-ltb j (k + 1) (omega arith))
 
     pub changed-end : (from : ℕ) (l₀ l : List ℕ) → 0 ≡ members / 2 ^ from → Changed from l₀ l
-        → (j : ℕ) → getD l j 0 ≡ cond (hasBit members j) (f j (getD l₀ j 0)) (getD l₀ j 0)
+        → (j : ℕ) → getD l j 0 ≡ cond (inSet members j) (f j (getD l₀ j 0)) (getD l₀ j 0)
     changed-end from l₀ l e c j = c j ∙ ⊎-elim
         (λ (q : from ≤ j). rw (no-member from j e q, and-false))
         (λ (q : j < from). rw (lt-ltb j from q))

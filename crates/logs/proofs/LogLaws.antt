@@ -12,11 +12,12 @@ use lib.Seq.{take-at}
 use lib.Dec.{ltb}
 use lib.Pow.{pow-mono}
 use borrow.Author.Tests.{lt-ltb, le-ltb}
-use Rattle.spec.specs.Bytes.{each, keep}
+use Rattle.spec.specs.Bytes.{each, keep, inSet}
 use Rattle.spec.specs.Join.{keywordAt}
+use Rattle.spec.specs.Form.{Form}
 use Rattle.spec.specs.Records.{recordOf}
 use Rattle.spec.proofs.Tests.{le-or-lt}
-use Rattle.spec.proofs.Sets.{set-lt}
+use Rattle.spec.proofs.Sets.{set-lt, has-set, has-above, none-empty}
 use Rattle.spec.specs.Trie.{isNode, step, nodeFrom, nodeAfter}
 use Rattle.trie.specs.Endings.{isEnding}
 use Rattle.trie.specs.Numbers.{nodeCount, nodeNumber}
@@ -26,8 +27,7 @@ use Rattle.trie.proofs.Walks.{node-append, walk-node-is}
 use Rattle.trie.proofs.Records.{keyword-contained, offsets-at-nodes, prefix-at-node}
 use Rattle.trie.proofs.Numbering.{number-below}
 use Rattle.automaton.specs.Automaton.{endingSet, accepts, logged, logFrom}
-use Rattle.logs.specs.Log.{hasBit, entryOf, numberIn, placeIn, setAt, loggedOffsets, Tabled, Walked, Fits, AllFit}
-use Rattle.logs.proofs.Bits.{has-set, has-above, has-none}
+use Rattle.logs.specs.Log.{entryOf, numberIn, placeIn, setAt, loggedOffsets, Tabled, Walked, Fits, AllFit}
 
 -- ---- entries
 
@@ -91,7 +91,7 @@ module _ (keywords : List (List ℕ)) (ends tails : List ℕ) (t : Tabled keywor
     told u at [] = []
     told u at (b ∷ bytes) = keep (isEnding keyword (after keywords u b)) (suc at - length keyword) ++ told (after keywords u b) (suc at) bytes
 
-    set-tells : (u : List ℕ) → hasBit (endingSet keywords u) k ≡ isEnding keyword u
+    set-tells : (u : List ℕ) → inSet (endingSet keywords u) k ≡ isEnding keyword u
     unfolding endingSet
     set-tells u = has-set (λ j. isEnding (keywordAt keywords j) u) (length keywords) k known
 
@@ -115,7 +115,7 @@ module _ (keywords : List (List ℕ)) (ends tails : List ℕ) (t : Tabled keywor
         (le-or-lt (endingSet keywords u) 0)
       where
         none : endingSet keywords u ≡ 0 → false ≡ isEnding keyword u
-        none z = sym (has-none k) ∙ ap (λ (s : ℕ). hasBit s k) (sym z) ∙ set-tells u
+        none z = sym (none-empty k) ∙ ap (λ (s : ℕ). inSet s k) (sym z) ∙ set-tells u
 
     log-tells : (u : List ℕ) (at : ℕ) (bytes : List ℕ) → isNode keywords u ≡ true → at + length bytes ≤ 1048576
         → loggedOffsets ends k (length keyword) (logFrom keywords u at bytes) ≡ told u at bytes
@@ -149,13 +149,12 @@ module _ (keywords : List (List ℕ)) (ends tails : List ℕ) (t : Tabled keywor
   set-few u h = lt-of-lt-of-le (set-lt (λ j. isEnding (keywordAt keywords j) u) (length keywords)) (pow-mono h)
 
   -- a keyword of the set ends the node, so it is no longer
-  set-back : (u : List ℕ) (k : ℕ) → hasBit (endingSet keywords u) k ≡ true → (k < length keywords) × (length (keywordAt keywords k) ≤ length u)
+  set-back : (u : List ℕ) (k : ℕ) → inSet (endingSet keywords u) k ≡ true → (k < length keywords) × (length (keywordAt keywords k) ≤ length u)
   unfolding endingSet
   set-back u k h = go (le-or-lt (length keywords) k)
     where
       go : (length keywords ≤ k) ⊎ (k < length keywords) → (k < length keywords) × (length (keywordAt keywords k) ≤ length u)
-      go (inl l) = absurd (true≢false (sym h ∙ has-above (endingSet keywords u) (length keywords) k
-          (set-lt (λ j. isEnding (keywordAt keywords j) u) (length keywords)) l))
+      go (inl l) = absurd (true≢false (sym h ∙ has-above (λ j. isEnding (keywordAt keywords j) u) (length keywords) k l))
       go (inr l) = (l, ending-le (keywordAt keywords k) u (sym (set-tells k l u) ∙ h))
 
   module _ (len : List ℕ) (lengths : (k : ℕ) → k < length keywords → getD len k 0 ≡ length (keywordAt keywords k)) (most : length keywords ≤ 16) where
@@ -191,7 +190,7 @@ module _ (keywords : List (List ℕ)) (ends tails : List ℕ) (t : Tabled keywor
       go true = rw (
         number-entry (nodeNumber keywords u) at h,
         t .set u m,
-        has-above (endingSet keywords u) (length keywords) k (set-lt (λ j. isEnding (keywordAt keywords j) u) (length keywords)) l,
+        has-above (λ j. isEnding (keywordAt keywords j) u) (length keywords) k l,
       )
       go false = refl
 
@@ -208,24 +207,24 @@ module _ (keywords : List (List ℕ)) (ends tails : List ℕ) (t : Tabled keywor
 
   module _ (chunk log : List ℕ) (last : ℕ) (w : Walked keywords chunk log last) (short : length chunk ≤ 1048576) where
     -- what the log says of keyword k are its offsets in the chunk
-    pub logged-offsets : (k : ℕ) → k < length keywords → 1 ≤ length (keywordAt keywords k)
-        → loggedOffsets ends k (length (keywordAt keywords k)) log ≡ recordOf (keywordAt keywords k) chunk .offsets
+    pub logged-offsets : (f : Form) (k : ℕ) → k < length keywords → 1 ≤ length (keywordAt keywords k)
+        → loggedOffsets ends k (length (keywordAt keywords k)) log ≡ recordOf f (keywordAt keywords k) chunk .offsets
     unfolding isNode nodeFrom
-    logged-offsets k known some =
+    logged-offsets f k known some =
         ap (loggedOffsets ends k (length (keywordAt keywords k))) (w .logged)
         ∙ log-tells k known [] 0 chunk refl (omega arith)
         ∙ told-each k known [] chunk
-        ∙ sym (offsets-at-nodes keywords (keywordAt keywords k) (keyword-contained keywords k known) chunk some)
+        ∙ sym (offsets-at-nodes keywords (keywordAt keywords k) (keyword-contained keywords k known) f chunk some)
 
     -- the last node is one of them
     pub last-below : last < nodeCount keywords
     last-below = rw (w .ended) (number-below keywords (nodeAfter keywords chunk) (walk-node-is keywords chunk .0))
 
     -- and has the prefix of keyword k
-    pub logged-prefix : (k : ℕ) → k < length keywords → getD tails (last * 16 + k) 0 ≡ recordOf (keywordAt keywords k) chunk .prefix
-    logged-prefix k known =
+    pub logged-prefix : (f : Form) (k : ℕ) → k < length keywords → getD tails (last * 16 + k) 0 ≡ recordOf f (keywordAt keywords k) chunk .prefix
+    logged-prefix f k known =
         rw (w .ended) (t .tail (nodeAfter keywords chunk) k (walk-node-is keywords chunk .0) known)
-        ∙ sym (prefix-at-node keywords (keywordAt keywords k) (keyword-contained keywords k known) chunk)
+        ∙ sym (prefix-at-node keywords (keywordAt keywords k) (keyword-contained keywords k known) f chunk)
 
     pub logged-fits : (len : List ℕ) → ((k : ℕ) → k < length keywords → getD len k 0 ≡ length (keywordAt keywords k)) → length keywords ≤ 16
         → AllFit ends len log

@@ -9,11 +9,11 @@ use native.Mathlib.Omega.{arith}
 use lib.ListN.{length, drop, getD, replicate, length-replicate, length-append, drop-of-length-le, List·getD-eq-default}
 use lib.Seq.{drop-cons, ext-getD}
 use lib.Dec.{eqb}
-use Rattle.spec.specs.Bytes.{keep}
+use Rattle.spec.specs.Bytes.{keep, inSet}
 use Rattle.spec.proofs.Tests.{eqb-ne, le-or-lt}
 use Rattle.spec.proofs.Tabulated.{tabulated, length-tabulated, tabulated-at, tabulated-same}
 use mathlib.Core.Logic.{⊎-elim}
-use Rattle.logs.specs.Log.{hasBit, setAt, placeIn, loggedOffsets}
+use Rattle.logs.specs.Log.{setAt, placeIn, loggedOffsets}
 use Rattle.logs.specs.Tallies.{OneMore, Kept, tallyOf, tallyBoth, CanJoin}
 use Rattle.logs.proofs.LogLaws.{logged-append}
 use Rattle.logs.specs.declared.Tally.{Tally}
@@ -26,24 +26,24 @@ module _ (ends : List ℕ) (k n : ℕ) where
   pub said-most : (log : List ℕ) → length (said log) ≤ length log
   unfolding loggedOffsets
   said-most [] = omega arith
-  said-most (e ∷ log) = go (hasBit (setAt ends e) k) (said-most log)
+  said-most (e ∷ log) = go (inSet (setAt ends e) k) (said-most log)
     where
       go : (b : Bool) → length (said log) ≤ length log → length (keep b (placeIn e + 1 - n) ++ said log) ≤ suc (length log)
       go true h = omega arith
       go false h = omega arith
 
-  count-more : (e : ℕ) (log : List ℕ) (x y : ℕ) → y ≡ cond (hasBit (setAt ends e) k) (x + 1) x → x ≡ length (said log) → y ≡ length (said (e ∷ log))
+  count-more : (e : ℕ) (log : List ℕ) (x y : ℕ) → y ≡ cond (inSet (setAt ends e) k) (x + 1) x → x ≡ length (said log) → y ≡ length (said (e ∷ log))
   unfolding loggedOffsets
-  count-more e log x y h c = h ∙ go (hasBit (setAt ends e) k)
+  count-more e log x y h c = h ∙ go (inSet (setAt ends e) k)
     where
       go : (b : Bool) → cond b (x + 1) x ≡ length (keep b (placeIn e + 1 - n) ++ said log)
       go true = omega arith
       go false = c
 
-  first-more : (e : ℕ) (log : List ℕ) (x y : ℕ) → y ≡ cond (hasBit (setAt ends e) k) (placeIn e + 1 - n) x → x ≡ getD (said log) 0 0
+  first-more : (e : ℕ) (log : List ℕ) (x y : ℕ) → y ≡ cond (inSet (setAt ends e) k) (placeIn e + 1 - n) x → x ≡ getD (said log) 0 0
       → y ≡ getD (said (e ∷ log)) 0 0
   unfolding loggedOffsets
-  first-more e log x y h c = h ∙ go (hasBit (setAt ends e) k)
+  first-more e log x y h c = h ∙ go (inSet (setAt ends e) k)
     where
       go : (b : Bool) → cond b (placeIn e + 1 - n) x ≡ getD (keep b (placeIn e + 1 - n) ++ said log) 0 0
       go true = refl

@@ -1,12 +1,11 @@
 -- Request #103: what the log that the walk of a chunk leaves says of each keyword.
 -- Keywords and chunks here are folded already.
 use mathlib.Core.Path.{_≡_}
-use mathlib.Core.Bool.{Bool, true}
+use mathlib.Core.Bool.{true}
 use mathlib.Core.List.{List, [], _∷_, _++_}
-use Prim.Native.Nat.{ℕ, _+_, _*_, _-_, _/_, _%_, _^_, _≤_, _<_}
+use Prim.Native.Nat.{ℕ, _+_, _*_, _-_, _/_, _%_, _≤_, _<_}
 use lib.ListN.{length, getD}
-use lib.Dec.{eqb}
-use Rattle.spec.specs.Bytes.{keep}
+use Rattle.spec.specs.Bytes.{keep, inSet}
 use Rattle.spec.specs.Join.{keywordAt}
 use Rattle.spec.specs.Trie.{isNode, nodeAfter}
 use Rattle.trie.specs.Endings.{prefixAt}
@@ -14,10 +13,6 @@ use Rattle.trie.specs.Numbers.{nodeCount, nodeNumber}
 use Rattle.automaton.specs.Automaton.{endingSet, logFrom}
 
 -- ---- the log
-
--- The number k is in the set.
-unfoldable pub hasBit : ℕ → ℕ → Bool
-hasBit set k = eqb (set / 2 ^ k % 2) 1
 
 -- An entry: a node's number, and the place in the chunk of the byte that led there.
 unfoldable pub entryOf : ℕ → ℕ → ℕ
@@ -42,7 +37,7 @@ setAt ends entry = getD ends (numberIn entry) 0
 -- The offsets that a log says of keyword k, of length n: each occurrence starts n bytes before its end.
 unfoldable pub loggedOffsets : List ℕ → ℕ → ℕ → List ℕ → List ℕ
 loggedOffsets ends k n [] = []
-loggedOffsets ends k n (entry ∷ log) = keep (hasBit (setAt ends entry) k) (placeIn entry + 1 - n) ++ loggedOffsets ends k n log
+loggedOffsets ends k n (entry ∷ log) = keep (inSet (setAt ends entry) k) (placeIn entry + 1 - n) ++ loggedOffsets ends k n log
 
 -- ---- what the functions here ask of it
 
@@ -64,7 +59,7 @@ pub record Walked (keywords : List (List ℕ)) (chunk log : List ℕ) (last : �
 pub record Fits (ends len : List ℕ) (entry : ℕ) : Type 0 where
   pub node : numberIn entry < length ends
   pub few : setAt ends entry < 65536
-  pub back : (k : ℕ) → hasBit (setAt ends entry) k ≡ true → getD len k 0 ≤ placeIn entry + 1
+  pub back : (k : ℕ) → inSet (setAt ends entry) k ≡ true → getD len k 0 ≤ placeIn entry + 1
 
 abbrev pub AllFit : List ℕ → List ℕ → List ℕ → Type 0
 AllFit ends len log = (i : ℕ) → i < length log → Fits ends len (getD log i 0)

@@ -5,8 +5,8 @@ use mathlib.Core.List.{List, [], _∷_}
 use Prim.Native.Nat.{ℕ, _+_, _-_, _≤_, _<_}
 use lib.ListN.{length, getD}
 use lib.Dec.{eqb}
-use Rattle.spec.specs.Bytes.{each}
-use Rattle.logs.specs.Log.{hasBit, loggedOffsets}
+use Rattle.spec.specs.Bytes.{each, inSet}
+use Rattle.logs.specs.Log.{loggedOffsets}
 use Rattle.logs.specs.declared.Tally.{Tally}
 
 -- What counting the keywords of one entry asks: an element for each of 16 keywords, none longer than `end` bytes, and room in the counts.
@@ -15,15 +15,15 @@ pub record CanCount (counts firsts len : List ℕ) (members end : ℕ) : Type 0 
   pub kept : length firsts ≡ 16
   pub sizes : length len ≡ 16
   pub few : members < 65536
-  pub back : (k : ℕ) → hasBit members k ≡ true → getD len k 0 ≤ end
+  pub back : (k : ℕ) → inSet members k ≡ true → getD len k 0 ≤ end
   pub room : (k : ℕ) → getD counts k 0 < 18446744073709551615
 
 -- One more of each member, and its offset kept: `after` behind `before`, number by number.
 abbrev pub OneMore : ℕ → List ℕ → List ℕ → Type 0
-OneMore members before after = (k : ℕ) → getD after k 0 ≡ cond (hasBit members k) (getD before k 0 + 1) (getD before k 0)
+OneMore members before after = (k : ℕ) → getD after k 0 ≡ cond (inSet members k) (getD before k 0 + 1) (getD before k 0)
 
 abbrev pub Kept : ℕ → ℕ → List ℕ → List ℕ → List ℕ → Type 0
-Kept members end len before after = (k : ℕ) → getD after k 0 ≡ cond (hasBit members k) (end - getD len k 0) (getD before k 0)
+Kept members end len before after = (k : ℕ) → getD after k 0 ≡ cond (inSet members k) (end - getD len k 0) (getD before k 0)
 
 -- The tally of a log: how many offsets it says of each of 16 keywords, and the first (0 where there is none).
 unfoldable pub tallyOf : List ℕ → List ℕ → List ℕ → Tally

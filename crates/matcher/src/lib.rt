@@ -1,10 +1,11 @@
-// One keyword against bytes: whether it occurs at an offset, and the suffix of its match record (the papers' "short backward look"). Keyword and
-// chunk are slices of the keyword list and of the store, never copied.
+// One keyword against bytes: whether it occurs at an offset, the suffix of its match record (the papers' "short backward look"), and the record's set
+// of inner starts (request #108). Keyword and chunk are slices of the keyword list and of the store, never copied.
 ghost use mathlib.Core.Path.{_≡_};
+ghost use Prim.Native.Nat.{_≤_};
 ghost use lib.ListN.{length};
 ghost use Rattle.spec.specs.Bytes.{occursAt};
 ghost use Rattle.spec.specs.Keywords.{folded};
-ghost use Rattle.spec.specs.Records.{reach, suffixOf};
+ghost use Rattle.spec.specs.Records.{reach, suffixOf, innerOf};
 
 // Whether the keyword occurs at the offset of the chunk.
 pub fn occurs_at(keyword: &[u8], chunk: &[u8], at: usize, flag: u8) -> bool
@@ -58,4 +59,26 @@ pub fn suffix_of(keyword: &[u8], chunk: &[u8], flag: u8) -> usize
         j -= 1;
     }
     0
+}
+
+// The record's set: bit p for each start p from 1 to n - 1 - L at which the chunk is the keyword's L bytes from p. Where the chunk has more than
+// n - 2 bytes there is no such start.
+pub fn set_of(keyword: &[u8], chunk: &[u8], flag: u8) -> u32
+    requires { ⌜ length (now keyword) ≤ 32 ⌝ }
+    ensures { λ r. ⌜ r ≡ innerOf (folded flag (now (keyword .entry))) (folded flag (now (chunk .entry))) ⌝ }
+{
+    let size = chunk.len();
+    if keyword.len() <= size + 1 {
+        return 0;
+    }
+    let last = keyword.len() - 1 - size;
+    let mut set: u32 = 0;
+    let mut p: usize = 1;
+    while p <= last {
+        if occurs_at(&keyword[p..p + size], chunk, 0, flag) {
+            set += 1 << p;
+        }
+        p += 1;
+    }
+    set
 }

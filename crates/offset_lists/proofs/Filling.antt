@@ -11,13 +11,13 @@ use lib.ListN.{length, drop, getD, set, length-append, drop-of-length-le}
 use lib.Seq.{drop-cons, getD-set-same, getD-set-other}
 use lib.Dec.{leb, ltb}
 use borrow.Author.Tests.{lt-ltb, le-ltb}
-use Rattle.spec.specs.Bytes.{splice, leBytes, fieldsBytes, keep}
+use Rattle.spec.specs.Bytes.{splice, leBytes, fieldsBytes, keep, inSet}
 use Rattle.spec.specs.Form.{newest}
 use Rattle.spec.proofs.Tests.{le-or-lt, leb-true, leb-false, bool-cases}
 use Rattle.spec.proofs.Fields.{length-leBytes}
 use Rattle.spec.proofs.Splices.{splice-splice, splice-nil}
 use Rattle.spec.proofs.RecordLaws.{no-offsets}
-use Rattle.logs.specs.Log.{hasBit, setAt, placeIn, loggedOffsets}
+use Rattle.logs.specs.Log.{setAt, placeIn, loggedOffsets}
 use Rattle.offset_lists.specs.Patches.{patched, Apart}
 use Rattle.keywords.specs.declared.Keywords.{Keywords}
 use Rattle.offset_lists.specs.Runs.{pieceOf, entryRun, logRun, cursor, movedBy, Filled, CanList}
@@ -82,11 +82,11 @@ module _ (counts len : List ℕ) (members end : ℕ) where
   abbrev pub moves : ℕ → ℕ → ℕ
   moves k x = x + length (piece k)
 
-  pub run-member : (k : ℕ) → hasBit members k ≡ true → run k ≡ piece k
+  pub run-member : (k : ℕ) → inSet members k ≡ true → run k ≡ piece k
   unfolding entryRun
   run-member k h = rw h
 
-  run-other : (k : ℕ) → hasBit members k ≡ false → run k ≡ []
+  run-other : (k : ℕ) → inSet members k ≡ false → run k ≡ []
   unfolding entryRun
   run-other k h = rw h
 
@@ -95,16 +95,16 @@ module _ (counts len : List ℕ) (members end : ℕ) where
   moved-left from k c₀ c h = ⊎-elim
       (λ (q : from ≤ k). let e : cursor c k ≡ cursor c₀ k = changed-not members moves from k c₀ c h q in
       rw (le-ltb k from q) (ap (λ (x : ℕ). x + length (run k)) e))
-      (λ (q : k < from). ⊎-elim (member q) (other q) (bool-cases (hasBit members k)))
+      (λ (q : k < from). ⊎-elim (member q) (other q) (bool-cases (inSet members k)))
       (le-or-lt from k)
     where
-      member : k < from → hasBit members k ≡ true → cursor c k + length (runFrom from k) ≡ cursor c₀ k + length (run k)
+      member : k < from → inSet members k ≡ true → cursor c k + length (runFrom from k) ≡ cursor c₀ k + length (run k)
       member q b =
           let e : cursor c k ≡ cursor c₀ k + length (piece k) = h k ∙ rw (lt-ltb k from q, b) in
           let f : length (runFrom from k) ≡ 0 = rw (lt-ltb k from q) in
           omega (arith, e, f, ap length (run-member k b))
 
-      other : k < from → hasBit members k ≡ false → cursor c k + length (runFrom from k) ≡ cursor c₀ k + length (run k)
+      other : k < from → inSet members k ≡ false → cursor c k + length (runFrom from k) ≡ cursor c₀ k + length (run k)
       other q b =
           let e : cursor c k ≡ cursor c₀ k = h k ∙ rw (lt-ltb k from q, b) in
           let f : length (runFrom from k) ≡ 0 = rw (lt-ltb k from q) in
@@ -209,7 +209,7 @@ module _ (counts len ends : List ℕ) where
 
   pub lists-more : (e : ℕ) (log : List ℕ) (k : ℕ) → lists (e ∷ log) k ≡ adds e k ++ lists log k
   unfolding logRun entryRun pieceOf loggedOffsets fieldsBytes
-  lists-more e log k = go (leb (getD counts k 0) 1) (hasBit (setAt ends e) k)
+  lists-more e log k = go (leb (getD counts k 0) 1) (inSet (setAt ends e) k)
     where
       offset : ℕ
       offset = placeIn e + 1 - getD len k 0

@@ -5,10 +5,10 @@ use mathlib.Core.List.{List, [], _∷_}
 use Prim.Native.Nat.{ℕ, _+_, _-_, _≤_, _<_}
 use lib.ListN.{length, getD}
 use lib.Dec.{leb}
-use Rattle.spec.specs.Bytes.{each, leBytes, fieldsBytes}
+use Rattle.spec.specs.Bytes.{each, leBytes, fieldsBytes, inSet}
 use Rattle.spec.specs.Form.{Form, newest}
 use Rattle.keywords.specs.declared.Keywords.{Keywords}
-use Rattle.logs.specs.Log.{hasBit, loggedOffsets}
+use Rattle.logs.specs.Log.{loggedOffsets}
 use Rattle.offset_lists.specs.Patches.{patched, Apart}
 
 -- An offset as it is listed: nothing where the keyword has at most one.
@@ -17,7 +17,7 @@ pieceOf f count offset = cond (leb count 1) [] (leBytes (f .width) offset)
 
 -- What an entry adds to keyword k's list; what a log does.
 unfoldable pub entryRun : Form → List ℕ → List ℕ → ℕ → ℕ → ℕ → List ℕ
-entryRun f counts len members end k = cond (hasBit members k) (pieceOf f (getD counts k 0) (end - getD len k 0)) []
+entryRun f counts len members end k = cond (inSet members k) (pieceOf f (getD counts k 0) (end - getD len k 0)) []
 
 unfoldable pub logRun : Form → List ℕ → List ℕ → List ℕ → List ℕ → ℕ → List ℕ
 logRun f counts len ends log k = cond (leb (getD counts k 0) 1) [] (fieldsBytes (f .width) (loggedOffsets ends k (getD len k 0) log))
@@ -45,7 +45,7 @@ pub record CanFill (run : ℕ → List ℕ) (before cursors counts len : List �
 pub record CanFillEntry (before cursors counts len : List ℕ) (members end : ℕ) : Type 0 where
   pub fill : CanFill (entryRun newest counts len members end) before cursors counts len
   pub few : members < 65536
-  pub back : (k : ℕ) → hasBit members k ≡ true → getD len k 0 ≤ end
+  pub back : (k : ℕ) → inSet members k ≡ true → getD len k 0 ≤ end
 
 -- For the runs of a whole log that each keyword's has its place, and that there are no others.
 pub record CanList (words : Keywords) (run : ℕ → List ℕ) (before cursors counts : List ℕ) : Type 0 where

@@ -18,7 +18,6 @@ use Rattle.spec.specs.Scan.{scanIndex, scanCode}
 use Rattle.spec.specs.Search.{directSearch, searchJoinCode, searchCode, searchOutcome, searchBuffer, searchedCode, searchedCount}
 use Rattle.spec.proofs.Codes.{passed-whole}
 use Rattle.spec.proofs.ListBytes.{length-list}
-use Rattle.spec.proofs.Forms.{newest-read}
 use Rattle.spec.proofs.ScanLaws.{newest-scans, scan-reads}
 use Rattle.theory.specs.Demand3.{NoScanRefusal, NoJoinRefusal}
 use Rattle.theory.specs.SearchList.{isIn}
@@ -105,8 +104,8 @@ module _ (store words recipes : List ℕ) where
     pub fits : (o : Occurrence) → isIn o found ≡ true → Fits o
     fits =
         let n : NoScanRefusal words store programRoom = scan-done words store programRoom .0 (parts .0) in
-        occurrence-fits newest (newest-read .sets) words store (scanIndex newest words store) recipes (n .0)
-        (scan-reads newest newest-scans words store (n .0) (n .1) (n .3)) (joins .0) (joins .1)
+        occurrence-fits newest words store (scanIndex newest words store) recipes (n .0)
+        (scan-reads newest newest-scans words store (n .0) (n .1) (n .3)) 0 (joins .0) (joins .1)
 
     pub few : 9 * length found ≤ programRoom
     few = joins .2

@@ -1,7 +1,6 @@
 -- The stages of a plan: each refusal, and what the stage after it may start from; and what a plan without refusal gives who lists. Assumes nothing.
 use mathlib.Core.Path.{_≡_, refl, sym, ap, _∙_, subst}
 use mathlib.Core.Logic.{_≢_, _⊎_, inl, inr}
-use mathlib.Core.Bool.{Bool, true, false, cond}
 use mathlib.Core.List.{List, [], _∷_}
 use Prim.Native.Nat.{ℕ, zero, suc, _+_, _-_, _≤_, _<_, min}
 use native.Mathlib.Nat.{zero-add}
@@ -13,18 +12,18 @@ use lib.Seq.{getD-take}
 use Rattle.spec.specs.declared.Opened.{Opened}
 use Rattle.spec.specs.Bytes.{written, each}
 use Rattle.spec.specs.Form.{formOf}
-use Rattle.spec.specs.Keywords.{foldedKeywords, keywordsOf, listSize, longest, keywordFrontCode}
+use Rattle.spec.specs.Keywords.{foldedKeywords, listSize, keywordFrontCode}
 use Rattle.spec.specs.Store.{chunkCount}
 use Rattle.spec.specs.Index.{listIn, indexKeys, indexCode}
 use Rattle.spec.specs.Opened.{openedOf}
 use Rattle.spec.specs.Recipes.{fileCount, recipesCode}
 use Rattle.spec.specs.Join.{Occurrence, joinList, joinableCode, innerLeast}
 use Rattle.spec.proofs.Codes.{passed-whole, refused-whole, next-whole, last-whole}
-use Rattle.spec.proofs.Forms.{form-read}
 use Rattle.spec.proofs.IndexChecks.{index-good}
 use Rattle.spec.proofs.Splices.{splice-read}
 use Rattle.spec.proofs.Tabulated.{length-tabulated, tabulated-at}
 use Rattle.directory.specs.Chains.{Chained, Empty}
+use Rattle.files.specs.Measures.{leastIn}
 use Rattle.files.proofs.OfIndex.{index-keys}
 use Rattle.tables.specs.Tabled.{tablesOf}
 use Rattle.index.specs.Stages.{examinedChains}
@@ -46,14 +45,10 @@ module _ (index : List ℕ) (opened : Opened) (o : opened ≡ openedOf index) wh
   unfolding openedOf
   counts = ap (λ (x : Opened). x .entries) o
 
-  longer : opened .longest ≡ longest (keywordsOf (listIn index))
-  unfolding openedOf
-  longer = ap (λ (x : Opened). x .longest) o
-
   -- what an inner chunk must have
-  pub inner-least : opened .longest - 1 ≡ innerLeast (formOf index) (listIn index)
-  unfolding innerLeast
-  inner-least = ap (λ (n : ℕ). n - 1) longer ∙ sym (ap (λ (b : Bool). cond b 0 (longest (keywordsOf (listIn index)) - 1)) (form-read index .sets))
+  pub inner-least : leastIn opened ≡ innerLeast (formOf index) (listIn index)
+  unfolding openedOf leastIn innerLeast
+  inner-least = ap leastIn o
 
 -- an index that passed its check: its keyword list, as the code cuts it
 module _ (index : List ℕ) (i : indexCode (formOf index) index ≡ 0) where

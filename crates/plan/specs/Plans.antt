@@ -1,6 +1,6 @@
 -- The plan of an index and recipes: what the operations on them share before they list, and what its stages hand over.
 use mathlib.Core.Path.{_≡_}
-use mathlib.Core.Bool.{cond}
+use mathlib.Core.Bool.{false, cond}
 use mathlib.Core.List.{List, [], _∷_, map}
 use Prim.Native.Nat.{ℕ, _<_, min}
 use lib.Dec.{eqb}
@@ -48,7 +48,7 @@ unfoldable pub refusedPlan : ℕ → Plan
 refusedPlan code = record {
   code = code;
   total = 0;
-  opened = record { directory = 0; entries = 0; keywords = 0; longest = 0; format = record { number = 0; width = 0; longest = 0 } };
+  opened = record { directory = 0; entries = 0; keywords = 0; longest = 0; format = record { number = 0; width = 0; longest = 0; sets = false } };
   marks = replicate 65535 0;
 }
 

@@ -23,6 +23,7 @@ fn refused(code: u8) -> Plan
         number: 0,
         width: 0,
         longest: 0,
+        sets: false,
     };
     let opened = spec::Opened {
         directory: 0,

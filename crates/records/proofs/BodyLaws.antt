@@ -1,6 +1,7 @@
--- Laws of bodies: a record is what stands before its list and the list; what is left of a body from keyword k on; how long it can be. Assumes nothing.
+-- Laws of bodies: a record and its set are what stands before its list and the list; what is left of a body from keyword k on; how long it can be.
+-- Assumes nothing.
 use mathlib.Core.Path.{_≡_, refl, sym, ap, _∙_}
-use mathlib.Core.Logic.{⊎-elim}
+use mathlib.Core.Logic.{_⊎_, inl, inr, ⊎-elim}
 use mathlib.Core.Bool.{Bool, true, false, cond, not, _&&_}
 use mathlib.Core.List.{List, [], _∷_, _++_, map, append-assoc, append-nil}
 use Prim.Native.Nat.{ℕ, zero, suc, _+_, _*_, _-_, _≤_, _<_}
@@ -14,23 +15,23 @@ use Rattle.spec.specs.Bytes.{leBytes}
 use Rattle.spec.specs.Join.{keywordAt}
 use Rattle.spec.specs.Keywords.{folded, foldedKeywords, keywordsOf, flagOf, keywordFrontCode}
 use Rattle.spec.specs.Form.{Form, newest}
-use Rattle.spec.specs.Records.{MatchRecord, recordOf, recordsOf, isEmpty, isTiny, headBytes, fullBytes, offsetsBytes, recordBytes, bodyFrom, reach}
+use Rattle.spec.specs.Records.{MatchRecord, recordOf, recordsOf, isEmpty, isTiny, headBytes, fullBytes, offsetsBytes, recordBytes, setBytes, bodyFrom, reach}
 use Rattle.spec.specs.Scan.{scanRecords, scanBody}
 use Rattle.spec.proofs.Tests.{le-or-lt, leb-true, leb-false, and-left, and-right}
 use Rattle.spec.proofs.Folding.{folded-length}
 use Rattle.spec.proofs.FieldLists.{length-fieldsBytes}
-use Rattle.spec.proofs.RecordLaws.{eq-of, prefix-in, suffix-in, offsets-rise, offsets-in, offsets-count}
-use Rattle.spec.proofs.RecordRanges.{record-in-range}
+use Rattle.spec.proofs.RecordLaws.{eq-of, prefix-in, suffix-in, offsets-rise, offsets-in, offsets-count, set-empty}
+use Rattle.spec.proofs.RecordRanges.{record-in-range, set-in-range}
 use Rattle.spec.proofs.KeywordLaws.{accepted, folded-count, folded-keyword}
 use Rattle.keywords.specs.declared.Keywords.{Keywords}
 use Rattle.keywords.specs.Parsed.{parsedOf, Reads, Placed, Parsed}
 use Rattle.keywords.proofs.Reading.{parsed}
 use Rattle.records.specs.declared.Summary.{Summary}
-use Rattle.records.specs.Summaries.{summaryOf, emptyIn, tinyIn, tinyPart, headPart, startBytes, listBytes, listed}
+use Rattle.records.specs.Summaries.{summaryOf, emptyIn, tinyIn, tinyPart, headPart, recordPart, startBytes, listBytes, listed}
 use Rattle.records.specs.Bodies.{foundAt, startOf, listOf}
-use Rattle.records.proofs.Starts.{startMost, start-most, any-length}
+use Rattle.records.proofs.SetLaws.{startMost, start-most, any-length, set-or-offsets}
 
--- ---- a record in two parts
+-- ---- a record and its set in two parts
 
 module _ (f : Form) where
   -- none is listed
@@ -60,8 +61,8 @@ module _ (f : Form) where
       ∙ sym (append-assoc (headPart f k (summaryOf m)) (cond (leb (length (m .offsets)) 254) [] (leBytes (f .width) (length (m .offsets))))
       (listBytes f (m .offsets)))
 
-  pub record-split : (n k : ℕ) (m : MatchRecord) → recordBytes f n k m ≡ startBytes f n k (summaryOf m) ++ listBytes f (m .offsets)
-  unfolding recordBytes startBytes summaryOf emptyIn tinyIn tinyPart
+  record-split : (n k : ℕ) (m : MatchRecord) → recordBytes f n k m ≡ recordPart f n k (summaryOf m) ++ listBytes f (m .offsets)
+  unfolding recordBytes recordPart summaryOf emptyIn tinyIn tinyPart
   record-split n k m = go (isEmpty m) (isTiny f n m) refl refl
     where
       go : (e t : Bool) → isEmpty m ≡ e → isTiny f n m ≡ t
@@ -83,6 +84,20 @@ module _ (f : Form) where
               (and-left (eqb (length (m .offsets)) 0 && leb (m .prefix) (f .tinyMost n) && leb (m .suffix) (f .tinyMost n)) (not (isEmpty m)) q)))
       go false false p q = full-split k m
 
+  -- the set stands behind the list, and before it: one of the two is empty
+  set-split : (n k : ℕ) (m : MatchRecord) → (m .inner ≡ 0) ⊎ (m .offsets ≡ [])
+      → recordBytes f n k m ++ setBytes k (m .inner) ≡ startBytes f n k (summaryOf m) ++ listBytes f (m .offsets)
+  unfolding startBytes summaryOf
+  set-split n k m (inl e) =
+      let z : setBytes k (m .inner) ≡ [] = set-empty k (m .inner) e in
+      rw (z, append-nil, append-nil) (record-split n k m)
+  set-split n k m (inr e) =
+      let z : listBytes f (m .offsets) ≡ [] = list-none (m .offsets) (omega (arith, ap length e)) in
+      let r : List ℕ = recordPart f n k (summaryOf m) in
+      let whole : recordBytes f n k m ≡ r = record-split n k m ∙ ap (λ (x : List ℕ). r ++ x) z ∙ append-nil r in
+      ap (λ (x : List ℕ). x ++ setBytes k (m .inner)) whole
+      ∙ sym (ap (λ (x : List ℕ). r ++ setBytes k (m .inner) ++ x) z ∙ append-nil (r ++ setBytes k (m .inner)))
+
 -- ---- what is left of a body
 
 module _ (list chunk : List ℕ) where
@@ -90,21 +105,33 @@ module _ (list chunk : List ℕ) where
   abbrev pub bodyRest : ℕ → List ℕ
   bodyRest k =
       bodyFrom newest k (map length (drop k (foldedKeywords list)))
-      (map (λ keyword. recordOf keyword (folded (flagOf list) chunk)) (drop k (foldedKeywords list)))
+      (map (λ keyword. recordOf newest keyword (folded (flagOf list) chunk)) (drop k (foldedKeywords list)))
 
   pub rest-start : bodyRest 0 ≡ scanBody newest list chunk
   unfolding scanBody scanRecords recordsOf
   rest-start = refl
 
   rest-record : (k : ℕ) → k < length (foldedKeywords list)
-      → bodyRest k ≡ recordBytes newest (length (keywordAt (foldedKeywords list) k)) k (foundAt list chunk k) ++ bodyRest (k + 1)
+      → bodyRest k
+      ≡ recordBytes newest (length (keywordAt (foldedKeywords list) k)) k (foundAt list chunk k)
+      ++ (setBytes k (foundAt list chunk k .inner) ++ bodyRest (k + 1))
   unfolding bodyFrom foundAt
   rest-record k h = rw (add-one, drop-cons (foldedKeywords list) k [] h)
 
+  found-apart : (k : ℕ) → (foundAt list chunk k .inner ≡ 0) ⊎ (foundAt list chunk k .offsets ≡ [])
+  unfolding foundAt
+  found-apart k =
+      let w : List ℕ = keywordAt (foldedKeywords list) k in
+      let c : List ℕ = folded (flagOf list) chunk in
+      set-or-offsets newest (length w) (length c) (recordOf newest w c) (record-in-range newest w c) (set-in-range newest w c)
+
   pub rest-step : (k : ℕ) → k < length (foldedKeywords list) → bodyRest k ≡ startOf list chunk k ++ listOf list chunk k ++ bodyRest (k + 1)
   rest-step k h =
+      let n : ℕ = length (keywordAt (foldedKeywords list) k) in
+      let m : MatchRecord = foundAt list chunk k in
       rest-record k h
-      ∙ ap (λ (x : List ℕ). x ++ bodyRest (k + 1)) (record-split newest (length (keywordAt (foldedKeywords list) k)) k (foundAt list chunk k))
+      ∙ sym (append-assoc (recordBytes newest n k m) (setBytes k (m .inner)) (bodyRest (k + 1)))
+      ∙ ap (λ (x : List ℕ). x ++ bodyRest (k + 1)) (set-split newest n k m (found-apart k))
 
   pub rest-lengths : (k : ℕ) → k < length (foldedKeywords list)
       → length (bodyRest k) ≡ length (startOf list chunk k) + length (listOf list chunk k) + length (bodyRest (k + 1))
@@ -120,10 +147,10 @@ module _ (list chunk : List ℕ) where
 -- ---- lengths
 
 -- a record has an offset for each byte of the chunk at most
-offsets-most : (keyword chunk : List ℕ) → 1 ≤ length keyword → length (recordOf keyword chunk .offsets) ≤ length chunk
+offsets-most : (keyword chunk : List ℕ) → 1 ≤ length keyword → length (recordOf newest keyword chunk .offsets) ≤ length chunk
 offsets-most keyword chunk h =
-    let r : MatchRecord = recordOf keyword chunk in
-    let g = record-in-range keyword chunk in
+    let r : MatchRecord = recordOf newest keyword chunk in
+    let g = record-in-range newest keyword chunk in
     offsets-count (length keyword) (length chunk) (r .offsets) h
     (offsets-rise (length keyword) (length chunk) r g) (offsets-in (length keyword) (length chunk) r g)
 
@@ -170,10 +197,15 @@ module _ (list : List ℕ) (words : Keywords) (r : Reads list words) where
         let w : slice ≡ getD (keywordsOf list) k [] = rw add-sub-cancel-left (place .bytes) in
         rw (w, flag-is) (sym (folded-keyword list k))
 
+    slice-length : length slice ≡ getD (words .len) k 0
+    slice-length = simp (length-take, length-drop) (omega (arith, within))
+
+    -- it has at most 32 bytes
+    pub slice-most : length slice ≤ 32
+    slice-most = omega (arith, slice-length, place .most)
+
     pub length-is : length (keywordAt (foldedKeywords list) k) ≡ getD (words .len) k 0
-    length-is =
-        let n : length slice ≡ getD (words .len) k 0 = simp (length-take, length-drop) (omega (arith, within)) in
-        ap length (sym slice-is) ∙ folded-length (words .flag) slice ∙ n
+    length-is = ap length (sym slice-is) ∙ folded-length (words .flag) slice ∙ slice-length
 
     pub length-some : 1 ≤ length (keywordAt (foldedKeywords list) k)
     length-some = omega (arith, length-is, place .nonempty)
@@ -192,14 +224,14 @@ module _ (list : List ℕ) (words : Keywords) (r : Reads list words) where
       found-prefix =
           let w : List ℕ = keywordAt (foldedKeywords list) k in
           let c : List ℕ = folded (flagOf list) chunk in
-          omega (arith, length-most, prefix-in (length w) (length c) (recordOf w c) (record-in-range w c))
+          omega (arith, length-most, prefix-in (length w) (length c) (recordOf newest w c) (record-in-range newest w c))
 
       pub found-suffix : foundAt list chunk k .suffix < 256
       unfolding foundAt reach
       found-suffix =
           let w : List ℕ = keywordAt (foldedKeywords list) k in
           let c : List ℕ = folded (flagOf list) chunk in
-          omega (arith, length-most, suffix-in (length w) (length c) (recordOf w c) (record-in-range w c))
+          omega (arith, length-most, suffix-in (length w) (length c) (recordOf newest w c) (record-in-range newest w c))
 
       pub list-is : length (listOf list chunk k) ≡ newest .width * listed (length (foundAt list chunk k .offsets))
       list-is = list-length newest (foundAt list chunk k .offsets)
@@ -209,7 +241,7 @@ module _ (list : List ℕ) (words : Keywords) (r : Reads list words) where
 
 -- ---- one record measured
 
--- the most bytes of a record: what stands before its list, and an offset for each byte of the longest chunk
+-- the most bytes of a record and its set: what stands before the list, and an offset for each byte of the longest chunk
 abbrev pub recordMost : ℕ
 recordMost = startMost + newest .width * newest .longestChunk
 

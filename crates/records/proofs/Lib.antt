@@ -1,4 +1,5 @@
 pub mod Starts
+pub mod SetLaws
 pub mod BodyLaws
 pub mod Telling
 pub mod Beginning

@@ -1,4 +1,4 @@
--- What stands before a record's list of offsets: its tests, its length, its stores; and that with the list it is the record. Assumes nothing.
+-- A record before its list of offsets: its tests, its length, its stores. Assumes nothing.
 use mathlib.Core.Path.{_≡_, refl, sym, ap}
 use mathlib.Core.Logic.{⊎-elim}
 use mathlib.Core.Bool.{Bool, true, false, not, _&&_}
@@ -15,7 +15,7 @@ use Rattle.spec.proofs.Fields.{length-leBytes}
 use Rattle.spec.proofs.Splices.{splice-nil, sets-splice, splice-then}
 use Rattle.spec.proofs.RecordLaws.{le-of}
 use Rattle.records.specs.declared.Summary.{Summary}
-use Rattle.records.specs.Summaries.{emptyIn, tinyIn, tinyPart, headPart, startBytes, listed, Wrote}
+use Rattle.records.specs.Summaries.{emptyIn, tinyIn, tinyPart, headPart, recordPart, listed, Wrote}
 
 -- ---- tests
 
@@ -83,31 +83,32 @@ pub listed-all : (count : ℕ) → 1 < count → count ≡ listed count
 unfolding listed
 listed-all count h = rw (leb-false count 1 h)
 
--- ---- the three forms
+-- ---- the record's three forms
 
--- the bytes of a full record's head: number, kind, prefix, suffix, count byte, first offset; the most before a list: the exact count too
+-- the bytes of a full record's head: number, kind, prefix, suffix, count byte, first offset; the most of a record before its list: the exact count too
 abbrev pub headSize : ℕ
 headSize = 5 + newest .width
 
-abbrev pub startMost : ℕ
-startMost = headSize + newest .width
+abbrev pub partMost : ℕ
+partMost = headSize + newest .width
 
 module _ (n k : ℕ) (s : Summary) where
-  pub start-empty : emptyIn s ≡ true → startBytes newest n k s ≡ []
-  unfolding startBytes
-  start-empty e = rw e
+  pub part-empty : emptyIn s ≡ true → recordPart newest n k s ≡ []
+  unfolding recordPart
+  part-empty e = rw e
 
-  pub start-tiny : emptyIn s ≡ false → tinyIn newest n s ≡ true → startBytes newest n k s ≡ tinyPart newest k s
-  unfolding startBytes
-  start-tiny e t = rw (e, t)
+  pub part-tiny : emptyIn s ≡ false → tinyIn newest n s ≡ true → recordPart newest n k s ≡ tinyPart newest k s
+  unfolding recordPart
+  part-tiny e t = rw (e, t)
 
-  pub start-few : emptyIn s ≡ false → tinyIn newest n s ≡ false → s .count ≤ 254 → startBytes newest n k s ≡ headPart newest k s
-  unfolding startBytes
-  start-few e t h = rw (e, t, leb-true (s .count) 254 h, append-nil)
+  pub part-few : emptyIn s ≡ false → tinyIn newest n s ≡ false → s .count ≤ 254 → recordPart newest n k s ≡ headPart newest k s
+  unfolding recordPart
+  part-few e t h = rw (e, t, leb-true (s .count) 254 h, append-nil)
 
-  pub start-many : emptyIn s ≡ false → tinyIn newest n s ≡ false → 254 < s .count → startBytes newest n k s ≡ headPart newest k s ++ leBytes (newest .width) (s .count)
-  unfolding startBytes
-  start-many e t h = rw (e, t, leb-false (s .count) 254 h)
+  pub part-many : emptyIn s ≡ false → tinyIn newest n s ≡ false → 254 < s .count
+      → recordPart newest n k s ≡ headPart newest k s ++ leBytes (newest .width) (s .count)
+  unfolding recordPart
+  part-many e t h = rw (e, t, leb-false (s .count) 254 h)
 
   pub length-tiny : length (tinyPart newest k s) ≡ 3
   unfolding tinyPart
@@ -117,33 +118,34 @@ module _ (n k : ℕ) (s : Summary) where
   unfolding headPart
   length-head = omega (arith, length-leBytes (newest .width) (s .first))
 
-  pub length-many : emptyIn s ≡ false → tinyIn newest n s ≡ false → 254 < s .count → length (startBytes newest n k s) ≡ startMost
+  pub length-many : emptyIn s ≡ false → tinyIn newest n s ≡ false → 254 < s .count → length (recordPart newest n k s) ≡ partMost
   length-many e t h =
-      omega (arith, ap length (start-many e t h), length-append (headPart newest k s) (leBytes (newest .width) (s .count)), length-head, length-leBytes (newest .width) (s .count))
+      let count : List ℕ = leBytes (newest .width) (s .count) in
+      omega (arith, ap length (part-many e t h), length-append (headPart newest k s) count, length-head, length-leBytes (newest .width) (s .count))
 
-  pub start-most : length (startBytes newest n k s) ≤ startMost
-  start-most = ⊎-elim
-      (λ e. omega (arith, ap length (start-empty e)))
+  pub part-most : length (recordPart newest n k s) ≤ partMost
+  part-most = ⊎-elim
+      (λ e. omega (arith, ap length (part-empty e)))
       (λ e. ⊎-elim
-      (λ t. omega (arith, ap length (start-tiny e t), length-tiny))
+      (λ t. omega (arith, ap length (part-tiny e t), length-tiny))
       (λ t. ⊎-elim
-      (λ h. omega (arith, ap length (start-few e t h), length-head))
+      (λ h. omega (arith, ap length (part-few e t h), length-head))
       (λ h. omega (arith, length-many e t h))
       (le-or-lt (s .count) 254))
       (bool-cases (tinyIn newest n s)))
       (bool-cases (emptyIn s))
 
   -- a full record has a head
-  pub start-least : emptyIn s ≡ false → tinyIn newest n s ≡ false → headSize ≤ length (startBytes newest n k s)
-  start-least e t = ⊎-elim
-      (λ h. omega (arith, ap length (start-few e t h), length-head))
+  pub part-least : emptyIn s ≡ false → tinyIn newest n s ≡ false → headSize ≤ length (recordPart newest n k s)
+  part-least e t = ⊎-elim
+      (λ h. omega (arith, ap length (part-few e t h), length-head))
       (λ h. omega (arith, length-many e t h))
       (le-or-lt (s .count) 254)
 
   -- the form does not hang on the keyword's length
-  pub any-length : (m : ℕ) → startBytes newest m k s ≡ startBytes newest n k s
-  unfolding startBytes tinyIn
-  any-length m = refl
+  pub any-part : (m : ℕ) → recordPart newest m k s ≡ recordPart newest n k s
+  unfolding recordPart tinyIn
+  any-part m = refl
 
   pub any-tiny : (m : ℕ) → tinyIn newest m s ≡ tinyIn newest n s
   unfolding tinyIn
@@ -169,20 +171,21 @@ module _ (l : List ℕ) (k : ℕ) (s : Summary) where
       }
 
   -- the forms as they are put
-  pub put-nothing : (n : ℕ) → emptyIn s ≡ true → Wrote l 0 (startBytes newest n k s) l 0
-  put-nothing n h = rw (start-empty n k s h) (record { written = sym (splice-nil l 0); ends = refl })
+  pub put-nothing : (n : ℕ) → emptyIn s ≡ true → Wrote l 0 (recordPart newest n k s) l 0
+  put-nothing n h = rw (part-empty n k s h) (record { written = sym (splice-nil l 0); ends = refl })
 
   pub put-as-tiny : (n end : ℕ) (after : List ℕ) → emptyIn s ≡ false → tinyIn newest n s ≡ true → Wrote l 0 (tinyPart newest k s) after end
-      → Wrote l 0 (startBytes newest n k s) after end
-  put-as-tiny n end after e t w = rw (start-tiny n k s e t) w
+      → Wrote l 0 (recordPart newest n k s) after end
+  put-as-tiny n end after e t w = rw (part-tiny n k s e t) w
 
   pub put-as-few : (n end : ℕ) (after : List ℕ) → emptyIn s ≡ false → tinyIn newest n s ≡ false → s .count ≤ 254 → Wrote l 0 (headPart newest k s) after end
-      → Wrote l 0 (startBytes newest n k s) after end
-  put-as-few n end after e t h w = rw (start-few n k s e t h) w
+      → Wrote l 0 (recordPart newest n k s) after end
+  put-as-few n end after e t h w = rw (part-few n k s e t h) w
 
   pub put-as-many : (n head : ℕ) (l₁ after : List ℕ) → emptyIn s ≡ false → tinyIn newest n s ≡ false → 254 < s .count
-      → Wrote l 0 (headPart newest k s) l₁ head → after ≡ splice l₁ head (leBytes (newest .width) (s .count)) → Wrote l 0 (startBytes newest n k s) after (head + newest .width)
-  put-as-many n head l₁ after e t h w x = rw (start-many n k s e t h) (record {
+      → Wrote l 0 (headPart newest k s) l₁ head → after ≡ splice l₁ head (leBytes (newest .width) (s .count))
+      → Wrote l 0 (recordPart newest n k s) after (head + newest .width)
+  put-as-many n head l₁ after e t h w x = rw (part-many n k s e t h) (record {
     written = splice-then l 0 (headPart newest k s) (leBytes (newest .width) (s .count)) (omega arith) (w .written) (w .ends) x;
     ends = omega (arith, w .ends, length-append (headPart newest k s) (leBytes (newest .width) (s .count)), length-leBytes (newest .width) (s .count));
   })

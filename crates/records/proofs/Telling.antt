@@ -8,7 +8,7 @@ use lib.ListN.{length, getD, List·getD-eq-default}
 use Rattle.spec.specs.Join.{keywordAt}
 use Rattle.spec.specs.Keywords.{folded, foldedKeywords, flagOf}
 use Rattle.spec.specs.Form.{newest}
-use Rattle.spec.specs.Records.{recordOf, suffixOf}
+use Rattle.spec.specs.Records.{recordOf, suffixOf, innerOf}
 use Rattle.spec.proofs.Tests.{leb-true, le-or-lt}
 use Rattle.spec.proofs.Folding.{folded-length}
 use Rattle.keywords.specs.declared.Keywords.{Keywords}
@@ -21,7 +21,7 @@ use Rattle.keywords.specs.Parsed.{Reads}
 use Rattle.records.specs.Bodies.{foundAt, listOf, Tells}
 use Rattle.logs.proofs.Tallying.{tally-counts, tally-firsts, tally-count, tally-first}
 use Rattle.logs.proofs.LogLaws.{logged-offsets, logged-prefix, logged-fits, logged-none, last-below}
-use Rattle.records.proofs.BodyLaws.{keywords-count, keywords-few, flag-is, within, slice, slice-is, length-is, length-some, found-prefix}
+use Rattle.records.proofs.BodyLaws.{keywords-count, keywords-few, flag-is, within, slice, slice-is, slice-most, length-is, length-some, found-prefix}
 
 -- The list is read, the chunk is not longer than chunks are, the trie's arrays are its keywords', and its walk left this log and last node.
 pub record Sources (list : List ℕ) (words : Keywords) (chunk log ends tails : List ℕ) (last : ℕ) : Type 0 where
@@ -54,7 +54,7 @@ module _ (list : List ℕ) (words : Keywords) (chunk log ends tails : List ℕ) 
   unfolding foundAt
   said k h =
       ap (λ (n : ℕ). loggedOffsets ends k n log) (lengths k (known k h))
-      ∙ logged-offsets keywords ends tails (s .tabled) (folded (flagOf list) chunk) log last (s .walked) short k (known k h) (length-some list words
+      ∙ logged-offsets keywords ends tails (s .tabled) (folded (flagOf list) chunk) log last (s .walked) short newest k (known k h) (length-some list words
       (s .reads) k h)
 
   module _ (tally : Tally) (t : tally ≡ tallyOf ends (words .len) log) where
@@ -69,7 +69,7 @@ module _ (list : List ℕ) (words : Keywords) (chunk log ends tails : List ℕ) 
       counted = tally-counts ends (words .len) log tally t;
       kept = tally-firsts ends (words .len) log tally t;
       inside = omega (arith, last-below keywords ends tails (s .tabled) (folded (flagOf list) chunk) log last (s .walked) short, s .tabled .long);
-      prefix = λ k h. logged-prefix keywords ends tails (s .tabled) (folded (flagOf list) chunk) log last (s .walked) short k (known k h);
+      prefix = λ k h. logged-prefix keywords ends tails (s .tabled) (folded (flagOf list) chunk) log last (s .walked) short newest k (known k h);
       count = λ k h. tally-count ends (words .len) log tally t k (few k h) ∙ ap length (said k h);
       first = λ k h. tally-first ends (words .len) log tally t k (few k h) ∙ ap (λ (l : List ℕ). getD l 0 0) (said k h);
     }
@@ -94,20 +94,26 @@ module _ (list : List ℕ) (words : Keywords) (chunk log ends tails : List ℕ) 
 
 module _ (list : List ℕ) (words : Keywords) (chunk tails : List ℕ) (last : ℕ) (tally : Tally) (t : Tells list words chunk tails last tally)
     (k : ℕ) (h : k < words .count) where
-  pub summary-is : (suffix : ℕ) → suffix ≡ suffixOf (folded (words .flag) (slice list words (t .reads) k h)) (folded (words .flag) chunk)
-      → record { prefix = getD tails (last * 16 + k) 0; suffix = suffix; count = getD (tally .counts) k 0; first = getD (tally .firsts) k 0 }
+  pub summary-is : (suffix set : ℕ) → suffix ≡ suffixOf (folded (words .flag) (slice list words (t .reads) k h)) (folded (words .flag) chunk)
+      → set ≡ innerOf (folded (words .flag) (slice list words (t .reads) k h)) (folded (words .flag) chunk)
+      → record { prefix = getD tails (last * 16 + k) 0; suffix = suffix; count = getD (tally .counts) k 0; first = getD (tally .firsts) k 0; set = set }
       ≡ summaryOf (foundAt list chunk k)
   unfolding summaryOf foundAt recordOf
-  summary-is suffix e =
-      let q : suffix ≡ foundAt list chunk k .suffix = e ∙ ap₂ {C = ℕ} (λ w f. suffixOf w (folded f chunk)) (slice-is list words (t .reads) k h)
-      (flag-is list words (t .reads)) in
-      λ i. record { prefix = t .prefix k h i; suffix = q i; count = t .count k h i; first = t .first k h i }
+  summary-is suffix set e z =
+      let w = slice-is list words (t .reads) k h in
+      let f = flag-is list words (t .reads) in
+      let q : suffix ≡ foundAt list chunk k .suffix = e ∙ ap₂ {C = ℕ} (λ keyword flag. suffixOf keyword (folded flag chunk)) w f in
+      let p : set ≡ foundAt list chunk k .inner = z ∙ ap₂ {C = ℕ} (λ keyword flag. innerOf keyword (folded flag chunk)) w f in
+      λ i. record { prefix = t .prefix k h i; suffix = q i; count = t .count k h i; first = t .first k h i; set = p i }
 
   pub tells-few : k < 16
   tells-few = omega (arith, keywords-few list words (t .reads))
 
   pub tells-within : getD (words .start) k 0 + getD (words .len) k 0 ≤ length list
   tells-within = within list words (t .reads) k h
+
+  pub tells-most : length (slice list words (t .reads) k h) ≤ 32
+  tells-most = slice-most list words (t .reads) k h
 
   -- a prefix is a byte
   pub tells-prefix : getD tails (last * 16 + k) 0 < 256

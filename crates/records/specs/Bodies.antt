@@ -19,7 +19,7 @@ use Rattle.records.specs.declared.Started.{Started}
 
 -- The record of keyword k in a chunk, as keywords and chunk compare.
 unfoldable pub foundAt : List ℕ → List ℕ → ℕ → MatchRecord
-foundAt list chunk k = recordOf (keywordAt (foldedKeywords list) k) (folded (flagOf list) chunk)
+foundAt list chunk k = recordOf newest (keywordAt (foldedKeywords list) k) (folded (flagOf list) chunk)
 
 -- A tally and the tails of a chunk's last node, keyword by keyword: they say the chunk's records.
 pub record Tells (list : List ℕ) (words : Keywords) (chunk tails : List ℕ) (last : ℕ) (tally : Tally) : Type 0 where
@@ -32,14 +32,14 @@ pub record Tells (list : List ℕ) (words : Keywords) (chunk tails : List ℕ) (
   pub count : (k : ℕ) → k < words .count → getD (tally .counts) k 0 ≡ length (foundAt list chunk k .offsets)
   pub first : (k : ℕ) → k < words .count → getD (tally .firsts) k 0 ≡ getD (foundAt list chunk k .offsets) 0 0
 
--- Keyword k's record before its list of offsets; the list.
+-- What is written of keyword k before its list of offsets; the list.
 abbrev pub startOf : List ℕ → List ℕ → ℕ → List ℕ
 startOf list chunk k = startBytes newest (length (keywordAt (foldedKeywords list) k)) k (summaryOf (foundAt list chunk k))
 
 abbrev pub listOf : List ℕ → List ℕ → ℕ → List ℕ
 listOf list chunk k = listBytes newest (foundAt list chunk k .offsets)
 
--- Where keyword k's record stands in the body: behind those before it.
+-- Where keyword k's record stands in the body: behind those before it and their sets.
 unfoldable pub placeOf : List ℕ → List ℕ → ℕ → ℕ
 placeOf list chunk zero = 0
 placeOf list chunk (suc k) = placeOf list chunk k + length (startOf list chunk k) + length (listOf list chunk k)

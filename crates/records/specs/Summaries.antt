@@ -1,4 +1,5 @@
--- A record's written form in two parts: what stands before its list of offsets, and the list. The first is told from the record's summary.
+-- The written form of a record and its set in two parts: what stands before the list of offsets, and the list. The first is told from the record's
+-- summary. A record that has a set lists no offsets, so its set is of the first part.
 use mathlib.Core.Path.{_≡_}
 use mathlib.Core.Bool.{Bool, _&&_, not, cond}
 use mathlib.Core.List.{List, [], _∷_, _++_}
@@ -7,12 +8,12 @@ use lib.ListN.{length, getD}
 use lib.Dec.{eqb, leb}
 use Rattle.spec.specs.Bytes.{leBytes, splice, fieldsBytes}
 use Rattle.spec.specs.Form.{Form, newest}
-use Rattle.spec.specs.Records.{MatchRecord, kindOf}
+use Rattle.spec.specs.Records.{MatchRecord, kindOf, setBytes}
 use Rattle.records.specs.declared.Summary.{Summary}
 
 -- Of a record's offsets only their count and the first bear on what stands before the list.
 unfoldable pub summaryOf : MatchRecord → Summary
-summaryOf m = record { prefix = m .prefix; suffix = m .suffix; count = length (m .offsets); first = getD (m .offsets) 0 0 }
+summaryOf m = record { prefix = m .prefix; suffix = m .suffix; count = length (m .offsets); first = getD (m .offsets) 0 0; set = m .inner }
 
 -- Empty and tiny, by the summary.
 unfoldable pub emptyIn : Summary → Bool
@@ -28,11 +29,15 @@ tinyPart f k s = k ∷ 0 ∷ (s .prefix + f .tinyStep * s .suffix) ∷ []
 unfoldable pub headPart : Form → ℕ → Summary → List ℕ
 headPart f k s = k ∷ kindOf (s .count) ∷ s .prefix ∷ s .suffix ∷ min (s .count) 255 ∷ leBytes (f .width) (s .first)
 
--- What stands before the list of offsets, for a keyword of length n: of kind 3 the exact count too.
-unfoldable pub startBytes : Form → ℕ → ℕ → Summary → List ℕ
-startBytes f n k s =
+-- The record before its list of offsets, for a keyword of length n: of kind 3 the exact count too.
+unfoldable pub recordPart : Form → ℕ → ℕ → Summary → List ℕ
+recordPart f n k s =
     cond (emptyIn s) []
     (cond (tinyIn f n s) (tinyPart f k s) (headPart f k s ++ cond (leb (s .count) 254) [] (leBytes (f .width) (s .count))))
+
+-- What stands before the list: the record so far, and the set.
+unfoldable pub startBytes : Form → ℕ → ℕ → Summary → List ℕ
+startBytes f n k s = recordPart f n k s ++ setBytes k (s .set)
 
 -- The list: none where there is at most one offset.
 unfoldable pub listBytes : Form → List ℕ → List ℕ

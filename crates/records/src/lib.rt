@@ -1,13 +1,14 @@
-// The match records of a chunk in their written form but for the lists of offsets, from the tally of the log that the walk over the trie leaves.
+// The match records of a chunk in their written form but for the lists of offsets, from the tally of the log that the walk over the trie leaves; each
+// with its set of inner starts behind it (request #108).
 ghost use mathlib.Core.Path.{_≡_};
 ghost use Prim.Native.Nat.{ℕ, _+_, _≤_, _<_, min};
 ghost use lib.ListN.{length};
 ghost use Rattle.spec.specs.Scan.{scanBody};
 ghost use Rattle.spec.specs.Form.{newest};
-ghost use Rattle.spec.specs.Records.{kindOf};
+ghost use Rattle.spec.specs.Records.{kindOf, setBytes};
 ghost use Rattle.offset_lists.specs.Patches.{patched};
 ghost use Rattle.records.specs.Bodies.{foundAt, startOf, placeOf, startedOf, Tells};
-ghost use Rattle.records.specs.Summaries.{summaryOf, emptyIn, tinyIn, tinyPart, headPart, startBytes, listed, Wrote, CanStart};
+ghost use Rattle.records.specs.Summaries.{summaryOf, emptyIn, tinyIn, tinyPart, headPart, recordPart, startBytes, listed, Wrote, CanStart};
 
 // ---- summaries: what decides how a record is written
 
@@ -17,9 +18,11 @@ struct Summary {
     // how many offsets there are, and the first (0 where there is none)
     count: usize,
     first: usize,
+    // the set of inner starts
+    set: u32,
 }
 
-// The record is empty, so nothing is written.
+// The record is empty, so nothing is written of it but its set.
 fn is_empty(s: Summary) -> bool
     ensures { λ r. ⌜ r ≡ emptyIn s ⌝ }
 {
@@ -91,11 +94,16 @@ const TINY: usize = 3;
 
 const HEAD: usize = 8;
 
+// A set that is not written; the bytes of one that is: number, kind, and the set in 4 bytes.
+const NO_STARTS: u32 = 0;
+
+const SET: usize = 6;
+
 // ---- lengths
 
-// How many bytes stand before the list of offsets.
-fn start_size(s: Summary) -> usize
-    ensures { λ r. ⌜ ((n k : ℕ) → r ≡ length (startBytes newest n k s)) ⌝ }
+// How many bytes the record has before its list of offsets.
+fn record_size(s: Summary) -> usize
+    ensures { λ r. ⌜ ((n k : ℕ) → r ≡ length (recordPart newest n k s)) ⌝ }
 {
     if is_empty(s) {
         return 0;
@@ -107,6 +115,23 @@ fn start_size(s: Summary) -> usize
         return HEAD;
     }
     HEAD + offset_lists::WIDTH
+}
+
+// How many bytes the set has.
+fn set_size(set: u32) -> usize
+    ensures { λ r. ⌜ ((k : ℕ) → r ≡ length (setBytes k set)) ⌝ }
+{
+    if set == NO_STARTS {
+        return 0;
+    }
+    SET
+}
+
+// How many bytes stand before the list of offsets, the set included: a record that has a set lists no offsets.
+fn start_size(s: Summary) -> usize
+    ensures { λ r. ⌜ ((n k : ℕ) → r ≡ length (startBytes newest n k s)) ⌝ }
+{
+    record_size(s) + set_size(s.set)
 }
 
 // How many offsets are listed.
@@ -148,10 +173,10 @@ fn put_head(out: &mut [u8], k: usize, s: Summary) -> usize
     HEAD
 }
 
-// Writes what stands before the list of offsets of keyword k at the buffer's start: nothing where the record is empty.
-fn put_start(out: &mut [u8], k: usize, s: Summary) -> usize
+// Writes keyword k's record up to its list of offsets at the buffer's start: nothing where the record is empty.
+fn put_record(out: &mut [u8], k: usize, s: Summary) -> usize
     requires { ⌜ CanStart (now out) 0 k s ⌝ }
-    ensures { λ r. ⌜ ((n : ℕ) → Wrote (now (out .entry)) 0 (startBytes newest n k s) (now (out .exit)) r) ⌝ }
+    ensures { λ r. ⌜ ((n : ℕ) → Wrote (now (out .entry)) 0 (recordPart newest n k s) (now (out .exit)) r) ⌝ }
 {
     if is_empty(s) {
         return 0;
@@ -168,12 +193,36 @@ fn put_start(out: &mut [u8], k: usize, s: Summary) -> usize
     head + offset_lists::WIDTH
 }
 
+// Writes keyword k's set into the buffer at `at`: nothing where it is empty.
+fn put_set(out: &mut [u8], at: usize, k: usize, set: u32) -> usize
+    requires { ⌜ (at + length (setBytes k set) ≤ length (now out)) × (k < 256) ⌝ }
+    ensures { λ r. ⌜ Wrote (now (out .entry)) at (setBytes k set) (now (out .exit)) r ⌝ }
+{
+    if set == NO_STARTS {
+        return at;
+    }
+    out[at] = k as u8;
+    out[at + 1] = 4;
+    field::write(out, at + 2, 4, set as u64);
+    at + SET
+}
+
+// Writes what stands before the list of offsets of keyword k at the buffer's start: the record, and the set behind it.
+fn put_start(out: &mut [u8], k: usize, s: Summary) -> usize
+    requires { ⌜ CanStart (now out) 0 k s ⌝ }
+    ensures { λ r. ⌜ ((n : ℕ) → Wrote (now (out .entry)) 0 (startBytes newest n k s) (now (out .exit)) r) ⌝ }
+{
+    let end = put_record(out, k, s);
+    put_set(out, end, k, s.set)
+}
+
 // ---- bodies: the records of one chunk, by rising keyword number
 
 // For each node and keyword, the length of the keyword's longest proper beginning that ends the node: as many numbers a node.
 const TAILS: usize = 16;
 
-// The summary of keyword k's record: count and first offset from the tally, the prefix from the walk's last node, the suffix from the chunk.
+// The summary of keyword k's record: count and first offset from the tally, the prefix from the walk's last node, suffix and set
+// from the chunk.
 fn summary_of(
     list: &[u8],
     words: keywords::Keywords,
@@ -193,11 +242,13 @@ fn summary_of(
     let at = start[k];
     let end = at + len[k];
     let suffix = matcher::suffix_of(&list[at..end], chunk, words.flag);
+    let set = matcher::set_of(&list[at..end], chunk, words.flag);
     Summary {
         prefix: tails[last * TAILS + k] as usize,
         suffix: suffix,
         count: counts[k],
         first: firsts[k],
+        set: set,
     }
 }
 

@@ -24,7 +24,7 @@ module _ (list store : List ℕ) (good : storeCode store ≡ 0) where
   module _ (words : Keywords) (reads : Reads list words) where
     -- what n chunks from place `at` on can take of it, for one keyword
     abbrev share : ℕ → ℕ → ℕ
-    share n at = 11 * n + 3 * (length store - at)
+    share n at = 17 * n + 3 * (length store - at)
 
     bodies-share : (n k at : ℕ) → n + k ≡ chunkCount store → (0 < n → at ≤ offsetAt storeLayout store k)
         → length (bodiesFrom newest list store k) ≤ words .count * share n at
@@ -37,14 +37,14 @@ module _ (list store : List ℕ) (good : storeCode store ≡ 0) where
         let one = body-most list words reads (chunkAt store k) in
         let long = chunk-length store g k l in
         let inside = g .chunks .within k (omega arith) (omega arith) .1 in
-        let split : (11 + 3 * length (chunkAt store k)) + share n end ≤ share (suc n) at = omega (arith, long, inside, from (omega arith)) in
+        let split : (17 + 3 * length (chunkAt store k)) + share n end ≤ share (suc n) at = omega (arith, long, inside, from (omega arith)) in
         omega (
           arith,
           bodies-length newest list store k l,
           one,
           bodies-share n (k + 1) end (omega arith) next,
           mul-le-mul-left (words .count) split,
-          mul-add (words .count) (11 + 3 * length (chunkAt store k)) (share n end),
+          mul-add (words .count) (17 + 3 * length (chunkAt store k)) (share n end),
         )
 
     pub index-most : words .count ≡ countOf list → length (scanIndex newest list store) ≤ mostBytes list store
@@ -52,6 +52,6 @@ module _ (list store : List ℕ) (good : storeCode store ≡ 0) where
     index-most c =
         let first = directoryEnd storeLayout (chunkCount store) in
         let b = bodies-share (chunkCount store) 0 first (omega arith) (λ h. store-good store good .chunks .within 0 (omega arith) (omega arith) .0) in
-        let more : words .count * share (chunkCount store) first ≤ words .count * (11 * chunkCount store + 3 * length store) =
+        let more : words .count * share (chunkCount store) first ≤ words .count * (17 * chunkCount store + 3 * length store) =
         mul-le-mul-left (words .count) (omega arith) in
-        omega (arith, index-length list store good, b, more, ap (λ (x : ℕ). x * (11 * chunkCount store + 3 * length store)) c)
+        omega (arith, index-length list store good, b, more, ap (λ (x : ℕ). x * (17 * chunkCount store + 3 * length store)) c)

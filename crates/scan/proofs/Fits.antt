@@ -28,25 +28,25 @@ module _ {list : List ℕ} {words : Keywords} {store : List ℕ} {count : ℕ} (
 
   -- what one keyword can take of the bound, and all of them
   module _ (short : length store ≤ 4294967295) where
-    pub share-few : 11 * count + 3 * length store ≤ 11 * 65000 + 3 * 4294967295
+    pub share-few : 17 * count + 3 * length store ≤ 17 * 65000 + 3 * 4294967295
     share-few = omega (arith, count-few, short)
 
-    pub shares-few : words .count * (11 * count + 3 * length store) ≤ 16 * (11 * 65000 + 3 * 4294967295)
+    pub shares-few : words .count * (17 * count + 3 * length store) ≤ 16 * (17 * 65000 + 3 * 4294967295)
     shares-few =
-        let few : words .count * (11 * count + 3 * length store) ≤ 16 * (11 * count + 3 * length store) =
-        mul-le-mul-right (11 * count + 3 * length store) (parsed list words (w .reads) .few) in
+        let few : words .count * (17 * count + 3 * length store) ≤ 16 * (17 * count + 3 * length store) =
+        mul-le-mul-right (17 * count + 3 * length store) (parsed list words (w .reads) .few) in
         omega (arith, few, share-few)
 
-  pub most-is : 8 + length list + 32 * count + words .count * (11 * count + 3 * length store) ≡ mostBytes list store
+  pub most-is : 8 + length list + 32 * count + words .count * (17 * count + 3 * length store) ≡ mostBytes list store
   unfolding mostBytes
   most-is =
-      ap₂ {C = ℕ} (λ n k. 8 + length list + 32 * n + k * (11 * n + 3 * length store)) (w .counted) (parsed list words (w .reads) .counts)
+      ap₂ {C = ℕ} (λ n k. 8 + length list + 32 * n + k * (17 * n + 3 * length store)) (w .counted) (parsed list words (w .reads) .counts)
 
   -- the bound of a longer store is beyond 32 bits
   pub fits-never : 4294967295 < length store → (room : ℕ) → false ≡ (leb (mostBytes list store) room && leb (mostBytes list store) 4294967295)
   fits-never h room =
-      let one : 1 * (11 * count + 3 * length store) ≤ words .count * (11 * count + 3 * length store) =
-      mul-le-mul-right (11 * count + 3 * length store) (parsed list words (w .reads) .nonempty) in
+      let one : 1 * (17 * count + 3 * length store) ≤ words .count * (17 * count + 3 * length store) =
+      mul-le-mul-right (17 * count + 3 * length store) (parsed list words (w .reads) .nonempty) in
       sym (rw (lt-leb (mostBytes list store) 4294967295 (omega (arith, one, most-is)), and-false))
 
   -- the comparison, by the way taken
@@ -70,7 +70,7 @@ module _ {list : List ℕ} {words : Keywords} {store : List ℕ} {count : ℕ} (
   -- ---- what was measured
 
   module _ (size : ℕ) (e : size ≡ length (bodiesFrom newest list store 0)) where
-    pub size-few : size ≤ 50331824 * 65000
+    pub size-few : size ≤ 50331920 * 65000
     size-few = omega (arith, e, bodies-most list store (w .checked) (w .reads .accepted), store-good store (w .checked) .few)
 
     -- the code's sum for the index's length is a number of 64 bits; so are its parts, below

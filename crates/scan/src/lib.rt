@@ -96,7 +96,7 @@ fn always_fits(
     if LARGEST < store.len() {
         return false;
     }
-    let most = 8 + list.len() + 32 * count + words.count * (11 * count + 3 * store.len());
+    let most = 8 + list.len() + 32 * count + words.count * (17 * count + 3 * store.len());
     if room < most {
         return false;
     }

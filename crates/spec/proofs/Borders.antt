@@ -5,12 +5,12 @@ use mathlib.Core.Bool.{true}
 use mathlib.Core.List.{List, [], _∷_}
 use Prim.Native.Nat.{ℕ}
 use lib.ListN.{length, replicate}
-use Rattle.spec.specs.Bytes.{leBytes, fieldsBytes}
+use Rattle.spec.specs.Bytes.{leBytes, fieldsBytes, inSet}
 use Rattle.spec.specs.Keywords.{isUpper, foldByte, folded, keywordsOf}
 use Rattle.spec.specs.Form.{form1}
-use Rattle.spec.specs.Records.{reach, prefixOf, suffixOf, offsetsOf, recordOf, recordsOf, kindOf, offsetsBytes, fullBytes, recordBytes, headBytes}
+use Rattle.spec.specs.Records.{reach, prefixOf, suffixOf, offsetsOf, recordOf, recordsOf, kindOf, offsetsBytes, fullBytes, recordBytes, headBytes, innerOf}
 use Rattle.spec.specs.Table.{inCell}
-use Rattle.spec.specs.Join.{occurrencesAt, crosses, listed, joinFrom, joinFiles, innerLeast}
+use Rattle.spec.specs.Join.{occurrencesAt, crosses, starts, goesOn, listed, joinFrom, joinFiles, innerLeast}
 
 -- 40 and 5B stay, 41 and 5A are folded
 pub fold-borders : folded 1 (0x40 ∷ 0x41 ∷ 0x5A ∷ 0x5B ∷ []) ≡ 0x40 ∷ 0x61 ∷ 0x7A ∷ 0x5B ∷ []
@@ -34,8 +34,8 @@ unfolding offsetsBytes leBytes fieldsBytes
 count-borders = (refl, refl)
 
 -- a prefix or suffix of length 1 is tiny, one of length 2 is not
-pub tiny-borders : (recordBytes form1 3 0 (record { prefix = 1; suffix = 1; offsets = [] }) ≡ 0 ∷ 0 ∷ 3 ∷ [])
-    × (recordBytes form1 3 0 (record { prefix = 2; suffix = 0; offsets = [] }) ≡ 0 ∷ 1 ∷ 2 ∷ 0 ∷ 0 ∷ 0 ∷ 0 ∷ [])
+pub tiny-borders : (recordBytes form1 3 0 (record { prefix = 1; suffix = 1; offsets = []; inner = 0 }) ≡ 0 ∷ 0 ∷ 3 ∷ [])
+    × (recordBytes form1 3 0 (record { prefix = 2; suffix = 0; offsets = []; inner = 0 }) ≡ 0 ∷ 1 ∷ 2 ∷ 0 ∷ 0 ∷ 0 ∷ 0 ∷ [])
 unfolding recordBytes fullBytes headBytes offsetsBytes leBytes
 tiny-borders = (refl, refl)
 
@@ -43,6 +43,12 @@ tiny-borders = (refl, refl)
 pub prefix-border : (prefixOf (replicate 2 0x41) (replicate 2 0x41) ≡ 1) × (suffixOf (replicate 2 0x41) (replicate 2 0x41) ≡ 1)
 unfolding prefixOf suffixOf reach
 prefix-border = (refl, refl)
+
+-- AAAA on A and on AA: starts 1 and 2, start 1; none for AAA
+pub inner-borders : (innerOf (replicate 4 0x41) (replicate 1 0x41) ≡ 6) × (innerOf (replicate 4 0x41) (replicate 2 0x41) ≡ 2)
+    × (innerOf (replicate 4 0x41) (replicate 3 0x41) ≡ 0)
+unfolding innerOf
+inner-borders = (refl, refl, refl)
 
 -- AAAA: each of the three starts of a cell is crossed
 pub every-start : (crosses (replicate 4 0x41) 3 3 3 ≡ true) × (crosses (replicate 4 0x41) 3 3 2 ≡ true) × (crosses (replicate 4 0x41) 3 3 1 ≡ true)
@@ -56,9 +62,9 @@ letterA = 0x41 ∷ []
 abbrev pub twoAs : List (List ℕ)
 twoAs = replicate 2 0x41 ∷ []
 
-pub file-border : (joinFiles 0 twoAs ((recordsOf twoAs letterA ∷ recordsOf twoAs letterA ∷ []) ∷ []) ≡ record { file = 0; offset = 0; keyword = 0 } ∷ [])
-    × (joinFiles 0 twoAs ((recordsOf twoAs letterA ∷ []) ∷ (recordsOf twoAs letterA ∷ []) ∷ []) ≡ [])
-unfolding joinFiles joinFrom occurrencesAt listed crosses inCell recordsOf recordOf prefixOf suffixOf offsetsOf reach
+pub file-border : (joinFiles 0 twoAs ((recordsOf form1 twoAs letterA ∷ recordsOf form1 twoAs letterA ∷ []) ∷ []) ≡ record { file = 0; offset = 0; keyword = 0 } ∷ [])
+    × (joinFiles 0 twoAs ((recordsOf form1 twoAs letterA ∷ []) ∷ (recordsOf form1 twoAs letterA ∷ []) ∷ []) ≡ [])
+unfolding joinFiles joinFrom occurrencesAt listed crosses inCell starts goesOn inSet recordsOf recordOf prefixOf suffixOf offsetsOf reach
 file-border = (refl, refl)
 
 -- keyword ABA: an inner chunk must have 2 bytes

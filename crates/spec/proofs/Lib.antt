@@ -12,6 +12,7 @@ pub mod Rising
 pub mod Sets
 pub mod Same
 pub mod Point
+pub mod Crossing
 pub mod Stream
 pub mod Codes
 pub mod JoinIsSearch

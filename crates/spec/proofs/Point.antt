@@ -13,14 +13,11 @@ use Rattle.spec.specs.Bytes.{begins, occursAt, member}
 use Rattle.spec.specs.Records.{reach, endsWith, startsWith, prefixOf, suffixOf, offsetsOf}
 use Rattle.spec.specs.Table.{inCell}
 use Rattle.spec.specs.Join.{crosses}
+unfoldable pub use Rattle.spec.specs.Join.{starts}
 use Rattle.spec.proofs.Tests.{le-or-lt, leb-true, leb-false}
 use Rattle.spec.proofs.Largest.{largest-passes, largest-le, largest-max}
 use Rattle.spec.proofs.Each.{member-passing}
 use Rattle.spec.proofs.Begins.{begins-append, begins-front, begins-short, begins-split}
-
--- the last `left` bytes of the recorded prefix i are the keyword's first `left`
-unfoldable pub starts : List ℕ → ℕ → ℕ → Bool
-starts w i left = leb left i && begins (take left w) (drop (i - left) (take i w))
 
 module _ (w c : List ℕ) where
   pub prefix-le : prefixOf w c ≤ min (length w - 1) (length c)

@@ -1,20 +1,21 @@
 -- Match records and bodies: what is written reads back as the same, and a body has one written form. A record's head says its kind, so each
 -- law goes by the three kinds of a full record and the tiny one; bodies follow by induction on the keywords. Assumes nothing.
 use mathlib.Core.Path.{_≡_, refl, sym, ap, ap₂, _∙_, subst}
-use mathlib.Core.Logic.{_≢_, _⊎_, inl, inr}
+use mathlib.Core.Logic.{_≢_, _⊎_, inl, inr, ⊎-elim}
 use mathlib.Core.Bool.{Bool, true, false, _&&_, _||_, not, cond, and-true, and-false, and-assoc, false≢true, true≢false}
 use mathlib.Core.List.{List, [], _∷_, _++_, append-assoc}
 use Prim.Native.Nat.{ℕ, zero, suc, _+_, _-_, _*_, _/_, _%_, _^_, _≤_, _<_, min}
 use native.Mathlib.Nat.{add-mul-div-left, add-mul-mod-self-left, mod-eq-of-lt, div-eq-of-lt, zero-add, add-zero}
 use native.Mathlib.Omega.{arith}
 use lib.Dec.{eqb, leb, ltb, eqb→eq, leb→le, ltb→lt, leb·zero, eqb·suc-zero}
+use lib.Pow.{pow-mono, pow-pos}
 use lib.ListN.{length, take, drop, getD, length-append, length-drop, take-append-drop}
 use lib.Seq.{take-at, drop-at, drop-drop}
 use Rattle.spec.specs.Bytes.{leValue, leBytes, fieldAt, fieldsOf, fieldsBytes, same, begins, rising, every}
-use Rattle.spec.specs.Form.{Form, form1, form2}
-use Rattle.spec.specs.Records.{MatchRecord, emptyRecord, isEmpty, isTiny, reach, inRange, kindOf, offsetsBytes, fullBytes}
-use Rattle.spec.specs.Records.{tinyBytes, recordBytes, bodyFrom, bodyBytes, readOffsets, readRecord, recordSize, readFrom, readBody, allInRange}
-use Rattle.spec.specs.Records.{goodBody, headBytes}
+use Rattle.spec.specs.Form.{Form, form1, form2, form3}
+use Rattle.spec.specs.Records.{MatchRecord, emptyRecord, isEmpty, isTiny, reach, inRange, kindOf, offsetsBytes, fullBytes, tinyBytes, recordBytes}
+use Rattle.spec.specs.Records.{bodyFrom, bodyBytes, readOffsets, readRecord, recordSize, readFrom, readBody, allInRange, goodBody, headBytes}
+use Rattle.spec.specs.Records.{setInRange, setBytes, setIsNext, recordIsNext, recordTaken, setTaken, readSet, withSet, readKeyword, behindKeyword}
 use Rattle.spec.proofs.Tests.{le-or-lt, T-of, and-left, and-right, leb-true, leb-false, eqb-same, eqb-ne, bool-cases, le-of-and}
 use Rattle.spec.proofs.Same.{same-eq, same-of, same-refl}
 use Rattle.spec.proofs.Fields.{length-leBytes, leValue-leBytes}
@@ -54,19 +55,22 @@ form1-good = record { fits = omega arith; apart = λ n. omega arith }
 pub form2-good : FormGood form2
 form2-good = record { fits = omega arith; apart = λ n. omega arith }
 
+pub form3-good : FormGood form3
+form3-good = record { fits = omega arith; apart = λ n. omega arith }
+
 -- ---- records in range
 
 pub no-offsets : (offsets : List ℕ) → length offsets ≡ 0 → offsets ≡ []
 no-offsets [] e = refl
 no-offsets (x ∷ offsets) e = let z : ⊥ = omega arith in absurd z
 
-pub empty-is : (r : MatchRecord) → isEmpty r ≡ true → r ≡ emptyRecord
+pub empty-is : (r : MatchRecord) → isEmpty r ≡ true → withSet r 0 ≡ emptyRecord
 empty-is r e =
     let a = and-left (eqb (r .prefix) 0 && eqb (r .suffix) 0) (eqb (length (r .offsets)) 0) e in
     let p : r .prefix ≡ 0 = eq-of (r .prefix) 0 (and-left (eqb (r .prefix) 0) (eqb (r .suffix) 0) a) in
     let s : r .suffix ≡ 0 = eq-of (r .suffix) 0 (and-right (eqb (r .prefix) 0) (eqb (r .suffix) 0) a) in
     let o : r .offsets ≡ [] = no-offsets (r .offsets) (eq-of (length (r .offsets)) 0 (and-right (eqb (r .prefix) 0 && eqb (r .suffix) 0) (eqb (length (r .offsets)) 0) e)) in
-    λ i. record { prefix = p i; suffix = s i; offsets = o i }
+    λ i. record { prefix = p i; suffix = s i; offsets = o i; inner = 0 }
 
 -- the parts of a record in range
 module _ (n size : ℕ) (r : MatchRecord) (e : inRange n size r ≡ true) where
@@ -186,12 +190,12 @@ module _ (f : Form) (k p s : ℕ) where
       rw (exact f k 3 p s 255 offsets rest h few, behind-exact f k 3 p s 255 offsets rest h) (fieldsOf-fieldsBytes (f .width) offsets rest b)
 
   read-laid : (offsets rest : List ℕ) → every (λ x. ltb x (256 ^ f .width)) offsets ≡ true → length offsets < 256 ^ f .width
-      → readRecord f (laid f k (kindOf (length offsets)) p s (min (length offsets) 255) offsets rest) ≡ record { prefix = p; suffix = s; offsets = offsets }
+      → readRecord f (laid f k (kindOf (length offsets)) p s (min (length offsets) 255) offsets rest) ≡ record { prefix = p; suffix = s; offsets = offsets; inner = 0 }
   unfolding readRecord
   read-laid offsets rest b few = go (kinds (length offsets))
     where
       go : (length offsets ≤ 1) ⊎ ((1 < length offsets × length offsets ≤ 254) ⊎ (254 < length offsets))
-          → readRecord f (laid f k (kindOf (length offsets)) p s (min (length offsets) 255) offsets rest) ≡ record { prefix = p; suffix = s; offsets = offsets }
+          → readRecord f (laid f k (kindOf (length offsets)) p s (min (length offsets) 255) offsets rest) ≡ record { prefix = p; suffix = s; offsets = offsets; inner = 0 }
       go (inl h) =
           let m : min (length offsets) 255 ≡ length offsets = omega arith in
           rw (leb-true (length offsets) 1 h, m, read-one offsets rest h b)
@@ -266,14 +270,14 @@ tiny-apart : (p s step : ℕ) → p < step → ((p + step * s) % step ≡ p) × 
 tiny-apart p s step h =
     (add-mul-mod-self-left p step s ∙ mod-eq-of-lt h, add-mul-div-left p s {y = step} (omega arith) ∙ rw (div-eq-of-lt h) (zero-add s))
 
-read-tiny : (f : Form) → FormGood f → (n k : ℕ) (r : MatchRecord) → isTiny f n r ≡ true → (rest : List ℕ) → readRecord f (tinyBytes f k r ++ rest) ≡ r
+read-tiny : (f : Form) → FormGood f → (n k : ℕ) (r : MatchRecord) → isTiny f n r ≡ true → (rest : List ℕ) → readRecord f (tinyBytes f k r ++ rest) ≡ withSet r 0
 unfolding readRecord
 read-tiny f good n k r e rest =
     let a = and-left (eqb (length (r .offsets)) 0 && leb (r .prefix) (f .tinyMost n)) (leb (r .suffix) (f .tinyMost n)) (and-left _ (not (isEmpty r)) e) in
     let o : r .offsets ≡ [] = no-offsets (r .offsets) (eq-of (length (r .offsets)) 0 (and-left (eqb (length (r .offsets)) 0) (leb (r .prefix) (f .tinyMost n)) a)) in
     let p : r .prefix ≤ f .tinyMost n = le-of (r .prefix) (f .tinyMost n) (and-right (eqb (length (r .offsets)) 0) (leb (r .prefix) (f .tinyMost n)) a) in
     let q = tiny-apart (r .prefix) (r .suffix) (f .tinyStep) (omega (arith, good .apart n)) in
-    λ i. record { prefix = q .0 i; suffix = q .1 i; offsets = sym o i }
+    λ i. record { prefix = q .0 i; suffix = q .1 i; offsets = sym o i; inner = 0 }
 
 size-tiny : (f : Form) (n k : ℕ) (r : MatchRecord) (rest : List ℕ) → recordSize f (tinyBytes f k r ++ rest) ≡ 3
 unfolding recordSize
@@ -296,10 +300,10 @@ module _ (f : Form) (good : FormGood f) (n size k : ℕ) (positive : 1 ≤ n) (f
     below : every (λ x. ltb x (256 ^ f .width)) (r .offsets) ≡ true
     below = offsets-below (r .offsets) (offsets-in n size r within)
 
-    pub read-written : readRecord f (recordBytes f n k r ++ rest) ≡ r
+    pub read-written : readRecord f (recordBytes f n k r ++ rest) ≡ withSet r 0
     read-written = go (bool-cases (isTiny f n r))
       where
-        go : (isTiny f n r ≡ true) ⊎ (isTiny f n r ≡ false) → readRecord f (recordBytes f n k r ++ rest) ≡ r
+        go : (isTiny f n r ≡ true) ⊎ (isTiny f n r ≡ false) → readRecord f (recordBytes f n k r ++ rest) ≡ withSet r 0
         go (inl e) = rw (written-tiny f n k r e) (read-tiny f good n k r e rest)
         go (inr e) = rw (written-full f n k r nonempty e, full-laid f k r rest) (read-laid f k (r .prefix) (r .suffix) (r .offsets) rest below few)
 
@@ -315,65 +319,243 @@ module _ (f : Form) (good : FormGood f) (n size k : ℕ) (positive : 1 ≤ n) (f
     pub begins-written : begins (k ∷ []) (recordBytes f n k r ++ rest) ≡ true
     begins-written = rw (begins-some f n k k r nonempty rest) (eqb-same k)
 
+-- ---- sets
+
+none-of : (n : ℕ) → (n ≡ 0) ⊎ (0 < n)
+none-of zero = inl refl
+none-of (suc n) = inr (omega arith)
+
+-- the parts of a set in range
+module _ (f : Form) (n size set : ℕ) (e : setInRange f n size set ≡ true) where
+  pub set-even : set % 2 ≡ 0
+  unfolding setInRange
+  set-even = eq-of (set % 2) 0 (and-right (ltb set (cond (f .sets) (2 ^ (n - size)) 1)) (eqb (set % 2) 0) e)
+
+  below-of : (b : Bool) → f .sets ≡ b → set < cond b (2 ^ (n - size)) 1
+  unfolding setInRange
+  below-of b q =
+      ltb→lt set (cond b (2 ^ (n - size)) 1)
+      (T-of (ltb set (cond b (2 ^ (n - size)) 1)) (rw q at (and-left (ltb set (cond (f .sets) (2 ^ (n - size)) 1)) (eqb (set % 2) 0) e)))
+
+  -- no set in a form without sets
+  pub plain-set : f .sets ≡ false → set ≡ 0
+  plain-set q = let l : set < 1 = below-of false q in omega arith
+
+  pub set-below : set < 2 ^ (n - size)
+  set-below = go (bool-cases (f .sets))
+    where
+      go : (f .sets ≡ true) ⊎ (f .sets ≡ false) → set < 2 ^ (n - size)
+      go (inl q) = below-of true q
+      go (inr q) = let z : set ≡ 0 = plain-set q in omega (arith, pow-pos (n - size))
+
+  pub has-sets : 0 < set → f .sets ≡ true
+  has-sets h = go (bool-cases (f .sets))
+    where
+      go : (f .sets ≡ true) ⊎ (f .sets ≡ false) → f .sets ≡ true
+      go (inl q) = q
+      go (inr q) = let z : ⊥ = omega (arith, plain-set q) in absurd z
+
+  -- it fits 4 bytes
+  pub set-fits : n ≤ 32 → set < 256 ^ 4
+  set-fits h = let m : n - size ≤ 32 = omega arith in omega (arith, set-below, pow-mono {i = n - size} {j = 32} m)
+
+pub zero-in : (f : Form) (n size : ℕ) → setInRange f n size 0 ≡ true
+unfolding setInRange
+zero-in f n size = go (bool-cases (f .sets))
+  where
+    go : (f .sets ≡ true) ⊎ (f .sets ≡ false) → (ltb 0 (cond (f .sets) (2 ^ (n - size)) 1) && eqb (0 % 2) 0) ≡ true
+    go (inl q) = rw (q, leb-true 1 (2 ^ (n - size)) (pow-pos (n - size)))
+    go (inr q) = rw q
+
+pub set-empty : (k set : ℕ) → set ≡ 0 → setBytes k set ≡ []
+unfolding setBytes
+set-empty k set e = rw e
+
+pub set-some : (k set : ℕ) → 0 < set → setBytes k set ≡ k ∷ 4 ∷ leBytes 4 set
+unfolding setBytes
+set-some k set h = rw (eqb-ne set 0 (λ e. omega arith))
+
+set-begins : (j k set : ℕ) (rest : List ℕ) → 0 < set → begins (j ∷ []) (setBytes k set ++ rest) ≡ eqb j k
+set-begins j k set rest h = rw (set-some k set h) (and-true (eqb j k))
+
+-- what does not start with k does not start with k and more
+begins-more : (k : ℕ) (more bytes : List ℕ) → begins (k ∷ []) bytes ≡ false → begins (k ∷ more) bytes ≡ false
+begins-more k more [] e = refl
+begins-more k more (b ∷ bytes) e = let z : eqb k b ≡ false = sym (and-true (eqb k b)) ∙ e in rw z
+
+-- ---- a keyword's record and set read back, where what follows them is not the keyword's
+
+kind-below : (count : ℕ) → kindOf count < 4
+kind-below count = go (kinds count)
+  where
+    go : (count ≤ 1) ⊎ ((1 < count × count ≤ 254) ⊎ (254 < count)) → kindOf count < 4
+    go (inl h) = rw (leb-true count 1 h) (omega arith)
+    go (inr (inl (l, h))) = rw (leb-false count 1 l, leb-true count 254 h) (omega arith)
+    go (inr (inr h)) = let l : 1 < count = omega arith in rw (leb-false count 1 l, leb-false count 254 h) (omega arith)
+
+-- a record that is written is not a set
+not-set : (f : Form) (n k : ℕ) (r : MatchRecord) → isEmpty r ≡ false → (rest : List ℕ) → begins (k ∷ 4 ∷ []) (recordBytes f n k r ++ rest) ≡ false
+not-set f n k r some rest = go (bool-cases (isTiny f n r))
+  where
+    go : (isTiny f n r ≡ true) ⊎ (isTiny f n r ≡ false) → begins (k ∷ 4 ∷ []) (recordBytes f n k r ++ rest) ≡ false
+    go (inl e) = rw (written-tiny f n k r e, and-false)
+    go (inr e) =
+        rw (written-full f n k r some e, full-laid f k r rest, eqb-ne 4 (kindOf (length (r .offsets))) (λ q. omega (arith, kind-below (length (r .offsets)))), and-false)
+
+module _ (f : Form) (n size k set : ℕ) (short : n ≤ 32) (within : setInRange f n size set ≡ true) (rest : List ℕ) (other : begins (k ∷ []) rest ≡ false) where
+  set-absent : set ≡ 0 → setIsNext f k (setBytes k set ++ rest) ≡ false
+  set-absent e = rw (set-empty k set e, begins-more k (4 ∷ []) rest other, and-false)
+
+  set-present : 0 < set → setIsNext f k (setBytes k set ++ rest) ≡ true
+  set-present h = rw (has-sets f n size set within h, set-some k set h, eqb-same k)
+
+  pub set-read : readSet f k (setBytes k set ++ rest) ≡ set
+  unfolding readSet
+  set-read = go (none-of set)
+    where
+      go : (set ≡ 0) ⊎ (0 < set) → readSet f k (setBytes k set ++ rest) ≡ set
+      go (inl e) = rw (set-absent e) (sym e)
+      go (inr h) =
+          rw (set-present h, set-some k set h)
+          (ap leValue (take-at (leBytes 4 set) rest 4 (length-leBytes 4 set)) ∙ leValue-leBytes 4 set (set-fits f n size set within short))
+
+  pub set-taken : setTaken f k (setBytes k set ++ rest) ≡ length (setBytes k set)
+  unfolding setTaken
+  set-taken = go (none-of set)
+    where
+      go : (set ≡ 0) ⊎ (0 < set) → setTaken f k (setBytes k set ++ rest) ≡ length (setBytes k set)
+      go (inl e) = rw (set-absent e, set-empty k set e)
+      go (inr h) = rw (set-present h, set-some k set h, length-leBytes)
+
+module _ (f : Form) (good : FormGood f) (n size k : ℕ) (positive : 1 ≤ n) (short : n ≤ 32) (fit : size ≤ f .longestChunk)
+    (r : MatchRecord) (within : inRange n size r ≡ true) (setWithin : setInRange f n size (r .inner) ≡ true)
+    (rest : List ℕ) (other : begins (k ∷ []) rest ≡ false) where
+  abbrev bytes : List ℕ
+  bytes = recordBytes f n k r ++ (setBytes k (r .inner) ++ rest)
+
+  record-absent : isEmpty r ≡ true → recordIsNext f k bytes ≡ false
+  record-absent t = go (none-of (r .inner))
+    where
+      go : (r .inner ≡ 0) ⊎ (0 < r .inner) → recordIsNext f k bytes ≡ false
+      go (inl e) = rw (written-empty f n k r t, set-empty k (r .inner) e, other, and-false)
+      go (inr h) = rw (written-empty f n k r t, set-present f n size k (r .inner) short setWithin rest other h)
+
+  record-present : isEmpty r ≡ false → recordIsNext f k bytes ≡ true
+  record-present t =
+      rw (not-set f n k r t (setBytes k (r .inner) ++ rest), and-false, begins-written f good n size k positive fit r within t (setBytes k (r .inner) ++ rest))
+
+  pub record-taken : recordTaken f k bytes ≡ length (recordBytes f n k r)
+  unfolding recordTaken
+  record-taken = go (bool-cases (isEmpty r))
+    where
+      go : (isEmpty r ≡ true) ⊎ (isEmpty r ≡ false) → recordTaken f k bytes ≡ length (recordBytes f n k r)
+      go (inl t) = rw (record-absent t, written-empty f n k r t)
+      go (inr t) = rw (record-present t, size-written f good n size k positive fit r within t (setBytes k (r .inner) ++ rest))
+
+  behind-record : drop (recordTaken f k bytes) bytes ≡ setBytes k (r .inner) ++ rest
+  behind-record = drop-at (recordBytes f n k r) (setBytes k (r .inner) ++ rest) (recordTaken f k bytes) (sym record-taken)
+
+  record-is : withSet (cond (recordIsNext f k bytes) (readRecord f bytes) emptyRecord) 0 ≡ withSet r 0
+  record-is = go (bool-cases (isEmpty r))
+    where
+      go : (isEmpty r ≡ true) ⊎ (isEmpty r ≡ false) → withSet (cond (recordIsNext f k bytes) (readRecord f bytes) emptyRecord) 0 ≡ withSet r 0
+      go (inl t) = rw (record-absent t) (sym (empty-is r t))
+      go (inr t) = rw (record-present t, read-written f good n size k positive fit r within t (setBytes k (r .inner) ++ rest))
+
+  pub keyword-read : readKeyword f k bytes ≡ r
+  unfolding readKeyword
+  keyword-read =
+      ap (λ (s : MatchRecord). withSet s (readSet f k (drop (recordTaken f k bytes) bytes))) record-is
+      ∙ ap (withSet r) (ap (readSet f k) behind-record ∙ set-read f n size k (r .inner) short setWithin rest other)
+
+  pub keyword-behind : behindKeyword f k bytes ≡ rest
+  unfolding behindKeyword
+  keyword-behind =
+      ap (λ (b : List ℕ). drop (setTaken f k b) b) behind-record
+      ∙ drop-at (setBytes k (r .inner)) rest _ (sym (set-taken f n size k (r .inner) short setWithin rest other))
+
 -- ---- bodies
 
--- Every length is above 0, as a checked keyword's is.
-abbrev pub allPositive : List ℕ → Bool
-allPositive lengths = every (λ n. ltb 0 n) lengths
+-- Every length is in 1 to 32, as a checked keyword's is.
+abbrev pub allProper : List ℕ → Bool
+allProper lengths = every (λ n. ltb 0 n && leb n 32) lengths
+
+pub proper-first : (n : ℕ) (lengths : List ℕ) → allProper (n ∷ lengths) ≡ true → (1 ≤ n) × (n ≤ 32)
+proper-first n lengths p =
+    let h = and-left (ltb 0 n && leb n 32) (allProper lengths) p in
+    (le-of 1 n (and-left (ltb 0 n) (leb n 32) h), le-of n 32 (and-right (ltb 0 n) (leb n 32) h))
+
+pub proper-rest : (n : ℕ) (lengths : List ℕ) → allProper (n ∷ lengths) ≡ true → allProper lengths ≡ true
+proper-rest n lengths p = and-right (ltb 0 n && leb n 32) (allProper lengths) p
 
 -- a body from keyword k on does not start with a number below k
 pub body-begins : (f : Form) (j k : ℕ) (lengths : List ℕ) (records : List MatchRecord) → j < k → begins (j ∷ []) (bodyFrom f k lengths records) ≡ false
 unfolding bodyFrom
 body-begins f j k [] records l = refl
 body-begins f j k (n ∷ lengths) [] l = refl
-body-begins f j k (n ∷ lengths) (r ∷ records) l = go (bool-cases (isEmpty r)) (body-begins f j (suc k) lengths records (omega arith))
+body-begins f j k (n ∷ lengths) (r ∷ records) l =
+    go (bool-cases (isEmpty r)) (none-of (r .inner)) (body-begins f j (suc k) lengths records (omega arith))
   where
-    go : (isEmpty r ≡ true) ⊎ (isEmpty r ≡ false) → begins (j ∷ []) (bodyFrom f (suc k) lengths records) ≡ false
-        → begins (j ∷ []) (recordBytes f n k r ++ bodyFrom f (suc k) lengths records) ≡ false
-    go (inl e) ih = rw (written-empty f n k r e) ih
-    go (inr e) ih = rw (begins-some f n k j r e (bodyFrom f (suc k) lengths records)) (eqb-ne j k (omega arith))
+    rest : List ℕ
+    rest = bodyFrom f (suc k) lengths records
+
+    go : (isEmpty r ≡ true) ⊎ (isEmpty r ≡ false) → (r .inner ≡ 0) ⊎ (0 < r .inner) → begins (j ∷ []) rest ≡ false
+        → begins (j ∷ []) (recordBytes f n k r ++ (setBytes k (r .inner) ++ rest)) ≡ false
+    go (inl e) (inl z) ih = rw (written-empty f n k r e, set-empty k (r .inner) z) ih
+    go (inl e) (inr h) ih = rw (written-empty f n k r e) (set-begins j k (r .inner) rest h ∙ eqb-ne j k (omega arith))
+    go (inr e) d ih = begins-some f n k j r e (setBytes k (r .inner) ++ rest) ∙ eqb-ne j k (omega arith)
+
+pub range-none : (f : Form) (size n : ℕ) (lengths : List ℕ) → allInRange f size (n ∷ lengths) [] ≡ true → ⊥
+unfolding allInRange
+range-none f size n lengths e = false≢true e
+
+-- the parts of records in range
+module _ (f : Form) (size n : ℕ) (lengths : List ℕ) (r : MatchRecord) (records : List MatchRecord) (e : allInRange f size (n ∷ lengths) (r ∷ records) ≡ true) where
+  pub range-first : inRange n size r ≡ true
+  unfolding allInRange
+  range-first = and-left (inRange n size r) (setInRange f n size (r .inner) && allInRange f size lengths records) e
+
+  pub set-first : setInRange f n size (r .inner) ≡ true
+  unfolding allInRange
+  set-first =
+      and-left (setInRange f n size (r .inner)) (allInRange f size lengths records)
+      (and-right (inRange n size r) (setInRange f n size (r .inner) && allInRange f size lengths records) e)
+
+  pub range-rest : allInRange f size lengths records ≡ true
+  unfolding allInRange
+  range-rest =
+      and-right (setInRange f n size (r .inner)) (allInRange f size lengths records)
+      (and-right (inRange n size r) (setInRange f n size (r .inner) && allInRange f size lengths records) e)
 
 module _ (f : Form) (good : FormGood f) (size : ℕ) (fit : size ≤ f .longestChunk) where
   -- written records read back as the same records
-  pub body-read : (k : ℕ) (lengths : List ℕ) (records : List MatchRecord) → allPositive lengths ≡ true → allInRange size lengths records ≡ true → length records ≡ length lengths
+  pub body-read : (k : ℕ) (lengths : List ℕ) (records : List MatchRecord) → allProper lengths ≡ true → allInRange f size lengths records ≡ true → length records ≡ length lengths
       → readFrom f k (length lengths) (bodyFrom f k lengths records) ≡ records
-  unfolding bodyFrom readFrom allInRange
+  unfolding bodyFrom readFrom
   body-read k [] [] p e l = refl
   body-read k [] (r ∷ records) p e l = let z : ⊥ = omega arith in absurd z
   body-read k (n ∷ lengths) [] p e l = let z : ⊥ = omega arith in absurd z
   body-read k (n ∷ lengths) (r ∷ records) p e l =
-      go (bool-cases (isEmpty r))
-      (body-read (suc k) lengths records (and-right (ltb 0 n) (allPositive lengths) p) (and-right (inRange n size r) (allInRange size lengths records) e) (omega arith))
-    where
-      positive : 1 ≤ n
-      positive = le-of-and 1 n (allPositive lengths) p
-
-      within : inRange n size r ≡ true
-      within = and-left (inRange n size r) (allInRange size lengths records) e
-
-      go : (isEmpty r ≡ true) ⊎ (isEmpty r ≡ false) → readFrom f (suc k) (length lengths) (bodyFrom f (suc k) lengths records) ≡ records
-          → readFrom f k (suc (length lengths)) (recordBytes f n k r ++ bodyFrom f (suc k) lengths records) ≡ r ∷ records
-      go (inl t) ih =
-          rw (written-empty f n k r t, body-begins f k (suc k) lengths records (omega arith), ih, empty-is r t)
-      go (inr t) ih =
-          let rest = bodyFrom f (suc k) lengths records in
-          rw (
-            begins-written f good n size k positive fit r within t rest,
-            read-written f good n size k positive fit r within t rest,
-            size-written f good n size k positive fit r within t rest,
-            drop-at (recordBytes f n k r) rest (length (recordBytes f n k r)) refl,
-            ih,
-          )
+      let rest = bodyFrom f (suc k) lengths records in
+      let h = proper-first n lengths p in
+      let within = range-first f size n lengths r records e in
+      let setWithin = set-first f size n lengths r records e in
+      let other = body-begins f k (suc k) lengths records (omega arith) in
+      rw (
+        keyword-read f good n size k (h .0) (h .1) fit r within setWithin rest other,
+        keyword-behind f good n size k (h .0) (h .1) fit r within setWithin rest other,
+        body-read (suc k) lengths records (proper-rest n lengths p) (range-rest f size n lengths r records e) (omega arith),
+      )
 
   -- the writing of records in range is good
-  pub good-written : (lengths : List ℕ) (records : List MatchRecord) → allPositive lengths ≡ true → allInRange size lengths records ≡ true → length records ≡ length lengths
+  pub good-written : (lengths : List ℕ) (records : List MatchRecord) → allProper lengths ≡ true → allInRange f size lengths records ≡ true → length records ≡ length lengths
       → goodBody f lengths size (bodyBytes f lengths records) ≡ true
   unfolding goodBody
   good-written lengths records p e l = rw (body-read 0 lengths records p e l, same-refl (bodyBytes f lengths records), e)
 
 -- a good body is the writing of records in range
 pub good-is-written : (f : Form) (lengths : List ℕ) (size : ℕ) (body : List ℕ) → goodBody f lengths size body ≡ true
-    → (body ≡ bodyBytes f lengths (readBody f (length lengths) body)) × (allInRange size lengths (readBody f (length lengths) body) ≡ true)
+    → (body ≡ bodyBytes f lengths (readBody f (length lengths) body)) × (allInRange f size lengths (readBody f (length lengths) body) ≡ true)
 unfolding goodBody
 good-is-written f lengths size body e = (
   sym (same-eq _ _ (and-left (same (bodyBytes f lengths (readBody f (length lengths) body)) body) _ e)),

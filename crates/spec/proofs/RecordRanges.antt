@@ -1,22 +1,24 @@
 -- The records of a real chunk keep the ranges of document 01: prefix and suffix in reach, offsets rising, and each keyword inside the
 -- chunk. The offsets are the numbers of a range that pass a test, so they rise. Assumes nothing.
 use mathlib.Core.Path.{_≡_, refl, sym, _∙_}
-use mathlib.Core.Logic.{_⊎_, ⊎-elim}
-use mathlib.Core.Bool.{Bool, true, false, false≢true}
+use mathlib.Core.Logic.{_⊎_, inl, inr, ⊎-elim}
+use mathlib.Core.Bool.{Bool, true, false, _&&_, cond, false≢true}
 use mathlib.Core.List.{List, [], _∷_, _++_, map}
-use Prim.Native.Nat.{ℕ, zero, suc, _+_, _-_, _≤_, _<_}
+use Prim.Native.Nat.{ℕ, zero, suc, _+_, _-_, _*_, _%_, _^_, _≤_, _<_}
 use native.Mathlib.Nat.{zero-lt-suc}
 use native.Mathlib.Omega.{arith}
 use borrow.Author.Tests.{lt-ltb}
-use lib.Dec.{leb}
+use lib.Dec.{eqb, leb, ltb}
 use lib.ListN.{length, getD, drop, length-drop}
-use Rattle.spec.specs.Bytes.{occursAt, keep, rising, every}
-use Rattle.spec.specs.Records.{reach, endsWith, startsWith, prefixOf, suffixOf, offsetsOf, recordOf, inRange, allInRange}
-use Rattle.spec.proofs.Tests.{leb-true, le-or-lt}
+use Rattle.spec.specs.Bytes.{occursAt, keep, rising, every, setOf}
+use Rattle.spec.specs.Form.{Form}
+use Rattle.spec.specs.Records.{reach, endsWith, startsWith, prefixOf, suffixOf, offsetsOf, liesAt, innerOf, recordOf, inRange, setInRange, allInRange}
+use Rattle.spec.proofs.Tests.{leb-true, le-or-lt, bool-cases}
 use Rattle.spec.proofs.Largest.{largest-le}
 use Rattle.spec.proofs.Begins.{begins-short}
 use Rattle.spec.proofs.Each.{passing}
 use Rattle.spec.proofs.RecordLaws.{and-intro}
+use Rattle.spec.proofs.Sets.{set-lt}
 
 -- ---- the numbers of a range that pass a test
 
@@ -60,9 +62,9 @@ occurs-within keyword text at h e =
     (λ (m : length text < at + length keyword). absurd (false≢true (sym (begins-short keyword (drop at text) (rw length-drop (omega arith))) ∙ e)))
     (le-or-lt (at + length keyword) (length text))
 
-pub record-in-range : (keyword chunk : List ℕ) → inRange (length keyword) (length chunk) (recordOf keyword chunk) ≡ true
+pub record-in-range : (f : Form) (keyword chunk : List ℕ) → inRange (length keyword) (length chunk) (recordOf f keyword chunk) ≡ true
 unfolding inRange recordOf prefixOf suffixOf offsetsOf
-record-in-range keyword chunk =
+record-in-range f keyword chunk =
     rw (
       leb-true _ _ (largest-le (endsWith keyword chunk) (reach (length keyword) (length chunk))),
       leb-true _ _ (largest-le (startsWith keyword chunk) (reach (length keyword) (length chunk))),
@@ -71,8 +73,35 @@ record-in-range keyword chunk =
     (passing-every (occursAt keyword chunk) (λ at. leb (at + length keyword) (length chunk)) 0 (length chunk)
     (λ x l m e. leb-true (x + length keyword) (length chunk) (occurs-within keyword chunk x (omega arith) e)))
 
-pub records-in-range : (keywords : List (List ℕ)) (chunk : List ℕ)
-    → allInRange (length chunk) (map length keywords) (map (λ keyword. recordOf keyword chunk) keywords) ≡ true
+-- a set of numbers above 0 is even
+even-set : (t : ℕ → Bool) (n : ℕ) → setOf (λ p. leb 1 p && t p) n % 2 ≡ 0
+even-set t zero = refl
+even-set t (suc zero) = refl
+even-set t (suc (suc n)) = go (leb 1 (suc n) && t (suc n)) (even-set t (suc n))
+  where
+    rest : ℕ
+    rest = setOf (λ p. leb 1 p && t p) (suc n)
+
+    go : (b : Bool) → rest % 2 ≡ 0 → (cond b 1 0 * 2 ^ suc n + rest) % 2 ≡ 0
+    go true e = omega arith
+    go false e = omega arith
+
+pub set-in-range : (f : Form) (keyword chunk : List ℕ) → setInRange f (length keyword) (length chunk) (recordOf f keyword chunk .inner) ≡ true
+unfolding recordOf setInRange innerOf
+set-in-range f keyword chunk = go (bool-cases (f .sets))
+  where
+    n : ℕ
+    n = length keyword - length chunk
+
+    set : ℕ
+    set = setOf (λ p. leb 1 p && liesAt keyword chunk p) n
+
+    go : (f .sets ≡ true) ⊎ (f .sets ≡ false) → (ltb (cond (f .sets) set 0) (cond (f .sets) (2 ^ n) 1) && eqb (cond (f .sets) set 0 % 2) 0) ≡ true
+    go (inl q) = rw (q, lt-ltb set (2 ^ n) (set-lt (λ p. leb 1 p && liesAt keyword chunk p) n), even-set (liesAt keyword chunk) n)
+    go (inr q) = rw q
+
+pub records-in-range : (f : Form) (keywords : List (List ℕ)) (chunk : List ℕ)
+    → allInRange f (length chunk) (map length keywords) (map (λ keyword. recordOf f keyword chunk) keywords) ≡ true
 unfolding allInRange
-records-in-range [] chunk = refl
-records-in-range (keyword ∷ keywords) chunk = rw (record-in-range keyword chunk, records-in-range keywords chunk)
+records-in-range f [] chunk = refl
+records-in-range f (keyword ∷ keywords) chunk = rw (record-in-range f keyword chunk, set-in-range f keyword chunk, records-in-range f keywords chunk)

@@ -17,11 +17,12 @@ use Rattle.spec.specs.Form.{Form, newest, formOf}
 use Rattle.spec.specs.Records.{recordOf, recordsOf, readBody, allInRange, goodBody}
 use Rattle.spec.specs.Index.{Entry, indexBytes, listIn, indexLayout, indexKeys, bodyAt, lengthsIn, indexRecords, goodAt, indexCode}
 use Rattle.spec.specs.Scan.{scanRecords, scanBody, scanEntry, scanIndex, scannableCode, scanCode}
+use Rattle.spec.proofs.Tests.{leb-true}
 use Rattle.spec.proofs.Codes.{passed, passed-whole, or-left, or-right}
 use Rattle.spec.proofs.Folding.{folded-length}
 use Rattle.spec.proofs.KeywordLaws.{Proper, accepted, keyword-front, folded-count, folded-lengths, folded-proper}
 use Rattle.spec.proofs.KeywordReads.{SameList}
-use Rattle.spec.proofs.RecordLaws.{FormGood, allPositive, body-read, good-written}
+use Rattle.spec.proofs.RecordLaws.{FormGood, allProper, body-read, good-written}
 use Rattle.spec.proofs.Forms.{WriteForm, form-writes, newest-read, newest-of}
 use Rattle.spec.proofs.RecordRanges.{records-in-range}
 use Rattle.spec.proofs.StoreLaws.{StoreGood, store-good, length-storeKeys, store-key-length, store-size-some, store-size-most, chunk-length}
@@ -48,39 +49,39 @@ scan-form list store = newest-of (scanIndex newest list store) (mark-first newes
 
 -- ---- the records of a chunk, for an accepted list
 
-pub positive-lengths : (keywords : List (List ℕ)) → ((k : ℕ) → k < length keywords → Proper (getD keywords k [])) → allPositive (map length keywords) ≡ true
+pub positive-lengths : (keywords : List (List ℕ)) → ((k : ℕ) → k < length keywords → Proper (getD keywords k [])) → allProper (map length keywords) ≡ true
 positive-lengths [] h = refl
-positive-lengths (x ∷ xs) h = rw (lt-ltb 0 (length x) (h 0 (zero-lt-suc _) .0), positive-lengths xs (λ k l. h (suc k) (omega arith)))
+positive-lengths (x ∷ xs) h = rw (lt-ltb 0 (length x) (h 0 (zero-lt-suc _) .0), leb-true (length x) 32 (h 0 (zero-lt-suc _) .1), positive-lengths xs (λ k l. h (suc k) (omega arith)))
 
 module _ (list : List ℕ) (accept : keywordCode list ≡ 0) where
-  pub scan-positive : allPositive (map length (foldedKeywords list)) ≡ true
+  pub scan-positive : allProper (map length (foldedKeywords list)) ≡ true
   scan-positive =
       positive-lengths (foldedKeywords list)
       (λ k l. folded-proper list (keyword-front list accept) k (omega (arith, folded-count list, accepted list (keyword-front list accept) .count)))
 
-  module _ (chunk : List ℕ) where
-    pub scan-size : scanRecords list chunk .size ≡ length chunk
+  module _ (f : Form) (chunk : List ℕ) where
+    pub scan-size : scanRecords f list chunk .size ≡ length chunk
     unfolding scanRecords recordsOf
     scan-size = folded-length (flagOf list) chunk
 
-    pub scan-records-length : length (scanRecords list chunk .records) ≡ length (map length (foldedKeywords list))
+    pub scan-records-length : length (scanRecords f list chunk .records) ≡ length (map length (foldedKeywords list))
     unfolding scanRecords recordsOf
     scan-records-length =
-        length-map (foldedKeywords list) (λ keyword. recordOf keyword (folded (flagOf list) chunk)) ∙ sym (length-map (foldedKeywords list) length)
+        length-map (foldedKeywords list) (λ keyword. recordOf f keyword (folded (flagOf list) chunk)) ∙ sym (length-map (foldedKeywords list) length)
 
-    pub scan-in-range : allInRange (length chunk) (map length (foldedKeywords list)) (scanRecords list chunk .records) ≡ true
+    pub scan-in-range : allInRange f (length chunk) (map length (foldedKeywords list)) (scanRecords f list chunk .records) ≡ true
     unfolding scanRecords recordsOf
-    scan-in-range = rw (folded-length (flagOf list) chunk) at (records-in-range (foldedKeywords list) (folded (flagOf list) chunk))
+    scan-in-range = rw (folded-length (flagOf list) chunk) at (records-in-range f (foldedKeywords list) (folded (flagOf list) chunk))
 
-    module _ (f : Form) (form : FormGood f) (short : length chunk ≤ f .longestChunk) where
+    module _ (form : FormGood f) (short : length chunk ≤ f .longestChunk) where
       -- the chunk's body reads back as its records
-      pub scan-body-read : readBody f (length (map length (foldedKeywords list))) (scanBody f list chunk) ≡ scanRecords list chunk .records
+      pub scan-body-read : readBody f (length (map length (foldedKeywords list))) (scanBody f list chunk) ≡ scanRecords f list chunk .records
       unfolding scanBody
-      scan-body-read = body-read f form (length chunk) short 0 (map length (foldedKeywords list)) (scanRecords list chunk .records) scan-positive scan-in-range scan-records-length
+      scan-body-read = body-read f form (length chunk) short 0 (map length (foldedKeywords list)) (scanRecords f list chunk .records) scan-positive scan-in-range scan-records-length
 
       pub scan-body-good : goodBody f (map length (foldedKeywords list)) (length chunk) (scanBody f list chunk) ≡ true
       unfolding scanBody
-      scan-body-good = good-written f form (length chunk) short (map length (foldedKeywords list)) (scanRecords list chunk .records) scan-positive scan-in-range scan-records-length
+      scan-body-good = good-written f form (length chunk) short (map length (foldedKeywords list)) (scanRecords f list chunk .records) scan-positive scan-in-range scan-records-length
 
 -- ---- the index of a store
 
@@ -95,7 +96,7 @@ pub record ScanReads (f : Form) (list store index : List ℕ) : Type 0 where
   pub keys : indexKeys index ≡ storeKeys store
   pub sizes : (k : ℕ) → k < chunkCount store → sizeAt (indexLayout index) index k ≡ sizeAt storeLayout store k
   pub bodies : (k : ℕ) → k < chunkCount store → bodyAt index k ≡ scanBody f list (chunkAt store k)
-  pub records : (k : ℕ) → k < chunkCount store → indexRecords f index k ≡ scanRecords list (chunkAt store k)
+  pub records : (k : ℕ) → k < chunkCount store → indexRecords f index k ≡ scanRecords f list (chunkAt store k)
   -- the store's own
   pub chunks : (k : ℕ) → k < chunkCount store → length (chunkAt store k) ≡ sizeAt storeLayout store k
   pub nonempty : (k : ℕ) → k < chunkCount store → 1 ≤ sizeAt storeLayout store k
@@ -174,19 +175,19 @@ module _ (f : Form) (form : ScanForm f) (list store : List ℕ) (accept : keywor
       short : length (chunkAt store k) ≤ f .longestChunk
       short = omega (arith, chunk-length store good k l, store-size-most store good k l, form .room)
 
-      records-read : readBody f (length (lengthsIn index)) (bodyAt index k) ≡ scanRecords list (chunkAt store k) .records
-      records-read = rw (lengths-read, body-of) (scan-body-read list accept (chunkAt store k) f (form .writes .good) short)
+      records-read : readBody f (length (lengthsIn index)) (bodyAt index k) ≡ scanRecords f list (chunkAt store k) .records
+      records-read = rw (lengths-read, body-of) (scan-body-read list accept f (chunkAt store k) (form .writes .good) short)
 
-      size-is : sizeAt (indexLayout index) index k ≡ scanRecords list (chunkAt store k) .size
-      size-is = size-read ∙ sym (chunk-length store good k l) ∙ sym (scan-size list accept (chunkAt store k))
+      size-is : sizeAt (indexLayout index) index k ≡ scanRecords f list (chunkAt store k) .size
+      size-is = size-read ∙ sym (chunk-length store good k l) ∙ sym (scan-size list accept f (chunkAt store k))
 
-      records-are : indexRecords f index k ≡ scanRecords list (chunkAt store k)
+      records-are : indexRecords f index k ≡ scanRecords f list (chunkAt store k)
       unfolding indexRecords
       records-are = λ i. record { size = size-is i; records = records-read i }
 
       body-good : goodAt f index k ≡ true
       body-good =
-          rw (lengths-read, body-of, size-read, ← chunk-length store good k l) (scan-body-good list accept (chunkAt store k) f (form .writes .good) short)
+          rw (lengths-read, body-of, size-read, ← chunk-length store good k l) (scan-body-good list accept f (chunkAt store k) (form .writes .good) short)
 
     code-passes : indexCode f index ≡ 0
     code-passes =

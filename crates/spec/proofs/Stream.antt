@@ -28,23 +28,40 @@ member-beyond n x (y ∷ xs) e h =
     let l : y < n = le-of-and (suc y) n (allBelow n xs) e in
     rw (eqb-ne x y (omega arith)) (member-beyond n x xs (and-right (ltb y n) (allBelow n xs) e) h)
 
-pub at-cell : (w offsets : List ℕ) (i j size s : ℕ) → allBelow (size - i) offsets ≡ true → i ≤ size → s < i → atPlace w offsets i j size (size - i + s) ≡ inCell w i j s
+-- a chunk's offsets, and the starts in the last i bytes that pass a test of the bytes left there
+module _ (t : ℕ → Bool) (offsets : List ℕ) (i size : ℕ) (over : (left : ℕ) → i < left → t left ≡ false) (fits : allBelow (size - i) offsets ≡ true) (short : i ≤ size) where
+  pub at-crossing : (s : ℕ) → s < i → (member (size - i + s) offsets || t (size - (size - i + s))) ≡ t (i - s)
+  at-crossing s l =
+      let m : size - (size - i + s) ≡ i - s = omega arith in
+      rw (member-beyond (size - i) (size - i + s) offsets fits (omega arith), m)
+
+  pub crossing-stream : rising offsets ≡ true
+      → passing (λ at. member at offsets || t (size - at)) 0 size ≡ offsets ++ each (λ s. keep (t (i - s)) (size - i + s)) 0 i
+  crossing-stream up =
+      let e : size ≡ size - i + i = omega arith in
+      ap (passing (λ at. member at offsets || t (size - at)) 0) e ∙ each-append _ 0 (size - i) i
+      ∙ ap₂ {C = List ℕ} (λ x y. x ++ y)
+      (each-match _ _ 0 0 (size - i) (λ p l. rw (over (size - (0 + p)) (omega arith), or-false))
+      ∙ passing-member (size - i) 0 offsets up (rw zero-add fits) (λ _. omega arith))
+      (each-match _ _ (0 + (size - i)) 0 i (λ p l. rw (zero-add, zero-add, at-crossing p l)))
+
+-- the test of a cell
+cell-over : (w : List ℕ) (i j left : ℕ) → i < left → crosses w i j left ≡ false
 unfolding crosses
-at-cell w offsets i j size s fits short l =
-    let m : size - (size - i + s) ≡ i - s = omega arith in
-    let n : i - (i - s) ≡ s = omega arith in
-    rw (member-beyond (size - i) (size - i + s) offsets fits (omega arith), m, leb-true (i - s) i (omega arith), n)
+cell-over w i j left h = rw (leb-false left i h)
+
+pub cell-start : (w : List ℕ) (i j s : ℕ) → s < i → crosses w i j (i - s) ≡ inCell w i j s
+unfolding crosses
+cell-start w i j s l = let n : i - (i - s) ≡ s = omega arith in rw (leb-true (i - s) i (omega arith), n)
+
+pub at-cell : (w offsets : List ℕ) (i j size s : ℕ) → allBelow (size - i) offsets ≡ true → i ≤ size → s < i → atPlace w offsets i j size (size - i + s) ≡ inCell w i j s
+at-cell w offsets i j size s fits short l = at-crossing (crosses w i j) offsets i size (cell-over w i j) fits short s l ∙ cell-start w i j s l
 
 pub stream : (w offsets : List ℕ) (i j size : ℕ) → rising offsets ≡ true → allBelow (size - i) offsets ≡ true → i ≤ size
     → passing (atPlace w offsets i j size) 0 size ≡ offsets ++ each (λ s. keep (inCell w i j s) (size - i + s)) 0 i
-unfolding crosses
 stream w offsets i j size up fits short =
-    let e : size ≡ size - i + i = omega arith in
-    ap (passing (atPlace w offsets i j size) 0) e ∙ each-append _ 0 (size - i) i
-    ∙ ap₂ {C = List ℕ} (λ x y. x ++ y)
-    (each-match _ _ 0 0 (size - i) (λ p l. rw (leb-false (size - (0 + p)) i (omega arith), or-false))
-    ∙ passing-member (size - i) 0 offsets up (rw zero-add fits) (λ _. omega arith))
-    (each-match _ _ (0 + (size - i)) 0 i (λ p l. rw (zero-add, zero-add, at-cell w offsets i j size p fits short l)))
+    crossing-stream (crosses w i j) offsets i size (cell-over w i j) fits short up
+    ∙ ap (λ (l : List ℕ). offsets ++ l) (each-match _ _ 0 0 i (λ p l. rw (zero-add, cell-start w i j p l)))
 
 -- ---- what the text says of a cell's edges
 

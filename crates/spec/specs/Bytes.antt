@@ -2,7 +2,7 @@
 -- Integers in files are unsigned, least significant byte first (document 01, introduction).
 use mathlib.Core.Bool.{Bool, true, false, _&&_, _||_, cond}
 use mathlib.Core.List.{List, [], _∷_, _++_}
-use Prim.Native.Nat.{ℕ, zero, suc, _+_, _*_, _-_, _/_, _%_, _<_}
+use Prim.Native.Nat.{ℕ, zero, suc, _+_, _*_, _-_, _/_, _%_, _<_, _^_}
 use lib.ListN.{length, take, drop, getD}
 use lib.Dec.{eqb, leb, ltb}
 
@@ -130,3 +130,14 @@ sum (x ∷ xs) = x + sum xs
 abbrev pub joined {ℓ} : {A : Type ℓ} → List (List A) → List A
 joined [] = []
 joined (x ∷ xs) = x ++ joined xs
+
+-- ---- sets
+
+-- A set of small numbers as one number: bit s, worth 2 to the s, for each s below n that passes the test.
+abbrev pub setOf : (ℕ → Bool) → ℕ → ℕ
+setOf test zero = 0
+setOf test (suc n) = cond (test n) 1 0 * 2 ^ n + setOf test n
+
+-- The set has s.
+unfoldable pub inSet : ℕ → ℕ → Bool
+inSet set s = eqb (set / 2 ^ s % 2) 1

@@ -1,6 +1,6 @@
 -- Forms: what differs between the marks of an index (document 01, "Notes file"). A reader goes by the form that the index's mark names, a writer by
 -- the newest.
-use mathlib.Core.Bool.{Bool, false, cond}
+use mathlib.Core.Bool.{Bool, true, false, cond}
 use mathlib.Core.List.{List, [], _∷_}
 use Prim.Native.Nat.{ℕ, _+_, _-_}
 use lib.ListN.{take, getD}
@@ -29,19 +29,23 @@ form1 = record { mark = 0x44 ∷ 0x4D ∷ 0x31 ∷ 0x0A ∷ []; width = 2; longe
 abbrev pub form2 : Form
 form2 = record { mark = 0x44 ∷ 0x4D ∷ 0x32 ∷ 0x0A ∷ []; width = 3; longestChunk = 1048576; tinyMost = λ n. 1; tinyStep = 2; sets = false }
 
+-- Request #108's form: mark 44 4D 33 0A, the same fields, and sets of inner starts.
+abbrev pub form3 : Form
+form3 = record { mark = 0x44 ∷ 0x4D ∷ 0x33 ∷ 0x0A ∷ []; width = 3; longestChunk = 1048576; tinyMost = λ n. 1; tinyStep = 2; sets = true }
+
 -- The form that a scan writes.
 abbrev pub newest : Form
-newest = form2
+newest = form3
 
 -- The form that an index's mark names. With a mark that names none it is the newest, by which the index check then refuses.
 unfoldable pub formOf : List ℕ → Form
-formOf index = cond (same (take 4 index) (form1 .mark)) form1 newest
+formOf index = cond (same (take 4 index) (form1 .mark)) form1 (cond (same (take 4 index) (form2 .mark)) form2 newest)
 
 -- ---- the code's `Format`: what it reads of a form
 
--- The format of a form: the digit that is the mark's third byte, the width of an offset, the longest chunk.
+-- The format of a form: the digit that is the mark's third byte, the width of an offset, the longest chunk, whether there are sets.
 abbrev pub formatOf : Form → Format
-formatOf f = record { number = getD (f .mark) 2 0 - 0x30; width = f .width; longest = f .longestChunk }
+formatOf f = record { number = getD (f .mark) 2 0 - 0x30; width = f .width; longest = f .longestChunk; sets = f .sets }
 
 -- The form that a format says.
 abbrev pub formIn : Format → Form
@@ -51,5 +55,5 @@ formIn format = record {
   longestChunk = format .longest;
   tinyMost = λ n. 1;
   tinyStep = 2;
-  sets = false;
+  sets = format .sets;
 }

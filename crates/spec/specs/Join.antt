@@ -2,10 +2,10 @@
 use mathlib.Core.Bool.{Bool, true, false, _&&_, _||_, cond}
 use mathlib.Core.List.{List, [], _∷_, _++_, map}
 use Prim.Native.Nat.{ℕ, zero, suc, _+_, _*_, _-_}
-use lib.ListN.{length, drop, getD}
+use lib.ListN.{length, drop, getD, take}
 use lib.Dec.{leb, ltb}
 use Rattle.spec.specs.declared.Outcome.{Outcome}
-use Rattle.spec.specs.Bytes.{leBytes, fieldAt, written, positionOf, each, keep, member}
+use Rattle.spec.specs.Bytes.{leBytes, fieldAt, written, positionOf, each, keep, member, begins, inSet}
 use Rattle.spec.specs.Outcome.{firstOf, whole, answer, unlessRefused, listTooLong}
 use Rattle.spec.specs.Keywords.{foldedKeywords, keywordsOf, longest}
 use Rattle.spec.specs.Directory.{sizeAt}
@@ -37,14 +37,33 @@ occurrencesAt file count test offset = each (λ k. keep (test k) (record { file 
 unfoldable pub crosses : List ℕ → ℕ → ℕ → ℕ → Bool
 crosses keyword i j left = leb left i && inCell keyword i j (i - left)
 
--- The same at an offset of a chunk, against the chunks that follow it in its file: none after the last.
-abbrev pub crossesInto : List ℕ → ℕ → ChunkRecords → List ChunkRecords → ℕ → Bool
-crossesInto keyword k here [] at = false
-crossesInto keyword k here (next ∷ rest) at = crosses keyword (recordAt here k .prefix) (recordAt next k .suffix) (here .size - at)
+-- The last `left` bytes of the recorded prefix i are the keyword's first `left`.
+unfoldable pub starts : List ℕ → ℕ → ℕ → Bool
+starts keyword i left = leb left i && begins (take left keyword) (drop (i - left) (take i keyword))
+
+-- The keyword's bytes from p on are the first of the recorded suffix j.
+unfoldable pub ends : List ℕ → ℕ → ℕ → Bool
+ends keyword j p = begins (drop p keyword) (drop (length keyword - j) keyword)
+
+-- Keyword k goes on from its byte p in the first of these chunks: it ends there, or the chunk's set has p and it goes on behind the chunk.
+unfoldable pub goesOn : List ℕ → ℕ → ℕ → List ChunkRecords → Bool
+goesOn keyword k p [] = false
+goesOn keyword k p (here ∷ rest) =
+    ends keyword (recordAt here k .suffix) p || (inSet (recordAt here k .inner) p && goesOn keyword k (p + here .size) rest)
+
+-- An occurrence that starts in a chunk with recorded prefix i, `left` bytes before its end, against the chunks that follow it in its file: it
+-- ends in the next one; or (request #108) its first bytes are the last of the prefix, the next chunk's set has its start there, and it goes on
+-- behind that chunk. Where sets are empty, as in forms without them, the first alone is left. After the last chunk there is none.
+abbrev pub crossesInto : List ℕ → ℕ → ℕ → List ChunkRecords → ℕ → Bool
+crossesInto keyword k i [] left = false
+crossesInto keyword k i (next ∷ rest) left =
+    crosses keyword i (recordAt next k .suffix) left
+    || (starts keyword i left && (inSet (recordAt next k .inner) left && goesOn keyword k (left + next .size) rest))
 
 -- Keyword k is listed at an offset of a chunk: one of the chunk's own occurrences, or one that crosses its end.
 unfoldable pub listed : List (List ℕ) → ChunkRecords → List ChunkRecords → ℕ → ℕ → Bool
-listed keywords here rest at k = member at (recordAt here k .offsets) || crossesInto (keywordAt keywords k) k here rest at
+listed keywords here rest at k =
+    member at (recordAt here k .offsets) || crossesInto (keywordAt keywords k) k (recordAt here k .prefix) rest (here .size - at)
 
 -- ---- files
 

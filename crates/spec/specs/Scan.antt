@@ -19,12 +19,12 @@ use Rattle.spec.specs.Index.{Entry, indexBytes}
 use Rattle.spec.specs.Trie.{scanMoves}
 
 -- The records of a chunk, as keywords and chunk compare.
-unfoldable pub scanRecords : List ℕ → List ℕ → ChunkRecords
-scanRecords list chunk = recordsOf (foldedKeywords list) (folded (flagOf list) chunk)
+unfoldable pub scanRecords : Form → List ℕ → List ℕ → ChunkRecords
+scanRecords f list chunk = recordsOf f (foldedKeywords list) (folded (flagOf list) chunk)
 
 -- The chunk's body.
 unfoldable pub scanBody : Form → List ℕ → List ℕ → List ℕ
-scanBody f list chunk = bodyBytes f (map length (foldedKeywords list)) (scanRecords list chunk .records)
+scanBody f list chunk = bodyBytes f (map length (foldedKeywords list)) (scanRecords f list chunk .records)
 
 unfoldable pub scanEntry : Form → List ℕ → List ℕ → ℕ → Entry
 scanEntry f list store k =

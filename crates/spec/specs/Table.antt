@@ -1,9 +1,10 @@
 -- Partial-match tables: document 01, "Joining two notes" (the "square table" of a word).
-use mathlib.Core.Bool.{Bool, true, false, cond}
-use mathlib.Core.List.{List, [], _∷_, _++_}
-use Prim.Native.Nat.{ℕ, zero, suc, _+_, _*_, _-_, _^_}
+use mathlib.Core.Bool.{Bool}
+use mathlib.Core.List.{List, _++_}
+use Prim.Native.Nat.{ℕ, _-_}
 use lib.ListN.{length, take, drop}
 use Rattle.spec.specs.Bytes.{occursAt}
+pub use Rattle.spec.specs.Bytes.{setOf}
 use Rattle.spec.specs.Records.{offsetsOf}
 
 -- The keyword's first i bytes followed by its last j.
@@ -17,8 +18,3 @@ cellOf keyword i j = offsetsOf keyword (borderText keyword i j)
 -- s is in the cell for i and j.
 unfoldable pub inCell : List ℕ → ℕ → ℕ → ℕ → Bool
 inCell keyword i j s = occursAt keyword (borderText keyword i j) s
-
--- A set of small numbers as one number: bit s, worth 2 to the s, for each s below n that passes the test.
-abbrev pub setOf : (ℕ → Bool) → ℕ → ℕ
-setOf test zero = 0
-setOf test (suc n) = cond (test n) 1 0 * 2 ^ n + setOf test n

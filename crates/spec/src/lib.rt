@@ -33,6 +33,8 @@ pub struct Format {
     pub width: usize,
     // The longest chunk.
     pub longest: usize,
+    // Records have sets of inner starts.
+    pub sets: bool,
 }
 
 // An index that passed its check: what its readers go by. specs/Opened.antt says which numbers they are.

@@ -3,23 +3,20 @@ use mathlib.Core.Path.{_≡_, sym, ap, _∙_}
 use mathlib.Core.Bool.{Bool, true, false, _&&_, and-comm, and-false}
 use mathlib.Core.List.{List, []}
 use Prim.Native.Nat.{ℕ, zero, suc, _+_, _-_, _*_, _%_, _^_, _≤_, _<_}
-use native.Mathlib.Nat.{add-sub-cancel-left, one-mul, zero-mul, zero-add, add-comm, pow-suc}
-use native.Mathlib.Numerals.{add-one}
+use native.Mathlib.Nat.{add-sub-cancel-left, zero-mul, zero-add}
 use native.Mathlib.Omega.{arith}
 use borrow.Author.Tests.{lt-ltb, le-ltb}
 use lib.ListN.{length, take, drop, getD, replicate, length-drop, List·getD-eq-default}
 use lib.Seq.{take-all}
-use lib.Pow.{shl-exact, pow-mono}
 use Rattle.spec.specs.Bytes.{begins, occursAt}
 use Rattle.spec.specs.Keywords.{folded, foldedKeywords}
 use Rattle.spec.specs.Table.{inCell, setOf}
-use Rattle.spec.specs.Join.{crosses, keywordAt}
+use Rattle.spec.specs.Join.{crosses, starts, keywordAt}
 use Rattle.spec.proofs.Tests.{leb-true}
 use Rattle.spec.proofs.Tabulated.{length-tabulated, tabulated-at}
 use Rattle.spec.proofs.Folding.{folded-take, folded-drop, folded-length}
-use Rattle.spec.proofs.Point.{starts, crosses-split}
+use Rattle.spec.proofs.Point.{crosses-split}
 use Rattle.spec.proofs.Stream.{cell-edge}
-use Rattle.spec.proofs.Sets.{set-lt}
 use Rattle.spec.proofs.KeywordLaws.{accepted, folded-count, folded-keyword}
 use Rattle.keywords.specs.declared.Keywords.{Keywords}
 use Rattle.keywords.specs.Parsed.{Reads, Parsed}
@@ -55,19 +52,6 @@ module _ (flag : ℕ) (word : List ℕ) (i j s : ℕ) (hi : i < length word) (hj
       ∙ rw (tail-part (i - s), tail-part (length word - j), folded-take, folded-take, folded-length) (and-comm front back)
 
 -- ---- the set
-
--- the machine's `1 << s`
-pub shl-one : (s : ℕ) → s < 32 → 1 * 2 ^ s % 4294967296 ≡ 2 ^ s
-shl-one s h = shl-exact 1 s 32 (omega arith) (omega arith) ∙ one-mul (2 ^ s)
-
-pub set-in : (t : ℕ → Bool) (s : ℕ) → s < 32 → t s ≡ true → setOf t s + 1 * 2 ^ s % 4294967296 ≡ setOf t (s + 1)
-set-in t s h e = rw (add-one, e, shl-one s h, one-mul) (add-comm (setOf t s) (2 ^ s))
-
-pub set-out : (t : ℕ → Bool) (s : ℕ) → t s ≡ false → setOf t s ≡ setOf t (s + 1)
-set-out t s e = rw (add-one, e, zero-mul, zero-add)
-
-pub set-room : (t : ℕ → Bool) (s : ℕ) → s < 32 → setOf t s + 2 ^ s < 2 ^ 32
-set-room t s h = omega (arith, set-lt t s, pow-suc 2 s, pow-mono {i = suc s} {j = 32} h)
 
 -- numbers that do not pass add nothing
 set-beyond : (t : ℕ → Bool) (m d : ℕ) → ((s : ℕ) → m ≤ s → t s ≡ false) → setOf t (d + m) ≡ setOf t m

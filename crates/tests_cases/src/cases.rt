@@ -2,6 +2,7 @@
 use tests_plain::bytes::next;
 use tests_plain::case;
 use tests_plain::case::check_code;
+use tests_plain::forms::NEW;
 use tests_plain::records::note_all;
 use tests_report::kinds::see;
 use tests_report::kinds::see_holes;
@@ -11,41 +12,22 @@ use tests_report::tally;
 use tests_report::tally::bump;
 use tests_report::tally::expect;
 use tests_report::tally::store_place;
+use tests_runs::cases::run_forms;
+use tests_runs::cases::run_index;
+use tests_runs::cases::run_model;
 use tests_runs::lookups::lookups;
 use tests_runs::runs::checks;
-use tests_runs::runs::join_runs;
 use tests_runs::runs::scan_runs;
-use tests_runs::runs::search_runs;
-use tests_vaults::encode::NEW;
 use tests_vaults::encode::encode;
-use tests_vaults::encode::put_index;
-use tests_vaults::fill::put_invented;
-use tests_vaults::fill::put_scanned;
 use tests_vaults::fill::put_torn;
 use tests_vaults::lanes::make_long;
+use tests_vaults::make::invent;
 use tests_vaults::make::make;
 use tests_vaults::small::told;
 use tests_vaults::small::told_moves;
 use tests_wide::marks::put_bordered;
 
-// Every operation on a case.
-fn run_all(counts: &mut [u64], f: &[u8], n: usize, buffer: &mut [u8]) {
-    checks(counts, f);
-    lookups(counts, f, n);
-    scan_runs(counts, f, buffer);
-    join_runs(counts, f, buffer);
-    search_runs(counts, f, buffer);
-}
-
-// The vault in the model, searched, as case number n.
-fn run_model(counts: &mut [u64], n: usize, m: &mut [u8], f: &mut [u8], buffer: &mut [u8]) {
-    put_scanned(f, m, buffer);
-    put_moves(f, m);
-    run_all(counts, f, n, buffer);
-    bump(counts, tally::CASES);
-}
-
-// The same, with its kinds.
+// The vault in the model, searched, as case number n, with its kinds.
 pub(crate) fn run_scanned(
     counts: &mut [u64],
     n: usize,
@@ -80,20 +62,12 @@ pub(crate) fn scanned(counts: &mut [u64], n: usize, f: &mut [u8], buffer: &mut [
     run_scanned(counts, n, &mut m, f, buffer);
 }
 
-fn run_index(counts: &mut [u64], f: &[u8], n: usize, buffer: &mut [u8]) {
-    checks(counts, f);
-    lookups(counts, f, n);
-    join_runs(counts, f, buffer);
-}
-
-// Vault number n with made-up records, joined under the old mark and under the new one; the plain join gives the list.
+// Vault number n with made-up records, joined under every mark.
 pub(crate) fn invented(counts: &mut [u64], n: usize, f: &mut [u8], buffer: &mut [u8]) {
     let mut m = case::room();
     make(&mut m, n);
-    put_invented(f, &mut m, n);
-    run_index(counts, f, n, buffer);
-    put_index(f, NEW, &m);
-    run_index(counts, f, n, buffer);
+    invent(&mut m, n);
+    run_forms(counts, n, &m, f, buffer);
     see(counts, &m, f);
     bump(counts, tally::CASES);
 }

@@ -2,13 +2,14 @@
 // bytes are; and the order of 15, 16 and 17 in such a file.
 use tests_plain::bytes::part;
 use tests_plain::bytes::plus;
+use tests_plain::forms::NEW;
+use tests_plain::forms::OLD;
+use tests_plain::forms::SETS;
 use tests_report::report::report_cases;
 use tests_report::tally;
 use tests_report::tally::bump;
 use tests_report::tally::compared;
 use tests_runs::runs::code_of;
-use tests_vaults::encode::NEW;
-use tests_vaults::encode::OLD;
 use tests_vaults::long::put_long_index;
 use tests_vaults::long::put_long_recipes;
 use tests_vaults::long::room;
@@ -46,10 +47,15 @@ fn around(counts: &mut [u64], recipes: &mut [u8], form: usize, size: usize, most
     long_file(counts, recipes, form, size, plus(most, 1), 0, 16);
 }
 
+// The number of a file that has a chunk of 1 byte inside, under a mark.
+fn short_code(form: usize) -> u8 {
+    if form < SETS { 17 } else { 0 }
+}
+
 // The same with another chunk at the second place.
 fn broken(counts: &mut [u64], recipes: &mut [u8], form: usize, size: usize, most: usize) {
     long_file(counts, recipes, form, size, plus(most, 2), 1, 16);
-    long_file(counts, recipes, form, size, most, 1, 17);
+    long_file(counts, recipes, form, size, most, 1, short_code(form));
     long_file(counts, recipes, form, size, plus(most, 1), 2, 15);
 }
 
@@ -58,10 +64,27 @@ fn both(counts: &mut [u64], recipes: &mut [u8], form: usize, size: usize, most: 
     broken(counts, recipes, form, size, most);
 }
 
-pub fn longest(counts: &mut [u64]) {
+// Under a newer mark, with chunks of the longest length too.
+fn both_lengths(counts: &mut [u64], form: usize) {
+    let mut recipes = room();
+    both(counts, &mut recipes, form, 65535, 65537);
+    both(counts, &mut recipes, form, 1048576, 4095);
+}
+
+fn oldest(counts: &mut [u64]) {
     let mut recipes = room();
     both(counts, &mut recipes, OLD, 65535, 65537);
-    both(counts, &mut recipes, NEW, 65535, 65537);
-    both(counts, &mut recipes, NEW, 1048576, 4095);
+}
+
+fn newer(counts: &mut [u64]) {
+    let end = NEW + 1;
+    for form in OLD + 1..end {
+        both_lengths(counts, form);
+    }
+}
+
+pub fn longest(counts: &mut [u64]) {
+    oldest(counts);
+    newer(counts);
     report_cases(b"files at the longest length", counts);
 }

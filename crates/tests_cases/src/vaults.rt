@@ -2,12 +2,12 @@
 use crate::cases;
 use crate::damaged;
 use tests_plain::case;
+use tests_plain::forms::NEW;
+use tests_plain::forms::OLD;
 use tests_report::report;
 use tests_report::report::report_cases;
 use tests_report::report::report_kinds;
 use tests_report::tally::expect;
-use tests_vaults::encode::NEW;
-use tests_vaults::encode::OLD;
 use tests_vaults::lanes;
 use tests_vaults::small;
 use tests_wide::marks;
@@ -71,7 +71,7 @@ fn generated(counts: &mut [u64], f: &mut [u8], buffer: &mut [u8]) {
     report_kinds(counts);
     run_all(counts, INVENTED, 1200, f, buffer);
     report_cases(
-        b"indexes of made-up records joined, under both marks",
+        b"indexes of made-up records joined, under every mark",
         counts,
     );
     report_kinds(counts);
@@ -99,20 +99,28 @@ fn small(counts: &mut [u64], m: &mut [u8], f: &mut [u8], buffer: &mut [u8]) {
     report_cases(b"the small vault", counts);
 }
 
-// The small vault with faults, its index under both marks; m is the small vault.
+// The same under every older mark.
+fn run_older(counts: &mut [u64], m: &[u8], f: &mut [u8], buffer: &mut [u8]) {
+    let end = NEW;
+    for form in OLD..end {
+        run_faults(counts, form, m, f, buffer);
+    }
+}
+
+// The small vault with faults, its index under every mark; m is the small vault.
 fn damaged_all(counts: &mut [u64], m: &[u8], f: &mut [u8], buffer: &mut [u8]) {
     run_faults(counts, NEW, m, f, buffer);
     report_cases(b"pairs of faults in it", counts);
-    run_faults(counts, OLD, m, f, buffer);
+    run_older(counts, m, f, buffer);
     report_cases(
-        b"pairs of faults in it, its index under the old mark",
+        b"pairs of faults in it, its index under an older mark",
         counts,
     );
 }
 
 fn bordered_all(counts: &mut [u64], m: &mut [u8], f: &mut [u8], buffer: &mut [u8]) {
     run_bordered(counts, m, f, buffer);
-    report_cases(b"indexes at the borders of the two marks", counts);
+    report_cases(b"indexes at the borders of the marks", counts);
 }
 
 fn faulty(counts: &mut [u64], f: &mut [u8], buffer: &mut [u8]) {

@@ -4,6 +4,7 @@ use crate::bytes::less;
 use crate::bytes::part;
 use crate::bytes::plus;
 use crate::bytes::same;
+use crate::forms::SETS;
 use crate::model::chunk_of;
 use crate::model::chunk_size;
 use crate::model::chunks;
@@ -59,10 +60,18 @@ fn file_code(m: &[u8], f: usize, due: usize) -> u8 {
     if short_inside(m, f, due) { 17 } else { 0 }
 }
 
-// The join's number behind the index check: that of the first file that has one.
-pub fn recipes_code(m: &[u8]) -> u8 {
+// How many bytes a chunk inside a file must have, under a mark: none under those with sets.
+fn least_inside(m: &[u8], form: usize) -> usize {
+    if SETS <= form {
+        return 0;
+    }
+    less(longest(m), 1)
+}
+
+// The join's number behind the index check, under a mark: that of the first file that has one.
+pub fn recipes_code(m: &[u8], form: usize) -> u8 {
     let n = files(m);
-    let due = less(longest(m), 1);
+    let due = least_inside(m, form);
     for f in 0..n {
         let code = file_code(m, f, due);
         if code != 0 {

@@ -4,6 +4,8 @@
 pub mod bytes;
 pub mod case;
 pub mod codes;
+pub mod forms;
+pub mod joins;
 pub mod lists;
 pub mod model;
 pub mod printout;

@@ -84,9 +84,14 @@ pub fn mark_at(c: usize, k: usize, p: usize) -> usize {
     5100 + 320 * (16 * (c % 12) + k % 16) + p % 320
 }
 
-// File f: its chunk count, and its chunk numbers behind, a byte each.
+// The set of chunk c and keyword k: 4 bytes, with bit p for inner start p.
+pub fn set_at(c: usize, k: usize) -> usize {
+    67400 + 4 * (16 * (c % 12) + k % 16)
+}
+
+// File f: its chunk count, and its chunk numbers behind, a byte each, at most 63.
 pub fn file_at(f: usize) -> usize {
-    4830 + 20 * (f % 12)
+    66560 + 64 * (f % 12)
 }
 
 pub fn file_size(m: &[u8], f: usize) -> usize {

@@ -1,9 +1,11 @@
 // Comparison and match records, plainly computed.
 use crate::bytes::get;
+use crate::bytes::get_4;
 use crate::bytes::least;
 use crate::bytes::less;
 use crate::bytes::plus;
 use crate::bytes::put;
+use crate::bytes::put_4;
 use crate::model::chunk_at;
 use crate::model::chunk_size;
 use crate::model::chunks;
@@ -14,6 +16,7 @@ use crate::model::keyword_size;
 use crate::model::keywords;
 use crate::model::mark_at;
 use crate::model::partial_at;
+use crate::model::set_at;
 
 // The letters of Latin-1 that have a small one 20 (hexadecimal) higher, by rows of 16: bit i for the i-th of the row.
 fn capitals(row: u8) -> usize {
@@ -161,12 +164,67 @@ pub fn count_of(m: &[u8], c: usize, k: usize, size: usize) -> usize {
     n
 }
 
+// ---- inner starts
+
+// Chunk c can lie inside keyword k with the bytes from p on: there are bytes of the keyword before it and behind it.
+pub fn is_inner(m: &[u8], c: usize, k: usize, p: usize) -> bool {
+    if p == 0 {
+        return false;
+    }
+    plus(p, chunk_size(m, c)) < keyword_size(m, k)
+}
+
+// Its bytes are the keyword's from p on.
+fn lies_inside(m: &[u8], c: usize, k: usize, p: usize) -> bool {
+    if is_inner(m, c, k, p) {
+        return alike(
+            flag(m),
+            m,
+            plus(plus(keyword_at(k), 1), p),
+            m,
+            chunk_at(c),
+            chunk_size(m, c),
+        );
+    }
+    false
+}
+
+// What start p adds to a set, if it is there.
+pub fn bit(p: usize, there: bool) -> usize {
+    if there {
+        return 1 << (p % 32) as u32;
+    }
+    0
+}
+
+// The set recorded for chunk c and keyword k, and whether it has start p.
+pub fn set_of(m: &[u8], c: usize, k: usize) -> usize {
+    get_4(m, set_at(c, k))
+}
+
+pub fn has_start(m: &[u8], c: usize, k: usize, p: usize) -> bool {
+    set_of(m, c, k) >> (p % 32) as u32 & 1 == 1
+}
+
+fn inner_set(m: &[u8], c: usize, k: usize) -> usize {
+    let n: usize = 32;
+    let mut set: usize = 0;
+    for p in 0..n {
+        set = plus(set, bit(p, lies_inside(m, c, k, p)));
+    }
+    set
+}
+
+// ---- all of them
+
 // The record of chunk c and keyword k.
 fn note(m: &mut [u8], c: usize, k: usize) {
     let i = prefix(m, c, k);
     let j = suffix(m, c, k);
     put(m, partial_at(c, k), (i % 256) as u8);
     put(m, plus(partial_at(c, k), 1), (j % 256) as u8);
+    let set = inner_set(m, c, k);
+    put_4(m, set_at(c, k), set);
     mark(m, c, k, least(chunk_size(m, c), 320));
 }
 

@@ -100,7 +100,7 @@ pub fn bound(f: &[u8]) -> usize {
     let c = chunk_count(f) % 16;
     let records = times(
         num(case::list(f), 0),
-        11 * c + 3 * (case::length_of(f, 1) % 1048576),
+        17 * c + 3 * (case::length_of(f, 1) % 1048576),
     );
     plus(8 + case::length_of(f, 0) % 65536 + 32 * c, records)
 }

@@ -1,6 +1,7 @@
 // The kinds of a case, by what is found in its model and its list, whatever it was made for.
 use crate::holes;
 use crate::lanes;
+use crate::sets;
 use crate::tally::KINDS;
 use crate::tally::saw;
 use crate::wide;
@@ -45,6 +46,11 @@ pub(crate) const ALL_HOLES: usize = 7;
 
 pub(crate) const CHUNK_HOLES: usize = 6;
 
+// Those of cases of small chunks.
+pub(crate) const SETS: usize = 184;
+
+pub(crate) const ALL_SETS: usize = 21;
+
 // For each kind, how many witnesses there are to try, in units of 64.
 const WITNESSES: [u8; 30] = [
     1,
@@ -84,6 +90,9 @@ const LANE_WITNESSES: [u8; 17] = [1, 1, 1, 1, 1, 1, 1, 64, 2, 2, 8, 4, 4, 1, 1, 
 const WIDE_WITNESSES: [u8; 13] = [1, 1, 1, 1, 1, 16, 1, 1, 8, 1, 1, 1, 1];
 
 const HOLE_WITNESSES: [u8; 7] = [1, 1, 1, 1, 96, 96, 1];
+
+const SET_WITNESSES: [u8; 21] =
+    *b"\x01\x01\x01\x01\x01\x01\x03\x03\x03\x03\x03\x03\x03\x03\x08\x08\x08\x08\x08\x01\x01";
 
 // ---- files and chunks
 
@@ -189,7 +198,7 @@ fn has_occurrences(m: &[u8], c: usize, k: usize, n: usize) -> bool {
 
 // ---- keywords
 
-fn is_keyword_of(m: &[u8], k: usize, size: usize) -> bool {
+pub(crate) fn is_keyword_of(m: &[u8], k: usize, size: usize) -> bool {
     if k < keywords(m) {
         return keyword_size(m, k) == size;
     }
@@ -273,7 +282,7 @@ fn row_end(m: &[u8], f: &[u8], r: usize) -> usize {
     end_behind(m, get_4(f, row_at(f, r)), get_4(f, plus(row_at(f, r), 4)))
 }
 
-fn row_keyword(f: &[u8], r: usize) -> usize {
+pub(crate) fn row_keyword(f: &[u8], r: usize) -> usize {
     num(f, plus(row_at(f, r), 8))
 }
 
@@ -429,7 +438,10 @@ fn shows(m: &[u8], f: &[u8], kind: usize, t: usize) -> bool {
     if kind < HOLES {
         return wide::shows(m, f, less(kind, WIDE), t);
     }
-    holes::shows(m, f, less(kind, HOLES), t)
+    if kind < SETS {
+        return holes::shows(m, f, less(kind, HOLES), t);
+    }
+    sets::shows(m, f, less(kind, SETS), t)
 }
 
 fn witnesses(kind: usize) -> usize {
@@ -442,7 +454,10 @@ fn witnesses(kind: usize) -> usize {
     if kind < HOLES {
         return 64 * (num(&WIDE_WITNESSES, less(kind, WIDE)) % 256);
     }
-    64 * (num(&HOLE_WITNESSES, less(kind, HOLES)) % 256)
+    if kind < SETS {
+        return 64 * (num(&HOLE_WITNESSES, less(kind, HOLES)) % 256);
+    }
+    64 * (num(&SET_WITNESSES, less(kind, SETS)) % 256)
 }
 
 fn is_of(m: &[u8], f: &[u8], kind: usize) -> bool {
@@ -484,4 +499,10 @@ pub fn see_lanes(counts: &mut [u64], m: &[u8], f: &[u8]) {
 pub fn see_wide(counts: &mut [u64], m: &[u8], f: &[u8]) {
     see_from(counts, m, f, WIDE, ALL_WIDE);
     see_holes(counts, m, f);
+}
+
+// Counts the kinds of a case of small chunks, and its occurrences by how many chunks they reach over.
+pub fn see_sets(counts: &mut [u64], m: &[u8], f: &[u8]) {
+    see_from(counts, m, f, SETS, ALL_SETS);
+    sets::see_spans(counts, m, f);
 }

@@ -6,5 +6,6 @@ pub mod kinds;
 mod lanes;
 pub mod moves;
 pub mod report;
+pub mod sets;
 pub mod tally;
 mod wide;

@@ -322,6 +322,96 @@ pub fn compacted(counts: &[u64]) {
     );
 }
 
+// Names of sets: L is a chunk's length, n a keyword's.
+const SET_NAMES: [u8; 840] = *b"\
+    - with a chunk of 1 byte                \
+    - with a chunk of 4 bytes               \
+    - with a keyword of 3 bytes             \
+    - with a keyword of 32 bytes            \
+    - with fold flag 0                      \
+    - with fold flag 1                      \
+    - with a set and no other record        \
+    - with a set behind a tiny record       \
+    - with a set behind a full record       \
+    - with a set of one start               \
+    - with a set of several starts          \
+    - with a set of start 1                 \
+    - with a set of the last start          \
+    - with a set of start 30                \
+    - with one chunk twice in an occurrence \
+    - with one as first, between and last   \
+    - with an occurrence inside a prefix    \
+    - with an occurrence inside a suffix    \
+    - with a file that ends inside one      \
+    - that older marks refuse with 17       \
+    - that older marks join                 ";
+
+const SPAN_NAMES: [u8; 1240] = *b"\
+    - occurrences over 2 chunks             \
+    - occurrences over 3 chunks             \
+    - occurrences over 4 chunks             \
+    - occurrences over 5 chunks             \
+    - occurrences over 6 chunks             \
+    - occurrences over 7 chunks             \
+    - occurrences over 8 chunks             \
+    - occurrences over 9 chunks             \
+    - occurrences over 10 chunks            \
+    - occurrences over 11 chunks            \
+    - occurrences over 12 chunks            \
+    - occurrences over 13 chunks            \
+    - occurrences over 14 chunks            \
+    - occurrences over 15 chunks            \
+    - occurrences over 16 chunks            \
+    - occurrences over 17 chunks            \
+    - occurrences over 18 chunks            \
+    - occurrences over 19 chunks            \
+    - occurrences over 20 chunks            \
+    - occurrences over 21 chunks            \
+    - occurrences over 22 chunks            \
+    - occurrences over 23 chunks            \
+    - occurrences over 24 chunks            \
+    - occurrences over 25 chunks            \
+    - occurrences over 26 chunks            \
+    - occurrences over 27 chunks            \
+    - occurrences over 28 chunks            \
+    - occurrences over 29 chunks            \
+    - occurrences over 30 chunks            \
+    - occurrences over 31 chunks            \
+    - occurrences over 32 chunks            ";
+
+const BODY_NAMES: [u8; 600] = *b"\
+    - good, with a set                      \
+    - good, without a set                   \
+    - with start 0                          \
+    - with start n - L or one behind it     \
+    - with start 31                         \
+    - with an empty set                     \
+    - with a second set                     \
+    - with a set before its record          \
+    - with one behind the next keyword's    \
+    - with a set cut short                  \
+    - with one for a keyword of 2 bytes     \
+    - with one for n - 1 bytes or more      \
+    - with one for a keyword not there      \
+    - with a kind that is not there         \
+    - with a set under an older mark        ";
+
+// The kinds of the cases of small chunks, and their occurrences.
+pub fn sets(counts: &mut [u64]) {
+    report_lines(
+        &SET_NAMES,
+        counts,
+        plus(tally::KINDS, kinds::SETS),
+        kinds::ALL_SETS,
+    );
+    report_lines(&SPAN_NAMES, counts, tally::SPANS, 31);
+}
+
+// Bodies with sets.
+pub fn bodies(counts: &[u64]) {
+    lines(&BODY_NAMES, counts, tally::BODIES, 15);
+}
+
 pub fn totals(counts: &[u64]) {
     lines(&MOVE_NAMES, counts, tally::MOVES, 11);
     lines(&BUFFER_NAMES, counts, tally::BUFFERS, 8);

@@ -57,8 +57,14 @@ pub const COMPACTION_BUFFERS: usize = 188;
 
 pub const COMPACTION_KINDS: usize = 192;
 
+// Occurrences over 2 to 32 chunks; behind them, 184 behind the kinds of cases, those of cases of small chunks.
+pub(crate) const SPANS: usize = 200;
+
+// Bodies with sets, good and damaged, by what they have; those under an older mark are the last.
+pub const BODIES: usize = 256;
+
 // Room for the counters.
-pub const ALL: usize = 200;
+pub const ALL: usize = 272;
 
 // The operations.
 pub const KEYWORD_CHECK: usize = 0;

@@ -17,6 +17,8 @@ use tests_plain::case::put_length;
 use tests_plain::case::store_entry;
 use tests_plain::codes::alike_code;
 use tests_plain::codes::recipes_code;
+use tests_plain::forms::OLD;
+use tests_plain::forms::SETS;
 use tests_plain::model::chunk_at;
 use tests_plain::model::chunk_of;
 use tests_plain::model::chunk_size;
@@ -30,6 +32,7 @@ use tests_plain::model::keywords;
 use tests_plain::model::partial_at;
 use tests_plain::records::count_of;
 use tests_plain::records::is_marked;
+use tests_plain::records::set_of;
 
 // The keyword list, from `at` on; the place behind it.
 fn put_list_at(out: &mut [u8], at: usize, m: &[u8]) -> usize {
@@ -59,11 +62,6 @@ pub fn put_key(out: &mut [u8], at: usize, c: usize) {
     put(out, at, (c % 2) as u8);
     put(out, plus(at, 19), (c / 2 % 256) as u8);
 }
-
-// The marks of an index: 44 4D 31 0A, with fields of 2 bytes, and the one that a scan writes, 44 4D 32 0A, with fields of 3.
-pub const OLD: usize = 1;
-
-pub const NEW: usize = 2;
 
 // The 8 bytes that a store (0x56, 1) and an index (0x4D and the number of its mark) start with.
 pub fn put_mark(out: &mut [u8], at: usize, a: u8, number: usize, n: usize) {
@@ -220,11 +218,25 @@ fn put_record(
     put_full(out, at, form, m, c, k, size, n)
 }
 
+// A set of inner starts, if it is not empty and the mark is one with sets.
+fn put_set(out: &mut [u8], at: usize, form: usize, k: usize, set: usize) -> usize {
+    if form < SETS {
+        return at;
+    }
+    if set == 0 {
+        return at;
+    }
+    put_2(out, at, k % 16 + 4 * 256);
+    put_4(out, plus(at, 2), set);
+    plus(at, 6)
+}
+
 fn put_body(out: &mut [u8], at: usize, form: usize, m: &[u8], c: usize, n: usize) -> usize {
     let size = chunk_size(m, c);
     let mut a = at;
     for k in 0..n {
-        a = put_record(out, a, form, m, c, k, size);
+        let b = put_record(out, a, form, m, c, k, size);
+        a = put_set(out, b, form, k, set_of(m, c, k));
     }
     a
 }
@@ -304,7 +316,7 @@ pub fn encode(out: &mut [u8], form: usize, m: &[u8]) {
     put_store(out, m);
     put_index(out, form, m);
     put_recipes(out, m);
-    put_codes(out, alike_code(m), recipes_code(m));
+    put_codes(out, alike_code(m), recipes_code(m, form));
 }
 
 fn put_codes(out: &mut [u8], list: u8, recipes: u8) {

@@ -2,8 +2,7 @@
 // the input (0 keyword list, 1 store, 2 index, 3 recipes); a place, the value to store and in how many bytes from there on (0: none); a second
 // place and value (place 255: none); the place to which the first chunk's fingerprint goes (255: none); the input's length behind; the number;
 // and where its test stands in the order of the input's tests, so that of two faults of an input the one that is tested first counts. Places
-// and lengths of the index are those under the old mark; under the new one bodies are longer.
-use crate::encode::NEW;
+// and lengths of the index are those under the oldest mark; under newer ones bodies are longer.
 use crate::encode::put_key;
 use tests_plain::bytes::least;
 use tests_plain::bytes::plus;
@@ -11,6 +10,8 @@ use tests_plain::bytes::put;
 use tests_plain::bytes::repeat;
 use tests_plain::case::place_of;
 use tests_plain::case::put_length;
+use tests_plain::forms::NEW;
+use tests_plain::forms::OLD;
 
 pub const ALL: usize = 65;
 
@@ -27,6 +28,9 @@ const LENGTH: usize = 7;
 const CODE: usize = 8;
 
 const RANK: usize = 9;
+
+// The digit of the first mark that is not read yet.
+const UNREAD: u8 = 0x31 + NEW as u8;
 
 const FAULTS: [[u8; 10]; 65] = [
     // Keyword list: 9 bytes.
@@ -66,10 +70,10 @@ const FAULTS: [[u8; 10]; 65] = [
     // A fingerprint twice: of neighbours, and of the first and the last entry.
     [1, 255, 0, 0, 255, 0, 36, 100, 8, 7],
     [1, 255, 0, 0, 255, 0, 64, 100, 8, 7],
-    // Index: 136 bytes, 138 under the new mark. Its mark may be one that is not read yet.
+    // Index: 136 bytes, 138 under a newer mark. Its mark may be one that is not read yet.
     [2, 255, 0, 0, 255, 0, 255, 7, 10, 0],
     [2, 1, 86, 1, 255, 0, 255, 136, 10, 0],
-    [2, 2, 51, 1, 255, 0, 255, 136, 10, 0],
+    [2, 2, UNREAD, 1, 255, 0, 255, 136, 10, 0],
     [2, 2, 48, 1, 255, 0, 255, 136, 10, 0],
     [2, 4, 233, 1, 5, 253, 255, 136, 10, 0],
     [2, 255, 0, 0, 255, 0, 255, 9, 1, 1],
@@ -123,13 +127,13 @@ fn fault(i: usize, j: usize) -> usize {
     wide(FAULTS[i][j])
 }
 
-// Where a place or an end of an input is, under a mark: in an index under the new one, a byte behind from the second body on, two behind from
+// Where a place or an end of an input is, under a mark: in an index under a newer one, a byte behind from the second body on, two behind from
 // its second record on.
 fn moved(form: usize, input: usize, place: usize) -> usize {
     if input != 2 {
         return place;
     }
-    if form != NEW {
+    if form == OLD {
         return place;
     }
     if place < 120 {

@@ -1,12 +1,9 @@
 // Models made into cases: with plain records, with made-up ones, with a torn store, with a pair of faults.
-use crate::encode::NEW;
-use crate::encode::OLD;
 use crate::encode::encode;
 use crate::encode::put_key;
 use crate::encode::put_store;
 use crate::faults::damage;
 use crate::faults::settle;
-use crate::make::invent;
 use tests_plain::bytes::less;
 use tests_plain::bytes::next;
 use tests_plain::bytes::num;
@@ -17,7 +14,8 @@ use tests_plain::bytes::put_4;
 use tests_plain::case;
 use tests_plain::case::ONLY_REFUSALS;
 use tests_plain::codes::store_code;
-use tests_plain::lists::join_files;
+use tests_plain::forms::NEW;
+use tests_plain::joins::join_files;
 use tests_plain::lists::search_files;
 use tests_plain::model::HOLE_SHIFT;
 use tests_plain::model::chunks;
@@ -39,14 +37,11 @@ pub fn put_scanned(f: &mut [u8], m: &mut [u8], buffer: &mut [u8]) {
     put_count(f, n);
 }
 
-// ---- made-up records
-
-// Under the old mark.
-pub fn put_invented(f: &mut [u8], m: &mut [u8], n: usize) {
-    invent(m, (n % 1000000) as u64 + 77);
-    encode(f, OLD, m);
-    let rows = join_files(m, f);
-    put_count(f, rows);
+// The case of a model with any records under a mark; the plain join gives the list.
+pub fn put_joined(f: &mut [u8], form: usize, m: &[u8]) {
+    encode(f, form, m);
+    let n = join_files(m, form, f);
+    put_count(f, n);
 }
 
 // ---- torn stores

@@ -7,6 +7,7 @@ use tests_plain::bytes::next;
 use tests_plain::bytes::pick;
 use tests_plain::bytes::plus;
 use tests_plain::bytes::put;
+use tests_plain::bytes::put_4;
 use tests_plain::model::chunk_at;
 use tests_plain::model::chunk_size;
 use tests_plain::model::chunks;
@@ -18,6 +19,9 @@ use tests_plain::model::keywords;
 use tests_plain::model::mark_at;
 use tests_plain::model::partial_at;
 use tests_plain::model::put_size;
+use tests_plain::model::set_at;
+use tests_plain::records::bit;
+use tests_plain::records::is_inner;
 
 // ---- from a seed
 
@@ -51,6 +55,9 @@ pub(crate) fn spell(m: &mut [u8], at: usize, n: usize, alphabet: usize, seed: u6
     }
     s
 }
+
+// The first of four kinds of vaults of small chunks.
+pub const SMALL: usize = 8;
 
 // A keyword's length: 1 to 4; in some vaults 1 or 2, 2 only, 31 or 32, 3 to 5, or its number and one.
 fn keyword_length(kind: usize, k: usize, seed: u64) -> usize {
@@ -89,8 +96,11 @@ pub(crate) fn make_keywords(
     s
 }
 
-// A chunk's length: 1 to 40; in some vaults 1 to 3, or one long chunk of 253 to 257 bytes.
+// A chunk's length: 1 to 40; in some vaults 1 to 3, or one long chunk of 253 to 257 bytes; from kind SMALL on, 1 to at most 4.
 fn chunk_length(kind: usize, c: usize, seed: u64) -> usize {
+    if SMALL <= kind {
+        return plus(pick(seed, plus(less(kind, SMALL), 1)), 1);
+    }
     if kind == 5 {
         return plus(pick(seed, 3), 1);
     }
@@ -102,7 +112,7 @@ fn chunk_length(kind: usize, c: usize, seed: u64) -> usize {
     plus(pick(seed, 40), 1)
 }
 
-fn make_chunks(m: &mut [u8], n: usize, kind: usize, alphabet: usize, seed: u64) -> u64 {
+pub fn make_chunks(m: &mut [u8], n: usize, kind: usize, alphabet: usize, seed: u64) -> u64 {
     let mut s = seed;
     for c in 0..n {
         s = next(s);
@@ -114,7 +124,7 @@ fn make_chunks(m: &mut [u8], n: usize, kind: usize, alphabet: usize, seed: u64) 
 }
 
 // The chunk numbers of a file.
-fn make_file(m: &mut [u8], f: usize, n: usize, chunks: usize, seed: u64) -> u64 {
+pub fn make_file(m: &mut [u8], f: usize, n: usize, chunks: usize, seed: u64) -> u64 {
     put(m, file_at(f), (n % 256) as u8);
     let mut s = seed;
     for i in 0..n {
@@ -205,12 +215,12 @@ pub fn make(m: &mut [u8], n: usize) {
 
 // ---- made-up records
 
-// 1 for an offset at which a keyword of length n fits, in `often` of 4 cases, always where `often` is 4.
-fn fits_often(p: usize, n: usize, size: usize, often: usize, seed: u64) -> u8 {
-    if size < plus(p, n) {
-        return 0;
+// What may be there is so in `often` of 4 cases, always where `often` is 4.
+fn is_often(may: bool, often: usize, seed: u64) -> bool {
+    if may {
+        return pick(seed, 4) < often;
     }
-    (pick(seed, 4) < often) as u8
+    false
 }
 
 fn invent_marks(
@@ -225,9 +235,22 @@ fn invent_marks(
     let mut s = seed;
     for p in 0..size {
         s = next(s);
-        put(m, mark_at(c, k, p), fits_often(p, n, size, often, s));
+        let there = is_often(plus(p, n) <= size, often, s);
+        put(m, mark_at(c, k, p), there as u8);
     }
     s
+}
+
+// Inner starts in range, each in `often` of 4 cases, always where `often` is 4.
+fn invent_set(m: &[u8], c: usize, k: usize, often: usize, seed: u64) -> usize {
+    let n: usize = 32;
+    let mut set: usize = 0;
+    let mut s = seed;
+    for p in 0..n {
+        s = next(s);
+        set = plus(set, bit(p, is_often(is_inner(m, c, k, p), often, s)));
+    }
+    set
 }
 
 // A record in range: no chunk need give it.
@@ -239,6 +262,8 @@ fn invent_record(m: &mut [u8], c: usize, k: usize, seed: u64) -> u64 {
     let reach = plus(least(less(n, 1), size), 1);
     put(m, partial_at(c, k), (pick(a, reach) % 256) as u8);
     put(m, plus(partial_at(c, k), 1), (pick(b, reach) % 256) as u8);
+    let set = invent_set(m, c, k, pick(next(next(b)), 5), next(a));
+    put_4(m, set_at(c, k), set);
     invent_marks(m, c, k, n, size, pick(next(b), 5), b)
 }
 
@@ -250,11 +275,11 @@ fn invent_chunk(m: &mut [u8], c: usize, n: usize, seed: u64) -> u64 {
     s
 }
 
-// Records for every chunk and keyword.
-pub(crate) fn invent(m: &mut [u8], seed: u64) {
+// Records for every chunk and keyword, number i.
+pub fn invent(m: &mut [u8], i: usize) {
     let n = chunks(m);
     let words = keywords(m);
-    let mut s = seed;
+    let mut s = (i % 1000000) as u64 + 77;
     for c in 0..n {
         s = invent_chunk(m, c, words, s);
     }

@@ -21,7 +21,7 @@ pub fn put_words(m: &mut [u8], n: usize, words: &[u8]) {
     }
 }
 
-fn small_chunk(m: &mut [u8], c: usize, bytes: &[u8]) {
+pub fn small_chunk(m: &mut [u8], c: usize, bytes: &[u8]) {
     let n = bytes.len();
     put_size(m, c, n);
     copy(m, chunk_at(c), bytes, 0, n);

@@ -6,7 +6,7 @@ use tests_plain::bytes::put;
 use tests_plain::bytes::put_3;
 use tests_plain::bytes::put_4;
 use tests_plain::bytes::repeat;
-use tests_vaults::encode::NEW;
+use tests_plain::forms::NEW;
 use tests_vaults::encode::put_key;
 use tests_vaults::encode::put_mark;
 

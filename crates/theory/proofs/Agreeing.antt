@@ -181,7 +181,7 @@ module _ (store other : List ℕ) (P : List ℕ → Bool) (a : Agree store other
         let t = join-of-scan list other (length buffer₂) e₂ recipes otherIndex out₂ (scanned-is list other buffer₂ e₂) in
         let o : joinOutcome (formOf index) index recipes (length out) ≡ joinOutcome (formOf otherIndex) otherIndex recipes (length out₂) =
         agreed-outcome (length out) ∙ ap (joinOutcome (formOf otherIndex) otherIndex recipes) l in
-        s .listed z ∙ same-search (innerLeast newest list) list recipes p (s .done .0 z .1) ∙ sym (t .listed (ap codeOf (sym o) ∙ z))
+        s .listed z ∙ same-search 0 list recipes p (s .done .0 z .1) ∙ sym (t .listed (ap codeOf (sym o) ∙ z))
 
     -- all of it, into list buffers of equal length
     pub agreed-joins : (out out₂ : List ℕ) → length out ≡ length out₂

@@ -2,19 +2,19 @@
 use mathlib.Core.Path.{_≡_, refl}
 use Prim.Native.Nat.{ℕ, min}
 use lib.ListN.{length, getD}
-use Rattle.spec.specs.Bytes.{leValue, leBytes, fieldsOf, fieldsBytes, splice}
+use Rattle.spec.specs.Bytes.{leValue, leBytes, fieldsOf, fieldsBytes, splice, inSet}
 use Rattle.spec.specs.Outcome.{answer, unlessRefused}
 use Rattle.spec.specs.Keywords.{isUpper, foldByte, folded, keywordListBytes, keywordsOf, listSize, foldedKeywords, keywordCode, keywordFrontCode}
 use Rattle.spec.specs.Form.{Form, formOf}
 use Rattle.spec.specs.Store.{storeDirectoryBytes, placedBytes, storeBytes, storeKeys, chunkAt, chunksOf, storeCode}
-use Rattle.spec.specs.Records.{MatchRecord, reach, prefixOf, suffixOf, offsetsOf, recordOf, recordsOf, inRange, offsetsBytes, fullBytes, headBytes, recordBytes}
-use Rattle.spec.specs.Records.{bodyFrom, readOffsets, readRecord, recordSize, readFrom, allInRange, goodBody}
-use Rattle.spec.specs.Index.{directoryBytes, entryBytes, indexBytes, indexLayout, indexKeys, bodyAt, lengthsIn, indexRecords, allGood, headerCode}
-use Rattle.spec.specs.Index.{directoryCode, laidCode, indexCode}
+use Rattle.spec.specs.Records.{MatchRecord, reach, prefixOf, suffixOf, offsetsOf, recordOf, recordsOf, inRange, offsetsBytes, fullBytes, headBytes}
+use Rattle.spec.specs.Records.{recordBytes, bodyFrom, readOffsets, readRecord, recordSize, readFrom, allInRange, goodBody, innerOf, setInRange, setBytes}
+use Rattle.spec.specs.Records.{recordTaken, setTaken, readSet, readKeyword, behindKeyword}
+use Rattle.spec.specs.Index.{directoryBytes, entryBytes, indexBytes, indexLayout, indexKeys, bodyAt, lengthsIn, indexRecords, allGood, headerCode, directoryCode, laidCode, indexCode}
 use Rattle.spec.specs.Table.{cellOf, inCell}
 use Rattle.spec.specs.Recipes.{fileBytes, recipesBytes, filesOf, recipesCode, fileCode, filesCode}
 use Rattle.spec.specs.Join.{occurrencesAt, crosses, listed, joinFrom, joinFiles, fileRecords, joinList, occurrenceBytes, listBytes, innerLeast}
-use Rattle.spec.specs.Join.{joinableCode, joinCode, joinOutcome, joinBuffer}
+use Rattle.spec.specs.Join.{joinableCode, joinCode, joinOutcome, joinBuffer, starts, ends, goesOn}
 use Rattle.spec.specs.Scan.{scanRecords, scanBody, scanEntry, scanIndex, scannableCode, scanCode, scanOutcome, scanAnswer, scanBuffer}
 use Rattle.spec.proofs.MoveExamples.{moving}
 use Rattle.theory.specs.Cases.{Cases}
@@ -22,7 +22,7 @@ use Rattle.theory.specs.Cases.{Cases}
 -- the definitions that the cases compute with: of bytes and outcomes, keyword lists, stores and recipes, records, bodies and cells, index files,
 -- the join, the scan; and all of them
 unfoldable byteDefinitions : ℕ
-unfolding leValue leBytes fieldsOf fieldsBytes splice answer unlessRefused
+unfolding leValue leBytes fieldsOf fieldsBytes splice inSet answer unlessRefused
 byteDefinitions = 0
 
 unfoldable keywordDefinitions : ℕ
@@ -34,11 +34,11 @@ unfolding storeDirectoryBytes placedBytes storeBytes storeKeys chunkAt chunksOf 
 storeDefinitions = 0
 
 unfoldable recordDefinitions : ℕ
-unfolding reach prefixOf suffixOf offsetsOf recordOf recordsOf inRange offsetsBytes fullBytes headBytes recordBytes
+unfolding reach prefixOf suffixOf offsetsOf innerOf recordOf recordsOf inRange setInRange offsetsBytes fullBytes headBytes recordBytes setBytes
 recordDefinitions = 0
 
 unfoldable bodyDefinitions : ℕ
-unfolding bodyFrom readOffsets readRecord recordSize readFrom allInRange goodBody cellOf inCell
+unfolding bodyFrom readOffsets readRecord recordSize recordTaken setTaken readSet readKeyword behindKeyword readFrom allInRange goodBody cellOf inCell
 bodyDefinitions = 0
 
 unfoldable indexDefinitions : ℕ
@@ -46,7 +46,7 @@ unfolding formOf directoryBytes entryBytes indexBytes indexLayout indexKeys body
 indexDefinitions = 0
 
 unfoldable joinDefinitions : ℕ
-unfolding occurrencesAt crosses listed joinFrom joinFiles fileRecords joinList occurrenceBytes listBytes innerLeast joinableCode joinCode joinOutcome joinBuffer
+unfolding occurrencesAt crosses starts ends goesOn listed joinFrom joinFiles fileRecords joinList occurrenceBytes listBytes innerLeast joinableCode joinCode joinOutcome joinBuffer
 joinDefinitions = 0
 
 unfoldable scanDefinitions : ℕ
@@ -86,7 +86,7 @@ cases =
       wider = (refl, refl, refl, refl);
       widerBodies = (refl, refl, refl, refl);
       widerList = (refl, refl);
-      longestByMark = (refl, refl, refl);
+      longestByMark = (refl, refl, refl, refl);
       bMatchesB = (refl, refl);
       braceAndBracket = refl;
       accents = (refl, refl);

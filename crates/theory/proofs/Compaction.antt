@@ -20,7 +20,7 @@ use Rattle.spec.specs.Form.{newest}
 use Rattle.spec.specs.Recipes.{filesOf}
 use Rattle.spec.specs.Join.{Occurrence, listBytes}
 use Rattle.spec.specs.Scan.{scanCode, scannedCode}
-use Rattle.spec.specs.Search.{chunkNamed, searchJoinCode, searchCode, searchOutcome, searchBuffer, searchedCode, searchedCount, directSearch}
+use Rattle.spec.specs.Search.{occurrencesIn, occurrencesInAll, restored, chunkNamed, searchJoinCode, searchCode, searchOutcome, searchBuffer, searchedCode, searchedCount, directSearch}
 use Rattle.spec.specs.Compact.{namedIn, namedAmong, compacted, compactableCode, compactCode, compactOutcome, compactBuffer, compactSize}
 use Rattle.spec.proofs.Tests.{bool-cases, and-left, and-right, false-of}
 use Rattle.spec.proofs.Codes.{passed-whole, or-left, or-right, buffer-done}
@@ -428,7 +428,7 @@ compaction store recipes e =
 -- ---- cases
 
 pub compaction-cases : CompactionCases
-unfolding definitions storedChunks namedIn compacted compactableCode compactCode compactOutcome compactBuffer compactSize searchCode searchJoinCode
+unfolding definitions storedChunks namedIn compacted compactableCode compactCode compactOutcome compactBuffer compactSize searchCode searchJoinCode occurrencesIn occurrencesInAll restored directSearch
 compaction-cases =
     record {
       small = refl;
@@ -439,5 +439,5 @@ compaction-cases =
       size = refl;
       unnamed = (refl, refl);
       refusals = (refl, refl, refl, refl, refl);
-      inner = (refl, refl);
+      inner = (refl, refl, refl);
     }

@@ -27,22 +27,22 @@ keyword-bytes list e w l =
     folded-proper list f w h .0
 
 record-of-scan : (list chunk : List ℕ) (w : ℕ) → w < length (foldedKeywords list)
-    → recordAt (scanRecords list chunk) w ≡ recordOf (keywordAt (foldedKeywords list) w) (folded (flagOf list) chunk)
+    → recordAt (scanRecords newest list chunk) w ≡ recordOf newest (keywordAt (foldedKeywords list) w) (folded (flagOf list) chunk)
 unfolding scanRecords recordsOf
-record-of-scan list chunk w l = getD-map (λ keyword. recordOf keyword (folded (flagOf list) chunk)) (foldedKeywords list) w [] emptyRecord l
+record-of-scan list chunk w l = getD-map (λ keyword. recordOf newest keyword (folded (flagOf list) chunk)) (foldedKeywords list) w [] emptyRecord l
 
 pub scan-published : (list store buffer : List ℕ) → scannedCode (scanAnswer newest list store (length buffer)) ≡ 0
     → (k w : ℕ) → k < chunkCount store → w < length (foldedKeywords list)
-    → Published (keywordAt (foldedKeywords list) w) (folded (flagOf list) (chunkAt store k))
+    → Published (keywordAt (foldedKeywords list) w) (folded (flagOf list) (chunkAt store k)) newest
     (recordAt (indexRecords (formOf (scanned list store buffer)) (scanned list store buffer) k) w)
 scan-published list store buffer e k w h l =
     let c : scanCode newest list store (length buffer) ≡ 0 = sym (scan-number list store (length buffer)) ∙ e in
     let r = scan-done-reads newest newest-scans list store (length buffer) c in
-    let q : indexRecords (formOf (scanned list store buffer)) (scanned list store buffer) k ≡ scanRecords list (chunkAt store k) =
+    let q : indexRecords (formOf (scanned list store buffer)) (scanned list store buffer) k ≡ scanRecords newest list (chunkAt store k) =
     rw (scanned-is list store buffer c, scan-form list store) (r .records k h) in
     let p : recordAt (indexRecords (formOf (scanned list store buffer)) (scanned list store buffer) k) w
-    ≡ recordOf (keywordAt (foldedKeywords list) w) (folded (flagOf list) (chunkAt store k)) =
+    ≡ recordOf newest (keywordAt (foldedKeywords list) w) (folded (flagOf list) (chunkAt store k)) =
     ap (λ (s : ChunkRecords). recordAt s w) q ∙ record-of-scan list (chunkAt store k) w l in
     rw p
-    (record-published (keywordAt (foldedKeywords list) w) (folded (flagOf list) (chunkAt store k))
+    (record-published newest (keywordAt (foldedKeywords list) w) (folded (flagOf list) (chunkAt store k))
     (keyword-bytes list (scan-done list store (length buffer) .0 c .0) w l))

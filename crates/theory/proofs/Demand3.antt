@@ -24,7 +24,6 @@ use Rattle.spec.specs.Trie.{scanMoves}
 use Rattle.spec.specs.Scan.{scanIndex, scannableCode, scanCode, scanOutcome, withMoves, scanAnswer, scanBuffer, scannedCode, scannedLength}
 use Rattle.spec.specs.Search.{directSearch, searchJoinCode}
 use Rattle.spec.proofs.Codes.{passed, passed-whole, or-left, or-right}
-use Rattle.spec.proofs.Forms.{newest-read}
 use Rattle.spec.proofs.ScanLaws.{ScanReads, newest-scans, scan-reads, scan-form}
 use Rattle.theory.specs.Demand3.{NoScanRefusal, NoJoinRefusal, scanned, JoinOfScan, ScanAndJoin}
 use Rattle.theory.proofs.SearchList.{direct-search-list}
@@ -112,22 +111,22 @@ module _ (list store : List ℕ) where
     pub join-outcome : (index recipes : List ℕ) (room₂ : ℕ) → index ≡ scanIndex newest list store
         → joinOutcome (formOf index) index recipes room₂ ≡ answer (searchJoinCode newest list store recipes room₂) (length (directSearch list store recipes))
     join-outcome index recipes room₂ p =
-        rw (p, scan-form list store) (outcome-of-scan newest (newest-read .sets) list store (scanIndex newest list store) accepts scan-is-read recipes room₂)
+        rw (p, scan-form list store) (outcome-of-scan newest list store (scanIndex newest list store) accepts scan-is-read recipes room₂)
 
     pub join-buffer : (index recipes out : List ℕ) → index ≡ scanIndex newest list store
         → joinBuffer (formOf index) index recipes out
         ≡ unlessRefused (searchJoinCode newest list store recipes (length out)) (written out (listBytes (directSearch list store recipes))) out
     join-buffer index recipes out p =
-        rw (p, scan-form list store) (buffer-of-scan newest (newest-read .sets) list store (scanIndex newest list store) accepts scan-is-read recipes out)
+        rw (p, scan-form list store) (buffer-of-scan newest list store (scanIndex newest list store) accepts scan-is-read recipes out)
 
   pub search-done : (recipes : List ℕ) (room : ℕ) → (searchJoinCode newest list store recipes room ≡ 0) ↔ NoJoinRefusal list store recipes room
-  unfolding searchJoinCode
+  unfolding searchJoinCode innerLeast
   search-done recipes room = (there, back)
     where
       there : searchJoinCode newest list store recipes room ≡ 0 → NoJoinRefusal list store recipes room
       there e =
           let a = passed-whole (recipesCode recipes) _ e in
-          let b = passed-whole (filesCode (storeKeys store) (sizeAt storeLayout store) (innerLeast newest list) (filesOf recipes)) _ (a .1) in
+          let b = passed-whole (filesCode (storeKeys store) (sizeAt storeLayout store) 0 (filesOf recipes)) _ (a .1) in
           let c = passed (ltb room (9 * length (directSearch list store recipes))) 18 _ (omega arith) (b .1) in
           (a .0, b .0, ltb-false room (9 * length (directSearch list store recipes)) (c .0))
 
@@ -162,8 +161,8 @@ module _ (list store : List ℕ) where
             let b : joinBuffer (formOf index) index recipes out ≡ listBytes found ++ rest =
             join-buffer room e index recipes out p ∙ worked-buffer code out (listBytes found) c in
             ap₂ readList v b
-            ∙ list-read newest (newest-read .sets) list store (scanIndex newest list store) recipes
-            (accepts room e) (scan-is-read room e) (d .0 c .0) (d .0 c .1) rest;
+            ∙ list-read newest list store (scanIndex newest list store) recipes
+            (accepts room e) (scan-is-read room e) 0 (d .0 c .0) (d .0 c .1) rest;
       }
 
 pub scan-and-join : (list store recipes buffer out : List ℕ) → ScanAndJoin list store recipes buffer out

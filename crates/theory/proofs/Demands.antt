@@ -113,7 +113,7 @@ pub demand-2 : Demand2
 demand-2 = record { published = scan-published; says = scan-says-it; once = written-once }
   where
     scan-says-it : (list store buffer : List ℕ) → scannedCode (scanAnswer newest list store (length buffer)) ≡ 0
-        → Says (formOf (scanned list store buffer)) list (scannedRecords list store) (scanned list store buffer)
+        → Says (formOf (scanned list store buffer)) list (scannedRecords newest list store) (scanned list store buffer)
     scan-says-it list store buffer e =
         let c : scanCode newest list store (length buffer) ≡ 0 = sym (scan-number list store (length buffer)) ∙ e in
         rw (scanned-is list store buffer c, scan-form list store) (scan-says newest newest-scans list store (length buffer) c)

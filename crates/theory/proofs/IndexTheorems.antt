@@ -20,7 +20,7 @@ use Rattle.theory.specs.RecordSets.{Said, nothing, entryFor, writtenInde
 use Rattle.spec.proofs.JoinIsSearch.{getD-map}
 use Rattle.spec.proofs.KeywordLaws.{folded-lengths}
 use Rattle.spec.proofs.KeywordReads.{own-list}
-use Rattle.spec.proofs.RecordLaws.{FormGood, allPositive, body-read, good-written, good-is-written}
+use Rattle.spec.proofs.RecordLaws.{FormGood, allProper, body-read, good-written, good-is-written}
 use Rattle.spec.proofs.Tabulated.{tabulated, length-tabulated, tabulated-at, tabulated-getD, tabulated-same, map-tabulated}
 use Rattle.spec.proofs.WrittenEntries.{Fits, noEntry, Every, SizeIn}
 use Rattle.spec.proofs.IndexLaws.{Writable, index-length, index-mark, index-count, index-list, index-list-bytes, index-layout, index-keys}
@@ -65,7 +65,7 @@ module _ (f : Form) (form : WriteForm f) (list : List ℕ) (said : List Said) (f
   lengths-are : lengthsIn index ≡ map length (keywordsOf list)
   lengths-are = index-lengths f list entries writable
 
-  positive : allPositive (map length (keywordsOf list)) ≡ true
+  positive : allProper (map length (keywordsOf list)) ≡ true
   positive = rw folded-lengths at (scan-positive list (fit .accepted))
 
   keys-are : indexKeys index ≡ map (λ s. s .key) said
@@ -207,15 +207,14 @@ same-reading f index other p q b c l keys records =
 -- ---- theorem 3, of one body
 
 -- Records in range for keywords of these lengths read back, and their writing is good.
-pub record-body-reads : (f : Form) → FormGood f → (size : ℕ) (lengths : List ℕ) (records : List MatchRecord)
-    → size ≤ f .longestChunk → allPositive lengths ≡ true
-    → allInRange size lengths records ≡ true → length records ≡ length lengths
+pub record-body-reads : (f : Form) → FormGood f → (size : ℕ) (lengths : List ℕ) (records : List MatchRecord) → size ≤ f .longestChunk → allProper lengths ≡ true
+    → allInRange f size lengths records ≡ true → length records ≡ length lengths
     → (readBody f (length lengths) (bodyBytes f lengths records) ≡ records) × (goodBody f lengths size (bodyBytes f lengths records) ≡ true)
 record-body-reads f form size lengths records h p r l = (body-read f form size h 0 lengths records p r l, good-written f form size h lengths records p r l)
 
 -- A good body is the writing of the records that it says, and they are in range.
 pub good-body-is-written : (f : Form) (lengths : List ℕ) (size : ℕ) (body : List ℕ) → goodBody f lengths size body ≡ true
-    → (body ≡ bodyBytes f lengths (readBody f (length lengths) body)) × (allInRange size lengths (readBody f (length lengths) body) ≡ true)
+    → (body ≡ bodyBytes f lengths (readBody f (length lengths) body)) × (allInRange f size lengths (readBody f (length lengths) body) ≡ true)
 good-body-is-written = good-is-written
 
 -- ---- theorem 4: the scan
@@ -226,24 +225,24 @@ module _ (f : Form) (form : ScanForm f) (list store : List ℕ) (room : ℕ) (do
   scan-passes-check = scan-done-reads f form list store room done .passes
 
   abbrev saying : ℕ → Said
-  saying k = record { key = getD (storeKeys store) k []; chunk = scanRecords list (chunkAt store k) }
+  saying k = record { key = getD (storeKeys store) k []; chunk = scanRecords f list (chunkAt store k) }
 
-  saying-at : (k : ℕ) → k < chunkCount store → getD (scannedRecords list store) k nothing ≡ saying k
+  saying-at : (k : ℕ) → k < chunkCount store → getD (scannedRecords f list store) k nothing ≡ saying k
   unfolding scannedRecords
   saying-at k l = rw zero-add at (tabulated-at saying 0 (chunkCount store) k nothing l)
 
-  saying-keys : map (λ s. s .key) (scannedRecords list store) ≡ storeKeys store
+  saying-keys : map (λ s. s .key) (scannedRecords f list store) ≡ storeKeys store
   unfolding scannedRecords
   saying-keys =
       map-tabulated (λ s. s .key) saying 0 (chunkCount store)
       ∙ tabulated-getD (storeKeys store) [] (chunkCount store) (scan-done-reads f form list store room done .keyCount)
 
-  saying-count : length (scannedRecords list store) ≡ chunkCount store
+  saying-count : length (scannedRecords f list store) ≡ chunkCount store
   unfolding scannedRecords
   saying-count = length-tabulated saying 0 (chunkCount store)
 
   -- It says of every chunk of the store, in the store's order, its fingerprint, its length and the records that the chunk gives.
-  pub scan-says : Says f list (scannedRecords list store) (scanIndex f list store)
+  pub scan-says : Says f list (scannedRecords f list store) (scanIndex f list store)
   scan-says =
       let r = scan-done-reads f form list store room done in
       record {

@@ -1,4 +1,5 @@
 pub mod Cases
+pub mod SetCases
 pub mod SearchList
 pub mod PlaceText
 pub mod IndexTheorems
@@ -21,3 +22,4 @@ pub mod WrittenStores
 pub mod WrittenInputs
 pub mod Holes
 pub mod Compaction
+pub mod Spans

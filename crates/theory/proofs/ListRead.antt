@@ -15,7 +15,7 @@ use Rattle.spec.specs.Directory.{sizeAt}
 use Rattle.spec.specs.Store.{storeLayout, storeKeys}
 use Rattle.spec.specs.Form.{Form}
 use Rattle.spec.specs.Recipes.{mostFiles, fileCount, readFiles, fileCode, filesCode, filesOf, recipesCode}
-use Rattle.spec.specs.Join.{Occurrence, keywordAt, occurrenceBytes, listBytes, innerLeast, readList}
+use Rattle.spec.specs.Join.{Occurrence, keywordAt, occurrenceBytes, listBytes, readList}
 use Rattle.spec.specs.Search.{chunkNamed, restored, directSearch}
 use Rattle.spec.proofs.Tests.{and-left, and-right}
 use Rattle.spec.proofs.Codes.{passed, passed-code}
@@ -58,18 +58,18 @@ few-files recipes e =
     let b = passed (ltb mostFiles (fileCount recipes)) 14 _ (omega arith) (a .1) in
     omega (arith, ltb-false mostFiles (fileCount recipes) (b .0), length-files (fileCount recipes) (drop 4 recipes))
 
-module _ (f : Form) (plain : f .sets ≡ false) (list store index recipes : List ℕ) (accept : keywordCode list ≡ 0) (reads : ScanReads f list store index)
-    (known : recipesCode recipes ≡ 0) (good : filesCode (storeKeys store) (sizeAt storeLayout store) (innerLeast f list) (filesOf recipes) ≡ 0) where
+module _ (f : Form) (list store index recipes : List ℕ) (accept : keywordCode list ≡ 0) (reads : ScanReads f list store index) (least : ℕ)
+    (known : recipesCode recipes ≡ 0) (good : filesCode (storeKeys store) (sizeAt storeLayout store) least (filesOf recipes) ≡ 0) where
   short-text : (n : ℕ) → n < length (filesOf recipes) → length (getD (restoredFiles list store recipes) n []) ≤ largest32
   unfolding restored
   short-text n l =
-      let g : FileAccepted (storeKeys store) (sizeAt storeLayout store) (innerLeast f list) (getD (filesOf recipes) n []) =
-      files-accepted (storeKeys store) (sizeAt storeLayout store) (innerLeast f list) (filesOf recipes) n good l in
+      let g : FileAccepted (storeKeys store) (sizeAt storeLayout store) least (getD (filesOf recipes) n []) =
+      files-accepted (storeKeys store) (sizeAt storeLayout store) least (filesOf recipes) n good l in
       rw (
         getD-map (λ file. folded (flagOf list) (restored store file)) (filesOf recipes) n [] [] l,
         folded-length,
         length-joined (map (chunkNamed store) (getD (filesOf recipes) n [])),
-        file-lengths f plain list store index accept reads (getD (filesOf recipes) n []) (g .known),
+        file-lengths f list store index accept reads (getD (filesOf recipes) n []) (g .known),
       )
       (g .short)
 

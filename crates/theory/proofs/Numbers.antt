@@ -21,6 +21,7 @@ use Rattle.spec.specs.Scan.{scanIndex, scannableCode, scanCode}
 use Rattle.spec.specs.Search.{directSearch, searchJoinCode, searchCode}
 use Rattle.spec.specs.Compact.{namedIn, compacted, compactableCode, compactCode}
 use Rattle.spec.proofs.Tests.{bool-cases, and-left, and-right}
+use Rattle.spec.proofs.JoinIsSearch.{sets-inner-long}
 use Rattle.theory.specs.Demands.{Numbers}
 
 -- ---- chains of tests
@@ -128,7 +129,7 @@ index-number f index =
 -- ---- recipes and files
 
 abbrev ofFiles : List ℕ
-ofFiles = 0 ∷ 14 ∷ 15 ∷ 16 ∷ 17 ∷ 18 ∷ []
+ofFiles = 0 ∷ 15 ∷ 16 ∷ 17 ∷ []
 
 abbrev ofRecipes : List ℕ
 ofRecipes = 0 ∷ 14 ∷ []
@@ -140,18 +141,33 @@ recipes-number recipes =
     (test-in ofRecipes (ltb mostFiles (fileCount recipes)) 14 _ refl
     (test-in ofRecipes (not (filesWhole (fileCount recipes) (drop 4 recipes))) 14 0 refl refl))
 
-module _ (keys : List (List ℕ)) (sizeOf : ℕ → ℕ) (least : ℕ) where
-  file-number : (file : List (List ℕ)) → member (fileCode keys sizeOf least file) ofFiles ≡ true
+abbrev ofSetFiles : List ℕ
+ofSetFiles = 0 ∷ 15 ∷ 16 ∷ []
+
+-- the numbers of a file: those of its tests; of the last one nothing is asked where it finds nothing
+module _ (numbers : List ℕ) (keys : List (List ℕ)) (sizeOf : ℕ → ℕ) (least : ℕ) (done : member 0 numbers ≡ true) (unknown : member 15 numbers ≡ true)
+    (long : member 16 numbers ≡ true) (short : (sizes : List ℕ) → member (cond (not (innerLong least sizes)) 17 0) numbers ≡ true) where
+  file-number : (file : List (List ℕ)) → member (fileCode keys sizeOf least file) numbers ≡ true
   unfolding fileCode
   file-number file =
-      test-in ofFiles (not (every (λ key. contains key keys) file)) 15 _ refl
-      (test-in ofFiles (ltb largest32 (sum (sizesIn keys sizeOf file))) 16 _ refl
-      (test-in ofFiles (not (innerLong least (sizesIn keys sizeOf file))) 17 0 refl refl))
+      test-in numbers (not (every (λ key. contains key keys) file)) 15 _ unknown
+      (test-in numbers (ltb largest32 (sum (sizesIn keys sizeOf file))) 16 _ long (short (sizesIn keys sizeOf file)))
 
-  files-number : (files : List (List (List ℕ))) → member (filesCode keys sizeOf least files) ofFiles ≡ true
+  files-number : (files : List (List (List ℕ))) → member (filesCode keys sizeOf least files) numbers ≡ true
   unfolding filesCode
-  files-number [] = refl
-  files-number (file ∷ files) = whole-in ofFiles (fileCode keys sizeOf least file) _ (file-number file) (files-number files)
+  files-number [] = done
+  files-number (file ∷ files) = whole-in numbers (fileCode keys sizeOf least file) _ (file-number file) (files-number files)
+
+module _ (keys : List (List ℕ)) (sizeOf : ℕ → ℕ) (files : List (List (List ℕ))) where
+  any-files : (least : ℕ) → member (filesCode keys sizeOf least files) ofFiles ≡ true
+  any-files least =
+      files-number ofFiles keys sizeOf least refl refl refl (λ sizes. test-in ofFiles (not (innerLong least sizes)) 17 0 refl refl) files
+
+  -- a form with sets has no 17
+  set-files : (f : Form) → f .sets ≡ true → (list : List ℕ) → member (filesCode keys sizeOf (innerLeast f list) files) ofSetFiles ≡ true
+  set-files f q list =
+      files-number ofSetFiles keys sizeOf (innerLeast f list) refl refl refl
+      (λ sizes. ap (λ (b : Bool). member (cond (not b) 17 0) ofSetFiles) (sets-inner-long f q list sizes)) files
 
 -- ---- the operations
 
@@ -167,34 +183,53 @@ scan-number f list store room =
     (whole-in ofScan (storeCode store) 0 (wider (storeCode store) ofStore ofScan refl (store-number store)) refl))
     (test-in ofScan (ltb room n || ltb largest32 n) 9 0 refl refl)
 
+-- the numbers of the files' tests are among those of the whole
+module _ (numbers : List ℕ) (has : every (λ x. member x numbers) (14 ∷ 18 ∷ ofIndex) ≡ true) where
+  join-number : (f : Form) (index recipes : List ℕ) (room : ℕ)
+      → member (filesCode (indexKeys index) (sizeAt (indexLayout index) index) (innerLeast f (listIn index)) (filesOf recipes)) numbers ≡ true
+      → member (joinCode f index recipes room) numbers ≡ true
+  unfolding joinCode joinableCode
+  join-number f index recipes room files =
+      whole-in numbers (joinableCode f index recipes) _
+      (whole-in numbers (indexCode f index) _ (wider (indexCode f index) (14 ∷ 18 ∷ ofIndex) numbers has (wider (indexCode f index) ofIndex (14 ∷ 18 ∷ ofIndex) refl (index-number f index)))
+      (whole-in numbers (recipesCode recipes) _ (wider (recipesCode recipes) (14 ∷ 18 ∷ ofIndex) numbers has (wider (recipesCode recipes) ofRecipes (14 ∷ 18 ∷ ofIndex) refl (recipes-number recipes)))
+      (whole-in numbers (filesCode (indexKeys index) (sizeAt (indexLayout index) index) (innerLeast f (listIn index)) (filesOf recipes)) 0 files
+      (wider 0 (14 ∷ 18 ∷ ofIndex) numbers has refl))))
+      (test-in numbers (ltb room (9 * length (joinList f index recipes))) 18 0 (wider 18 (14 ∷ 18 ∷ ofIndex) numbers has refl) (wider 0 (14 ∷ 18 ∷ ofIndex) numbers has refl))
+
 abbrev ofJoin : List ℕ
 ofJoin = 0 ∷ 1 ∷ 2 ∷ 3 ∷ 4 ∷ 10 ∷ 11 ∷ 12 ∷ 13 ∷ 14 ∷ 15 ∷ 16 ∷ 17 ∷ 18 ∷ []
 
-join-number : (f : Form) (index recipes : List ℕ) (room : ℕ) → member (joinCode f index recipes room) ofJoin ≡ true
-unfolding joinCode joinableCode
-join-number f index recipes room =
-    let files = filesCode (indexKeys index) (sizeAt (indexLayout index) index) (innerLeast f (listIn index)) (filesOf recipes) in
-    whole-in ofJoin (joinableCode f index recipes) _
-    (whole-in ofJoin (indexCode f index) _ (wider (indexCode f index) ofIndex ofJoin refl (index-number f index))
-    (whole-in ofJoin (recipesCode recipes) _ (wider (recipesCode recipes) ofRecipes ofJoin refl (recipes-number recipes))
-    (whole-in ofJoin files 0
-    (wider files ofFiles ofJoin refl
-    (files-number (indexKeys index) (sizeAt (indexLayout index) index) (innerLeast f (listIn index)) (filesOf recipes))) refl)))
-    (test-in ofJoin (ltb room (9 * length (joinList f index recipes))) 18 0 refl refl)
+abbrev ofSetJoin : List ℕ
+ofSetJoin = 0 ∷ 1 ∷ 2 ∷ 3 ∷ 4 ∷ 10 ∷ 11 ∷ 12 ∷ 13 ∷ 14 ∷ 15 ∷ 16 ∷ 18 ∷ []
+
+any-join : (f : Form) (index recipes : List ℕ) (room : ℕ) → member (joinCode f index recipes room) ofJoin ≡ true
+any-join f index recipes room =
+    let least = innerLeast f (listIn index) in
+    join-number ofJoin refl f index recipes room
+    (wider (filesCode (indexKeys index) (sizeAt (indexLayout index) index) least (filesOf recipes)) ofFiles ofJoin refl
+    (any-files (indexKeys index) (sizeAt (indexLayout index) index) (filesOf recipes) least))
+
+set-join : (f : Form) (index recipes : List ℕ) (room : ℕ) → f .sets ≡ true → member (joinCode f index recipes room) ofSetJoin ≡ true
+set-join f index recipes room q =
+    join-number ofSetJoin refl f index recipes room
+    (wider (filesCode (indexKeys index) (sizeAt (indexLayout index) index) (innerLeast f (listIn index)) (filesOf recipes)) ofSetFiles ofSetJoin refl
+    (set-files (indexKeys index) (sizeAt (indexLayout index) index) (filesOf recipes) f q (listIn index)))
 
 abbrev pub ofSearch : List ℕ
-ofSearch = 0 ∷ 1 ∷ 2 ∷ 3 ∷ 4 ∷ 5 ∷ 6 ∷ 7 ∷ 8 ∷ 9 ∷ 14 ∷ 15 ∷ 16 ∷ 17 ∷ 18 ∷ 20 ∷ []
+ofSearch = 0 ∷ 1 ∷ 2 ∷ 3 ∷ 4 ∷ 5 ∷ 6 ∷ 7 ∷ 8 ∷ 9 ∷ 14 ∷ 15 ∷ 16 ∷ 18 ∷ 20 ∷ []
 
-search-number : (f : Form) (list store recipes : List ℕ) (indexRoom room : ℕ) → member (searchCode f list store recipes indexRoom room) ofSearch ≡ true
+search-number : (f : Form) → f .sets ≡ true → (list store recipes : List ℕ) (indexRoom room : ℕ)
+    → member (searchCode f list store recipes indexRoom room) ofSearch ≡ true
 unfolding searchCode searchJoinCode
-search-number f list store recipes indexRoom room =
+search-number f q list store recipes indexRoom room =
     let files = filesCode (storeKeys store) (sizeAt storeLayout store) (innerLeast f list) (filesOf recipes) in
     whole-in ofSearch (scanCode f list store indexRoom) _
     (wider (scanCode f list store indexRoom) ofScan ofSearch refl (scan-number f list store indexRoom))
     (whole-in ofSearch (searchJoinCode f list store recipes room) 0
     (whole-in ofSearch (recipesCode recipes) _ (wider (recipesCode recipes) ofRecipes ofSearch refl (recipes-number recipes))
     (whole-in ofSearch files _
-    (wider files ofFiles ofSearch refl (files-number (storeKeys store) (sizeAt storeLayout store) (innerLeast f list) (filesOf recipes)))
+    (wider files ofSetFiles ofSearch refl (set-files (storeKeys store) (sizeAt storeLayout store) (filesOf recipes) f q list))
     (test-in ofSearch (ltb room (9 * length (directSearch list store recipes))) 18 0 refl refl))) refl)
 
 abbrev ofCompact : List ℕ
@@ -239,8 +274,9 @@ numbers = record {
   store = store-number;
   scan = scan-number newest;
   index = λ index. index-number (formOf index) index;
-  join = λ index. join-number (formOf index) index;
-  search = search-number newest;
+  join = λ index. any-join (formOf index) index;
+  joinSets = λ index. set-join (formOf index) index;
+  search = search-number newest refl;
   compact = compact-number;
   chunk = chunk-number;
   body = λ index. body-number (formOf index) index;

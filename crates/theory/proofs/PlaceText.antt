@@ -17,6 +17,7 @@ use Rattle.spec.proofs.Each.{each-match, each-append, each-none, passing}
 use Rattle.spec.proofs.Rising.{allBelow, below-prefix, passing-member}
 use Rattle.spec.proofs.RecordLaws.{prefix-in, suffix-in, offsets-rise, offsets-in}
 use Rattle.spec.proofs.Stream.{stream, cell-beyond, cell-no-suffix}
+use Rattle.spec.proofs.Crossing.{crosses-cell}
 use Rattle.theory.specs.PlaceText.{PlaceText}
 
 -- ---- what the ranges give
@@ -71,9 +72,9 @@ module _ (w : List ℕ) (i j : ℕ) (hi : i < length w) (hj : j < length w) wher
 
 module _ (keywords : List (List ℕ)) (here next : ChunkRecords) (rest : List ChunkRecords) (k : ℕ) where
   pub stream-is-text : 1 ≤ length (keywordAt keywords k) → inRange (length (keywordAt keywords k)) (here .size) (recordAt here k) ≡ true
-      → inRange (length (keywordAt keywords k)) (next .size) (recordAt next k) ≡ true → PlaceText keywords here next rest k
+      → inRange (length (keywordAt keywords k)) (next .size) (recordAt next k) ≡ true → recordAt next k .inner ≡ 0 → PlaceText keywords here next rest k
   unfolding listed
-  stream-is-text h e f =
+  stream-is-text h e f none =
       let w = keywordAt keywords k in
       let r = recordAt here k in
       let s = recordAt next k in
@@ -81,7 +82,8 @@ module _ (keywords : List (List ℕ)) (here next : ChunkRecords) (rest : List Ch
       let b : InRange (length w) (next .size) s = ranges (length w) (next .size) s h f in
       record {
         followed =
-            stream w (r .offsets) (r .prefix) (s .suffix) (here .size) (a .up) (a .low (r .prefix) (a .shortPrefix)) (a .fits)
+            each-match _ _ 0 0 (here .size) (λ p l. rw (crosses-cell w k (r .prefix) next rest (here .size - (0 + p)) none))
+            ∙ stream w (r .offsets) (r .prefix) (s .suffix) (here .size) (a .up) (a .low (r .prefix) (a .shortPrefix)) (a .fits)
             ∙ ap (λ (l : List ℕ). r .offsets ++ l)
             (sym (map-passing (λ p. here .size - r .prefix + p) (inCell w (r .prefix) (s .suffix)) 0 (r .prefix))
             ∙ ap (map (λ p. here .size - r .prefix + p)) (sym (cell-starts w (r .prefix) (s .suffix) (a .shortPrefix) (b .shortSuffix))));

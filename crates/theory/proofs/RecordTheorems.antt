@@ -2,24 +2,28 @@
 -- search: the longest beginning of the keyword, short of the whole, at the chunk's end; the longest ending at its start; every occurrence.
 -- Exactly one record is so. Assumes nothing.
 use mathlib.Core.Path.{_≡_, refl, sym, ap, _∙_}
-use mathlib.Core.Logic.{_⊎_, ⊎-elim}
-use mathlib.Core.Bool.{Bool, true, or-true, true≢false, false≢true}
+use mathlib.Core.Logic.{_⊎_, inl, inr, ⊎-elim}
+use mathlib.Core.Bool.{Bool, true, false, _&&_, cond, or-true, true≢false, false≢true}
 use mathlib.Core.List.{List, [], _∷_, _++_}
-use Prim.Native.Nat.{ℕ, _+_, _-_, _≤_, _<_}
-use native.Mathlib.Nat.{zero-add, le-refl}
+use Prim.Native.Nat.{ℕ, zero, suc, _+_, _-_, _^_, _≤_, _<_}
+use lib.Dec.{leb}
+use lib.Pow.{pow-mono}
+use native.Mathlib.Nat.{zero-add, le-refl, lt-of-lt-of-le}
 use native.Mathlib.Omega.{arith}
 use borrow.Author.Tests.{lt-ltb}
 use lib.ListN.{length, take, drop, length-take, length-drop, take-append-drop, drop-of-length-le}
 use lib.Seq.{take-at, take-all}
-use Rattle.spec.specs.Bytes.{begins, occursAt, largest, member, rising}
-use Rattle.spec.specs.Records.{MatchRecord, reach, endsWith, startsWith, prefixOf, suffixOf, offsetsOf, recordOf}
-use Rattle.theory.specs.Published.{Ends, Starts, Occurs, Published}
-use Rattle.spec.proofs.Tests.{le-or-lt, eqb-same}
+use Rattle.spec.specs.Bytes.{begins, occursAt, largest, member, rising, setOf, inSet}
+use Rattle.spec.specs.Form.{Form}
+use Rattle.spec.specs.Records.{MatchRecord, reach, endsWith, startsWith, prefixOf, suffixOf, offsetsOf, recordOf, liesAt, innerOf}
+use Rattle.theory.specs.Published.{Ends, Starts, Occurs, Inside, Published}
+use Rattle.spec.proofs.Tests.{le-or-lt, eqb-same, leb-true, bool-cases, and-left, and-right}
+use Rattle.spec.proofs.Sets.{has-set, has-above, none-empty, set-same, set-of-bits}
 use Rattle.spec.proofs.Begins.{begins-front, begins-split, begins-short}
 use Rattle.spec.proofs.Each.{passing, each-match, member-passing, member-above}
 use Rattle.spec.proofs.Largest.{largest-passes, largest-le, largest-max}
 use Rattle.spec.proofs.Rising.{allBelow, passing-member}
-use Rattle.spec.proofs.RecordLaws.{bool-ext}
+use Rattle.spec.proofs.RecordLaws.{bool-ext, le-of}
 use Rattle.spec.proofs.RecordRanges.{passing-rises}
 
 -- ---- the tests, as equations of lists
@@ -68,9 +72,20 @@ rising-same n xs ys r s e h =
     ∙ each-match _ _ 0 0 n (λ p l. rw (e (0 + p)))
     ∙ passing-member n 0 ys s (rw zero-add (below-of n ys (λ x m. h x (e x ∙ m)))) (λ _. omega arith)
 
+-- numbers with the same bits are the same
+same-bits : (x y : ℕ) → ((p : ℕ) → inSet x p ≡ inSet y p) → x ≡ y
+same-bits x y h =
+    let a : x < 2 ^ (x + y) = lt-of-lt-of-le (lt-two-pow x) (pow-mono {i = x} {j = x + y} (omega arith)) in
+    let b : y < 2 ^ (x + y) = lt-of-lt-of-le (lt-two-pow y) (pow-mono {i = y} {j = x + y} (omega arith)) in
+    sym (set-of-bits (x + y) x a) ∙ set-same (inSet x) (inSet y) (x + y) (λ s l. h s) ∙ set-of-bits (x + y) y b
+  where
+    lt-two-pow : (n : ℕ) → n < 2 ^ n
+    lt-two-pow zero = omega arith
+    lt-two-pow (suc n) = omega (arith, lt-two-pow n)
+
 -- ---- the published record
 
-module _ (keyword chunk : List ℕ) where
+module _ (f : Form) (keyword chunk : List ℕ) where
   module _ (nonempty : 1 ≤ length keyword) where
     in-reach : (i : ℕ) → i < length keyword → i ≤ length chunk → i ≤ reach (length keyword) (length chunk)
     unfolding reach
@@ -102,8 +117,44 @@ module _ (keyword chunk : List ℕ) where
         ⊎-elim (λ (h : length chunk ≤ at). absurd (false≢true (sym (begins-short keyword (drop at chunk) (rw length-drop (omega arith))) ∙ e)))
         (λ h. h) (le-or-lt (length chunk) at)
 
+    abbrev lies : ℕ → Bool
+    lies p = leb 1 p && liesAt keyword chunk p
+
+    -- the set of a form that has sets
+    inner-set : f .sets ≡ true → recordOf f keyword chunk .inner ≡ setOf lies (length keyword - length chunk)
+    unfolding recordOf innerOf
+    inner-set q = ap (λ (b : Bool). cond b (setOf lies (length keyword - length chunk)) 0) q
+
+    inner-none : f .sets ≡ false → recordOf f keyword chunk .inner ≡ 0
+    unfolding recordOf
+    inner-none q = ap (λ (b : Bool). cond b (innerOf keyword chunk) 0) q
+
+    inner-has : (p : ℕ) → f .sets ≡ true → Inside keyword chunk p → inSet (recordOf f keyword chunk .inner) p ≡ true
+    inner-has p q i =
+        rw (inner-set q, has-set lies (length keyword - length chunk) p (omega (arith, i .behind)), leb-true 1 p (i .before))
+        (same-begins (take (length chunk) (drop p keyword)) chunk (sym (i .same)))
+
+    inner-is : (p : ℕ) → inSet (recordOf f keyword chunk .inner) p ≡ true → (f .sets ≡ true) × Inside keyword chunk p
+    inner-is p e = go (bool-cases (f .sets)) (le-or-lt (length keyword - length chunk) p)
+      where
+        go : (f .sets ≡ true) ⊎ (f .sets ≡ false) → (length keyword - length chunk ≤ p) ⊎ (p < length keyword - length chunk)
+            → (f .sets ≡ true) × Inside keyword chunk p
+        go (inr q) d = absurd (false≢true (sym (none-empty p) ∙ ap (λ (x : ℕ). inSet x p) (sym (inner-none q)) ∙ e))
+        go (inl q) (inl h) = absurd (false≢true (sym (has-above lies (length keyword - length chunk) p h) ∙ ap (λ (x : ℕ). inSet x p) (sym (inner-set q)) ∙ e))
+        go (inl q) (inr h) =
+            let t : lies p ≡ true = sym (has-set lies (length keyword - length chunk) p h) ∙ ap (λ (x : ℕ). inSet x p) (sym (inner-set q)) ∙ e in
+            let inside : Inside keyword chunk p =
+            record {
+              before = le-of 1 p (and-left (leb 1 p) (liesAt keyword chunk p) t);
+              behind = omega arith;
+              same =
+                  sym (begins-same (take (length chunk) (drop p keyword)) chunk (rw (length-take, length-drop) (omega arith))
+                  (and-right (leb 1 p) (liesAt keyword chunk p) t));
+            } in
+            (q, inside)
+
     -- The record is the published method's.
-    pub record-published : Published keyword chunk (recordOf keyword chunk)
+    pub record-published : Published keyword chunk f (recordOf f keyword chunk)
     unfolding recordOf prefixOf suffixOf offsetsOf
     record-published =
         let t = endsWith keyword chunk in
@@ -126,26 +177,31 @@ module _ (keyword chunk : List ℕ) where
               let o : occursAt keyword chunk at ≡ true = take-begins keyword (drop at chunk) e in
               member-passing (occursAt keyword chunk) at 0 (length chunk) (omega arith) (omega (arith, occurs-in at o)) ∙ o;
           offsetsOnly = λ at e. begins-take keyword (drop at chunk) (listed-occurs (occursAt keyword chunk) (length chunk) at e);
+          innerAll = inner-has;
+          innerOnly = inner-is;
         }
 
     -- No other record is.
-    pub published-once : (r : MatchRecord) → Published keyword chunk r → r ≡ recordOf keyword chunk
+    pub published-once : (r : MatchRecord) → Published keyword chunk f r → r ≡ recordOf f keyword chunk
     published-once r p =
         let q = record-published in
-        let a : r .prefix ≡ recordOf keyword chunk .prefix =
+        let a : r .prefix ≡ recordOf f keyword chunk .prefix =
         omega (
           arith,
           q .prefixLongest (r .prefix) (p .prefixShort) (p .prefixIn) (p .prefixEnds),
-          p .prefixLongest (recordOf keyword chunk .prefix) (q .prefixShort) (q .prefixIn) (q .prefixEnds),
+          p .prefixLongest (recordOf f keyword chunk .prefix) (q .prefixShort) (q .prefixIn) (q .prefixEnds),
         ) in
-        let b : r .suffix ≡ recordOf keyword chunk .suffix =
+        let b : r .suffix ≡ recordOf f keyword chunk .suffix =
         omega (
           arith,
           q .suffixLongest (r .suffix) (p .suffixShort) (p .suffixIn) (p .suffixStarts),
-          p .suffixLongest (recordOf keyword chunk .suffix) (q .suffixShort) (q .suffixIn) (q .suffixStarts),
+          p .suffixLongest (recordOf f keyword chunk .suffix) (q .suffixShort) (q .suffixIn) (q .suffixStarts),
         ) in
-        let c : r .offsets ≡ recordOf keyword chunk .offsets =
-        rising-same (length chunk) (r .offsets) (recordOf keyword chunk .offsets) (p .offsetsRise) (q .offsetsRise)
+        let c : r .offsets ≡ recordOf f keyword chunk .offsets =
+        rising-same (length chunk) (r .offsets) (recordOf f keyword chunk .offsets) (p .offsetsRise) (q .offsetsRise)
         (λ x. bool-ext _ _ (λ m. q .offsetsAll x (p .offsetsOnly x m)) (λ m. p .offsetsAll x (q .offsetsOnly x m)))
         (λ x m. occurs-in x (take-begins keyword (drop x chunk) (p .offsetsOnly x m))) in
-        λ i. record { prefix = a i; suffix = b i; offsets = c i }
+        let d : r .inner ≡ recordOf f keyword chunk .inner =
+        same-bits (r .inner) (recordOf f keyword chunk .inner)
+        (λ x. bool-ext _ _ (λ m. q .innerAll x (p .innerOnly x m .0) (p .innerOnly x m .1)) (λ m. p .innerAll x (q .innerOnly x m .0) (q .innerOnly x m .1))) in
+        λ i. record { prefix = a i; suffix = b i; offsets = c i; inner = d i }

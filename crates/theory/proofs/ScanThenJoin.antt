@@ -78,7 +78,7 @@ module _ (keys : List (List ℕ)) (s t : ℕ → ℕ) (m : ℕ) (h : (k : ℕ) �
 
 -- ---- the list
 
-module _ (f : Form) (plain : f .sets ≡ false) (list store index : List ℕ) (accept : keywordCode list ≡ 0) (reads : ScanReads f list store index) where
+module _ (f : Form) (list store index : List ℕ) (accept : keywordCode list ≡ 0) (reads : ScanReads f list store index) where
   -- the tests 15 to 17 of a file and of all files, said of the store
   abbrev storeFileCode : List (List ℕ) → ℕ
   storeFileCode file = fileCode (storeKeys store) (sizeAt storeLayout store) (innerLeast f list) file
@@ -93,12 +93,12 @@ module _ (f : Form) (plain : f .sets ≡ false) (list store index : List ℕ) (a
   in-store key e = omega (arith, position-in (storeKeys store) key e, reads .keyCount)
 
   file-records : (file : List (List ℕ)) → every (λ key. contains key (storeKeys store)) file ≡ true
-      → fileRecords f index file ≡ map (scanRecords list) (chunksNamed file)
+      → fileRecords f index file ≡ map (scanRecords f list) (chunksNamed file)
   unfolding fileRecords
   file-records file e =
       rw (reads .keys)
       (map-same (λ key. contains key (storeKeys store)) _ _ [] file e (λ key c. reads .records (positionOf key (storeKeys store)) (in-store key c))
-      ∙ sym (map-map (scanRecords list) (chunkNamed store) file))
+      ∙ sym (map-map (scanRecords f list) (chunkNamed store) file))
 
   pub file-lengths : (file : List (List ℕ)) → every (λ key. contains key (storeKeys store)) file ≡ true
       → map length (chunksNamed file) ≡ sizesIn (storeKeys store) (sizeAt storeLayout store) file
@@ -107,7 +107,7 @@ module _ (f : Form) (plain : f .sets ≡ false) (list store index : List ℕ) (a
       ∙ map-same (λ key. contains key (storeKeys store)) _ _ [] file e (λ key c. reads .chunks (positionOf key (storeKeys store)) (in-store key c))
 
   all-records : (files : List (List (List ℕ))) → storeFilesCode files ≡ 0
-      → map (fileRecords f index) files ≡ map (map (scanRecords list)) (map chunksNamed files)
+      → map (fileRecords f index) files ≡ map (map (scanRecords f list)) (map chunksNamed files)
   unfolding filesCode
   all-records [] e = refl
   all-records (file ∷ files) e =
@@ -135,7 +135,7 @@ module _ (f : Form) (plain : f .sets ≡ false) (list store index : List ℕ) (a
   unfolding joinList directSearch
   lists-same recipes e =
       rw (reads .listed .folded, all-records (filesOf recipes) e)
-      (scan-join-is-search f plain list (map chunksNamed (filesOf recipes)) (accepted-none-empty list accept) (all-roomy (filesOf recipes) e)
+      (scan-join-is-search f list (map chunksNamed (filesOf recipes)) (accepted-none-empty list accept) (all-roomy (filesOf recipes) e)
       ∙ ap (occurrencesInAll 0 (foldedKeywords list)) (texts (filesOf recipes)))
 
   -- ---- the number

@@ -10,15 +10,15 @@ use lib.Dec.{leb, eqb}
 use lib.ListN.{length, getD, length-map}
 use Rattle.spec.specs.Bytes.{leBytes, fieldsBytes, AllBytes}
 use Rattle.spec.specs.Keywords.{keywordsOf, keywordCode}
-use Rattle.spec.specs.Form.{Form, form1, newest, formatOf, formIn}
+use Rattle.spec.specs.Form.{Form, form1, form2, newest, formatOf, formIn}
 use Rattle.spec.specs.Records.{MatchRecord, reach, isEmpty, isTiny, inRange, kindOf, offsetsBytes, fullBytes, tinyBytes, recordBytes}
-use Rattle.spec.specs.Records.{bodyFrom, allInRange, headBytes}
+use Rattle.spec.specs.Records.{setBytes, bodyFrom, allInRange, headBytes}
 use Rattle.spec.specs.Index.{directoryBytes, indexBytes, entryBytes}
 use Rattle.spec.proofs.Tests.{cond-elim, and-left, and-right}
 use Rattle.spec.proofs.JoinIsSearch.{getD-map}
 use Rattle.spec.proofs.KeywordLaws.{accepted, keyword-front}
-use Rattle.spec.proofs.RecordLaws.{prefix-in, suffix-in, le-of}
-use Rattle.spec.proofs.Forms.{FormRead, WriteForm, form-read, form1-of, newest-of, form-writes}
+use Rattle.spec.proofs.RecordLaws.{prefix-in, suffix-in, le-of, range-first, range-rest}
+use Rattle.spec.proofs.Forms.{FormRead, WriteForm, form-read, form1-of, form2-of, newest-of, form-writes}
 use Rattle.spec.proofs.IndexLaws.{mark-first}
 use Rattle.spec.proofs.WrittenEntries.{bodiesOf}
 use Rattle.theory.specs.RecordSets.{Said, nothing, entryFor, writtenIndex, Fitting, AllFitting, Says, IndexForm, WrittenOnce}
@@ -93,6 +93,10 @@ reach-small : (n size : ℕ) → n ≤ 32 → reach n size < 256
 unfolding reach
 reach-small n size h = omega arith
 
+bytes-set : (k set : ℕ) → k < 256 → Bytes (setBytes k set)
+unfolding setBytes
+bytes-set k set l = bytes-cond (eqb set 0) (λ _. bytes-nil) (λ _. bytes-cons l (bytes-cons (omega arith) (bytes-leBytes 4 set)))
+
 module _ (f : Form) (form : ByteForm f) (size : ℕ) where
   module _ (n k : ℕ) (h : n ≤ 32) (l : k < 256) (r : MatchRecord) (e : inRange n size r ≡ true) where
     bytes-full : Bytes (fullBytes f k r)
@@ -119,13 +123,14 @@ module _ (f : Form) (form : ByteForm f) (size : ℕ) where
     bytes-record = bytes-cond (isEmpty r) (λ _. bytes-nil) (λ _. bytes-cond (isTiny f n r) bytes-tiny (λ _. bytes-full))
 
   bytes-body : (k : ℕ) (lengths : List ℕ) (records : List MatchRecord) → k + length lengths ≤ 256 → ((i : ℕ) → i < length lengths → getD lengths i 0 ≤ 32)
-      → allInRange size lengths records ≡ true → Bytes (bodyFrom f k lengths records)
-  unfolding bodyFrom allInRange
+      → allInRange f size lengths records ≡ true → Bytes (bodyFrom f k lengths records)
+  unfolding bodyFrom
   bytes-body k [] records l h e = bytes-nil
   bytes-body k (n ∷ lengths) [] l h e = bytes-nil
   bytes-body k (n ∷ lengths) (r ∷ records) l h e =
-      bytes-append (bytes-record n k (h 0 (zero-lt-suc _)) (omega arith) r (and-left (inRange n size r) (allInRange size lengths records) e))
-      (bytes-body (suc k) lengths records (omega arith) (λ i m. h (suc i) (omega arith)) (and-right (inRange n size r) (allInRange size lengths records) e))
+      bytes-append (bytes-record n k (h 0 (zero-lt-suc _)) (omega arith) r (range-first f size n lengths r records e))
+      (bytes-append (bytes-set k (r .inner) (omega arith))
+      (bytes-body (suc k) lengths records (omega arith) (λ i m. h (suc i) (omega arith)) (range-rest f size n lengths r records e)))
 
 -- ---- the index
 
@@ -174,9 +179,12 @@ written-is-bytes f form list said fit b keys =
 
 -- ---- demand 2, second half, in every form that a mark names
 
--- document 01's form and the newest are among them
+-- document 01's form, request #105's and the newest are among them
 pub form1-named : IndexForm form1
 form1-named = record { index = form1 .mark; named = form1-of (form1 .mark) refl }
+
+pub form2-named : IndexForm form2
+form2-named = record { index = form2 .mark; named = form2-of (form2 .mark) refl }
 
 pub newest-named : IndexForm newest
 newest-named = record { index = newest .mark; named = newest-of (newest .mark) refl }

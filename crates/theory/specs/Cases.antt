@@ -199,10 +199,11 @@ pub record Cases : Type 0 where
       × (bodyAt widerIndex 2 ≡ 0x00 ∷ 0x00 ∷ 0x03 ∷ 0x01 ∷ 0x00 ∷ 0x03 ∷ [])
   pub widerList : (joinOutcome (formOf widerIndex) widerIndex recipes 30 ≡ Done 3)
       × (joinBuffer (formOf widerIndex) widerIndex recipes (replicate 30 7) ≡ nine 0 1 0 ++ nine 0 3 0 ++ nine 1 0 1 ++ replicate 3 7)
-  -- L: 65,535 and not 65,536 under the old mark, 1,048,576 and not 1,048,577 under the new one; the next digit is no mark yet
+  -- L: 65,535 and not 65,536 under the old mark, 1,048,576 and not 1,048,577 under the new ones; the next digit is no mark yet
   pub longestByMark : (map (markedCode 1) (65535 ∷ 65536 ∷ []) ≡ 0 ∷ 11 ∷ [])
       × (map (markedCode 2) (65536 ∷ 1048576 ∷ 1048577 ∷ []) ≡ 0 ∷ 0 ∷ 11 ∷ [])
-      × (markedCode 3 1 ≡ 10)
+      × (map (markedCode 3) (65536 ∷ 1048576 ∷ 1048577 ∷ []) ≡ 0 ∷ 0 ∷ 11 ∷ [])
+      × (markedCode 4 1 ≡ 10)
   -- * flag 1: b matches B (with flag 0 it does not), { does not match [
   pub bMatchesB : (countFor 1 (0x62 ∷ []) (0x42 ∷ []) ≡ Done 1) × (countFor 0 (0x62 ∷ []) (0x42 ∷ []) ≡ Done 0)
   pub braceAndBracket : countFor 1 (0x7B ∷ []) (0x5B ∷ []) ≡ Done 0

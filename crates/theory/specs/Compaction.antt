@@ -11,8 +11,9 @@ use Rattle.spec.specs.declared.Scanned.{Scanned}
 use Rattle.spec.specs.Bytes.{contains}
 use Rattle.spec.specs.Outcome.{codeOf, valueOf}
 use Rattle.spec.specs.Store.{storeKeys, storedChunks, storeCode}
-use Rattle.spec.specs.Form.{newest}
-use Rattle.spec.specs.Scan.{scanAnswer, scannedCode}
+use Rattle.spec.specs.Form.{form2, newest}
+use Rattle.spec.specs.Join.{joinCode}
+use Rattle.spec.specs.Scan.{scanIndex, scanAnswer, scannedCode}
 use Rattle.spec.specs.Search.{chunkNamed, searchCode, searchOutcome, searchBuffer, searchedCode, searchedCount}
 use Rattle.spec.specs.Compact.{namedIn, namedAmong, compacted, compactOutcome, compactBuffer, compactSize}
 use Rattle.theory.specs.Cases.{store, keywords, recipes, recipesOf}
@@ -85,6 +86,7 @@ pub record CompactionCases : Type 0 where
       × (compactOutcome holedStore (recipesOf ((1 ∷ []) ∷ (4 ∷ []) ∷ [])) 0 ≡ Refused 15)
       × (compactOutcome holedStore recipes 0 ≡ Refused 9)
       × (compactSize holedStore (recipesOf ((4 ∷ []) ∷ [])) ≡ Refused 15)
-  -- recipes that a search refuses with 17 are compacted for
-  pub inner : (searchCode newest keywords holedStore (recipesOf ((1 ∷ 3 ∷ 2 ∷ []) ∷ [])) 65536 65536 ≡ 17)
+  -- recipes that a join under an older mark refuses with 17 are compacted for; a search takes them (request #108)
+  pub inner : (searchCode newest keywords holedStore (recipesOf ((1 ∷ 3 ∷ 2 ∷ []) ∷ [])) 65536 65536 ≡ 0)
+      × (joinCode form2 (scanIndex form2 keywords holedStore) (recipesOf ((1 ∷ 3 ∷ 2 ∷ []) ∷ [])) 65536 ≡ 17)
       × (compacted holedStore (recipesOf ((1 ∷ 3 ∷ 2 ∷ []) ∷ [])) ≡ store)

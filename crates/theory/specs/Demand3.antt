@@ -11,7 +11,7 @@ use Rattle.spec.specs.Directory.{sizeAt}
 use Rattle.spec.specs.Store.{storeLayout, storeKeys, storeCode}
 use Rattle.spec.specs.Form.{newest, formOf}
 use Rattle.spec.specs.Recipes.{filesOf, recipesCode, filesCode}
-use Rattle.spec.specs.Join.{listBytes, innerLeast, joinOutcome, joinBuffer, readList}
+use Rattle.spec.specs.Join.{listBytes, joinOutcome, joinBuffer, readList}
 use Rattle.spec.specs.Scan.{scanIndex, scanAnswer, scanBuffer, scannedCode, scannedLength}
 use Rattle.spec.specs.Search.{restored, directSearch, searchJoinCode}
 use Rattle.theory.specs.SearchList.{SearchList}
@@ -24,11 +24,12 @@ NoScanRefusal list store room =
     × (length (scanIndex newest list store) ≤ room)
     × (length (scanIndex newest list store) ≤ largest32)
 
--- No refusal of the join holds, said of the store: 14; 15, 16 and 17; 18.
+-- No refusal of the join holds, said of the store: 14; 15 and 16; 18. With the sets that a scan writes an inner chunk may have any length, so there
+-- is no 17 (request #108).
 abbrev pub NoJoinRefusal : List ℕ → List ℕ → List ℕ → ℕ → Type 0
 NoJoinRefusal list store recipes room =
     (recipesCode recipes ≡ 0)
-    × (filesCode (storeKeys store) (sizeAt storeLayout store) (innerLeast newest list) (filesOf recipes) ≡ 0)
+    × (filesCode (storeKeys store) (sizeAt storeLayout store) 0 (filesOf recipes) ≡ 0)
     × (9 * length (directSearch list store recipes) ≤ room)
 
 -- The restored files, as they compare.

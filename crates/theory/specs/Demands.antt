@@ -66,8 +66,11 @@ pub record Numbers : Type 0 where
   pub index : (index : List ℕ) → member (indexCode (formOf index) index) (0 ∷ 1 ∷ 2 ∷ 3 ∷ 4 ∷ 10 ∷ 11 ∷ 12 ∷ 13 ∷ []) ≡ true
   pub join : (index recipes : List ℕ) (room : ℕ)
       → member (joinCode (formOf index) index recipes room) (0 ∷ 1 ∷ 2 ∷ 3 ∷ 4 ∷ 10 ∷ 11 ∷ 12 ∷ 13 ∷ 14 ∷ 15 ∷ 16 ∷ 17 ∷ 18 ∷ []) ≡ true
+  -- 17 under the two older marks alone (request #108)
+  pub joinSets : (index recipes : List ℕ) (room : ℕ) → formOf index .sets ≡ true
+      → member (joinCode (formOf index) index recipes room) (0 ∷ 1 ∷ 2 ∷ 3 ∷ 4 ∷ 10 ∷ 11 ∷ 12 ∷ 13 ∷ 14 ∷ 15 ∷ 16 ∷ 18 ∷ []) ≡ true
   pub search : (list store recipes : List ℕ) (indexRoom room : ℕ)
-      → member (searchCode newest list store recipes indexRoom room) (0 ∷ 1 ∷ 2 ∷ 3 ∷ 4 ∷ 5 ∷ 6 ∷ 7 ∷ 8 ∷ 9 ∷ 14 ∷ 15 ∷ 16 ∷ 17 ∷ 18 ∷ 20 ∷ []) ≡ true
+      → member (searchCode newest list store recipes indexRoom room) (0 ∷ 1 ∷ 2 ∷ 3 ∷ 4 ∷ 5 ∷ 6 ∷ 7 ∷ 8 ∷ 9 ∷ 14 ∷ 15 ∷ 16 ∷ 18 ∷ 20 ∷ []) ≡ true
   pub compact : (store recipes : List ℕ) (room : ℕ) → member (compactCode store recipes room) (0 ∷ 5 ∷ 6 ∷ 7 ∷ 8 ∷ 9 ∷ 14 ∷ 15 ∷ 20 ∷ []) ≡ true
   pub chunk : (store key : List ℕ) → member (findChunk store key) (0 ∷ 5 ∷ 6 ∷ 7 ∷ 8 ∷ 15 ∷ 19 ∷ 20 ∷ []) ≡ true
   pub body : (index key : List ℕ) → member (findBody (formOf index) index key) (0 ∷ 1 ∷ 2 ∷ 3 ∷ 4 ∷ 10 ∷ 11 ∷ 12 ∷ 13 ∷ 15 ∷ 19 ∷ []) ≡ true
@@ -93,11 +96,11 @@ pub record Demand2 : Type 0 where
   -- what is read from a scan's buffer is, for each chunk and keyword, the published record
   pub published : (list store buffer : List ℕ) → scannedCode (scanAnswer newest list store (length buffer)) ≡ 0
       → (k w : ℕ) → k < chunkCount store → w < length (foldedKeywords list)
-      → Published (keywordAt (foldedKeywords list) w) (folded (flagOf list) (chunkAt store k))
+      → Published (keywordAt (foldedKeywords list) w) (folded (flagOf list) (chunkAt store k)) newest
       (recordAt (indexRecords (formOf (scanned list store buffer)) (scanned list store buffer) k) w)
   -- the scan's index says these records, in the store's order, under the fingerprints of the chunks
   pub says : (list store buffer : List ℕ) → scannedCode (scanAnswer newest list store (length buffer)) ≡ 0
-      → Says (formOf (scanned list store buffer)) list (scannedRecords list store) (scanned list store buffer)
+      → Says (formOf (scanned list store buffer)) list (scannedRecords newest list store) (scanned list store buffer)
   -- each set of records that fits an index of a form (keyword list and fingerprints are bytes) reads back, and has one writing in that form
   pub once : (f : Form) → IndexForm f → (list : List ℕ) (said : List Said) → AllFitting f list said → AllBytes list
       → ((k : ℕ) → k < length said → AllBytes (getD said k nothing .key)) → WrittenOnce f list said

@@ -1,4 +1,6 @@
 pub mod Cases
+pub mod SetCases
+pub mod Spans
 pub mod SearchList
 pub mod PlaceText
 pub mod Demand3

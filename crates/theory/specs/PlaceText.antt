@@ -17,7 +17,7 @@ crossings keywords here next k =
     map (λ s. here .size - recordAt here k .prefix + s) (cellOf (keywordAt keywords k) (recordAt here k .prefix) (recordAt next k .suffix))
 
 pub record PlaceText (keywords : List (List ℕ)) (here next : ChunkRecords) (rest : List ChunkRecords) (k : ℕ) : Type 0 where
-  -- the chunk's own occurrences, then the cell's starts
+  -- the chunk's own occurrences, then the cell's starts; the next chunk has no set
   pub followed : listedOf keywords here (next ∷ rest) k ≡ recordAt here k .offsets ++ crossings keywords here next k
   -- the last chunk of a file: its own occurrences
   pub last : listedOf keywords here [] k ≡ recordAt here k .offsets

@@ -1,10 +1,12 @@
--- The published method's record of one chunk and one keyword (demand 2), said by parts of lists alone, without a test or a search.
+-- The published method's record of one chunk and one keyword (demand 2), with request #108's set where the form has sets, said by parts of lists
+-- alone, without a test or a search.
 use mathlib.Core.Path.{_≡_}
 use mathlib.Core.Bool.{true}
 use mathlib.Core.List.{List}
-use Prim.Native.Nat.{ℕ, _-_, _≤_, _<_}
+use Prim.Native.Nat.{ℕ, _+_, _-_, _≤_, _<_}
 use lib.ListN.{length, take, drop}
-use Rattle.spec.specs.Bytes.{member, rising}
+use Rattle.spec.specs.Bytes.{member, rising, inSet}
+use Rattle.spec.specs.Form.{Form}
 use Rattle.spec.specs.Records.{MatchRecord}
 
 module _ (keyword chunk : List ℕ) where
@@ -20,7 +22,13 @@ module _ (keyword chunk : List ℕ) where
   abbrev pub Occurs : ℕ → Type 0
   Occurs at = take (length keyword) (drop at chunk) ≡ keyword
 
-  pub record Published (r : MatchRecord) : Type 0 where
+  -- The chunk lies inside the keyword: it is the keyword's L bytes from p, with bytes of the keyword before and behind it.
+  pub record Inside (p : ℕ) : Type 0 where
+    pub before : 1 ≤ p
+    pub behind : p + length chunk < length keyword
+    pub same : take (length chunk) (drop p keyword) ≡ chunk
+
+  pub record Published (f : Form) (r : MatchRecord) : Type 0 where
     -- the longest beginning of the keyword, short of the whole, at the chunk's end
     pub prefixShort : r .prefix < length keyword
     pub prefixIn : r .prefix ≤ length chunk
@@ -35,3 +43,6 @@ module _ (keyword chunk : List ℕ) where
     pub offsetsRise : rising (r .offsets) ≡ true
     pub offsetsAll : (at : ℕ) → Occurs at → member at (r .offsets) ≡ true
     pub offsetsOnly : (at : ℕ) → member at (r .offsets) ≡ true → Occurs at
+    -- every start at which the chunk lies inside the keyword, in a form with sets; none in one without
+    pub innerAll : (p : ℕ) → f .sets ≡ true → Inside p → inSet (r .inner) p ≡ true
+    pub innerOnly : (p : ℕ) → inSet (r .inner) p ≡ true → (f .sets ≡ true) × Inside p

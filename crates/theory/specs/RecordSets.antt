@@ -34,7 +34,7 @@ pub record Fitting (f : Form) (list : List ℕ) (s : Said) : Type 0 where
   pub low : 1 ≤ s .chunk .size
   pub high : s .chunk .size ≤ f .longestChunk
   pub count : length (s .chunk .records) ≡ length (map length (keywordsOf list))
-  pub ranges : allInRange (s .chunk .size) (map length (keywordsOf list)) (s .chunk .records) ≡ true
+  pub ranges : allInRange f (s .chunk .size) (map length (keywordsOf list)) (s .chunk .records) ≡ true
 
 -- A set of records fits an index file: its chunks do, no fingerprint is twice, the count and the file's length have room.
 pub record AllFitting (f : Form) (list : List ℕ) (said : List Said) : Type 0 where
@@ -56,9 +56,9 @@ unfoldable pub saidIn : Form → List ℕ → List Said
 saidIn f index = each (λ k. (record { key = getD (indexKeys index) k []; chunk = indexRecords f index k }) ∷ []) 0 (chunkCount index)
 
 -- What a scan has to say: of every chunk of the store its fingerprint, its length and its records.
-unfoldable pub scannedRecords : List ℕ → List ℕ → List Said
-scannedRecords list store =
-    each (λ k. (record { key = getD (storeKeys store) k []; chunk = scanRecords list (chunkAt store k) }) ∷ []) 0 (chunkCount store)
+unfoldable pub scannedRecords : Form → List ℕ → List ℕ → List Said
+scannedRecords f list store =
+    each (λ k. (record { key = getD (storeKeys store) k []; chunk = scanRecords f list (chunkAt store k) }) ∷ []) 0 (chunkCount store)
 
 -- A form that the mark of some index names.
 pub record IndexForm (f : Form) : Type 0 where

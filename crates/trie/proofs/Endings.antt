@@ -10,6 +10,7 @@ use lib.ListN.{length, take, drop, length-drop, take-append-drop}
 use lib.Seq.{length-take-le, drop-append-le}
 use lib.Dec.{leb}
 use Rattle.spec.specs.Bytes.{same, begins, occursAt, largest}
+use Rattle.spec.specs.Form.{Form}
 use Rattle.spec.specs.Records.{reach, endsWith, prefixOf, recordOf}
 use Rattle.spec.proofs.Tests.{le-or-lt, leb-true, leb-false}
 use Rattle.spec.proofs.Same.{same-refl, same-not, same-lengths}
@@ -102,9 +103,9 @@ ends-with w c i h l =
     rw k (begins-same (take i w) (drop (length c - i) c) (omega (arith, length-drop (length c - i) c)))
 
 -- the record's prefix is the keyword's longest proper beginning that is an ending of the chunk
-pub prefix-ending : (keyword chunk : List ℕ) → recordOf keyword chunk .prefix ≡ prefixAt keyword chunk
+pub prefix-ending : (f : Form) (keyword chunk : List ℕ) → recordOf f keyword chunk .prefix ≡ prefixAt keyword chunk
 unfolding recordOf prefixOf prefixAt reach
-prefix-ending w c =
+prefix-ending f w c =
     largest-match (endsWith w c) (λ i. isEnding (take i w) c) (min (length w - 1) (length c)) (λ i l. ends-with w c i (omega arith) (omega arith))
     ∙ sym (largest-below (λ i. isEnding (take i w) c) (min (length w - 1) (length c)) (length w - 1) (omega arith)
     (λ i l h. ending-long (take i w) c (omega (arith, length-take-le i w (omega arith)))))

@@ -2,7 +2,7 @@
 -- are nodes, so they are endings of the node. The suffix is looked for by itself. Assumes nothing.
 use mathlib.Core.Path.{_≡_, sym, ap, _∙_}
 use mathlib.Core.Logic.{_⊎_, inl, inr}
-use mathlib.Core.Bool.{Bool, true}
+use mathlib.Core.Bool.{Bool, true, cond}
 use mathlib.Core.List.{List, [], _++_, map, append-nil}
 use Prim.Native.Nat.{ℕ, suc, _+_, _-_, _≤_, _<_}
 use native.Mathlib.Nat.{le-refl, zero-add}
@@ -11,7 +11,8 @@ use lib.ListN.{length, take, drop, length-drop}
 use lib.Seq.{take-all}
 use Rattle.spec.specs.Bytes.{contains, occursAt, each, keep}
 use Rattle.spec.specs.Keywords.{countOf, flagOf, folded, keywordsOf, foldedKeywords}
-use Rattle.spec.specs.Records.{recordOf, recordsOf, suffixOf, offsetsOf}
+use Rattle.spec.specs.Form.{Form}
+use Rattle.spec.specs.Records.{recordOf, recordsOf, suffixOf, offsetsOf, innerOf}
 use Rattle.spec.specs.Join.{keywordAt}
 use Rattle.spec.specs.Scan.{scanRecords}
 use Rattle.spec.proofs.Tests.{le-or-lt, leb-true, leb-false}
@@ -100,38 +101,43 @@ module _ (keywords : List (List ℕ)) (keyword : List ℕ) (known : contains key
   occurrence-at-node chunk p h = ends-ending keyword chunk p h ∙ ending-at-node keyword (take p chunk) keyword-is-node
 
   -- the record's prefix is the keyword's longest proper beginning that is an ending of the node after the whole chunk
-  pub prefix-at-node : (chunk : List ℕ) → recordOf keyword chunk .prefix ≡ prefixAt keyword (nodeAfter keywords chunk)
+  pub prefix-at-node : (f : Form) (chunk : List ℕ) → recordOf f keyword chunk .prefix ≡ prefixAt keyword (nodeAfter keywords chunk)
   unfolding prefixAt
-  prefix-at-node chunk =
-      prefix-ending keyword chunk
+  prefix-at-node f chunk =
+      prefix-ending f keyword chunk
       ∙ largest-match (λ i. isEnding (take i keyword) chunk) (λ i. isEnding (take i keyword) (nodeAfter keywords chunk)) (length keyword - 1)
       (λ i l. ending-at-node (take i keyword) chunk (beginning-is-node keywords keyword i known))
 
   -- the record's offsets: for each place, by rising place, where the keyword is an ending of the node, its length back from there
-  pub offsets-at-nodes : (chunk : List ℕ) → 1 ≤ length keyword
-      → recordOf keyword chunk .offsets
+  pub offsets-at-nodes : (f : Form) (chunk : List ℕ) → 1 ≤ length keyword
+      → recordOf f keyword chunk .offsets
       ≡ each (λ p. keep (isEnding keyword (nodeAfter keywords (take p chunk))) (p - length keyword)) 1 (length chunk)
   unfolding recordOf
-  offsets-at-nodes chunk h =
+  offsets-at-nodes f chunk h =
       offsets-by-end keyword chunk h
       ∙ each-match (λ p. keep (endsAt keyword chunk p) (p - length keyword)) _ 1 1 (length chunk)
       (λ i l. ap (λ (t : Bool). keep t (1 + i - length keyword)) (occurrence-at-node chunk (1 + i) (omega arith)))
 
   -- so the whole record is the same
-  pub walk-record : (chunk : List ℕ) → 1 ≤ length keyword → walkRecord keywords keyword chunk ≡ recordOf keyword chunk
+  pub walk-record : (f : Form) (chunk : List ℕ) → 1 ≤ length keyword → walkRecord f keywords keyword chunk ≡ recordOf f keyword chunk
   unfolding walkRecord recordOf
-  walk-record chunk h =
-      λ i. record { prefix = sym (prefix-at-node chunk) i; suffix = suffixOf keyword chunk; offsets = sym (offsets-at-nodes chunk h) i }
+  walk-record f chunk h =
+      λ i. record {
+        prefix = sym (prefix-at-node f chunk) i;
+        suffix = suffixOf keyword chunk;
+        offsets = sym (offsets-at-nodes f chunk h) i;
+        inner = cond (f .sets) (innerOf keyword chunk) 0;
+      }
 
 -- ---- all records of a chunk
 
 -- one walk tells the records of all keywords
-pub walk-records : (keywords : List (List ℕ)) (chunk : List ℕ) → ((k : ℕ) → k < length keywords → 1 ≤ length (keywordAt keywords k))
-    → map (λ keyword. walkRecord keywords keyword chunk) keywords ≡ recordsOf keywords chunk .records
+pub walk-records : (f : Form) (keywords : List (List ℕ)) (chunk : List ℕ) → ((k : ℕ) → k < length keywords → 1 ≤ length (keywordAt keywords k))
+    → map (λ keyword. walkRecord f keywords keyword chunk) keywords ≡ recordsOf f keywords chunk .records
 unfolding recordsOf
-walk-records keywords chunk nonempty =
-    map-match (λ keyword. walkRecord keywords keyword chunk) (λ keyword. recordOf keyword chunk) [] keywords
-    (λ k h. walk-record keywords (keywordAt keywords k) (keyword-contained keywords k h) chunk (nonempty k h))
+walk-records f keywords chunk nonempty =
+    map-match (λ keyword. walkRecord f keywords keyword chunk) (λ keyword. recordOf f keyword chunk) [] keywords
+    (λ k h. walk-record keywords (keywordAt keywords k) (keyword-contained keywords k h) f chunk (nonempty k h))
 
 accepted-some : (list : List ℕ) → Accepted list → (k : ℕ) → k < countOf list → 1 ≤ length (keywordAt (foldedKeywords list) k)
 accepted-some list good k h =
@@ -140,9 +146,9 @@ accepted-some list good k h =
     omega (arith, good .proper k h .0)
 
 -- so for an accepted keyword list the scan's records, and with them the bytes of the index, are those that the walk tells
-pub scan-walk-records : (list chunk : List ℕ) → Accepted list
-    → map (λ keyword. walkRecord (foldedKeywords list) keyword (folded (flagOf list) chunk)) (foldedKeywords list) ≡ scanRecords list chunk .records
+pub scan-walk-records : (f : Form) (list chunk : List ℕ) → Accepted list
+    → map (λ keyword. walkRecord f (foldedKeywords list) keyword (folded (flagOf list) chunk)) (foldedKeywords list) ≡ scanRecords f list chunk .records
 unfolding scanRecords
-scan-walk-records list chunk good =
-    walk-records (foldedKeywords list) (folded (flagOf list) chunk)
+scan-walk-records f list chunk good =
+    walk-records f (foldedKeywords list) (folded (flagOf list) chunk)
     (λ k h. accepted-some list good k (omega (arith, folded-count list, good .count)))

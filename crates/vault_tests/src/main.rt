@@ -9,10 +9,12 @@ use tests_outputs::printed;
 use tests_pairs::orders;
 use tests_report::report;
 use tests_report::tally;
+use tests_sets::cases as sets;
 
 fn main() {
     let mut counts = [0u64; tally::ALL];
     vaults::all_vaults(&mut counts);
+    sets::all_sets(&mut counts);
     orders::all_pairs(&mut counts);
     limits::longest(&mut counts);
     wide::all_wide(&mut counts);

@@ -3,7 +3,7 @@
 use mathlib.Core.Path.{_≡_, refl, sym, ap, ap₂, _∙_, subst}
 use mathlib.Core.Bool.{Bool, true, false}
 use mathlib.Core.List.{List, [], _∷_, _++_}
-use Prim.Native.Nat.{ℕ, zero, suc, _+_, _*_, _/_, _^_, _≤_, _<_}
+use Prim.Native.Nat.{ℕ, zero, suc, _+_, _-_, _*_, _/_, _%_, _^_, _≤_, _<_}
 use native.Mathlib.Nat.{add-zero, add-suc, suc-add, suc-mul, mul-one, zero-lt-suc, mul-le-mul-left}
 use native.Mathlib.Numerals.{add-one}
 use native.Mathlib.Omega.{arith}
@@ -18,11 +18,10 @@ use Rattle.spec.specs.Index.{listIn, indexCode}
 use Rattle.spec.specs.Join.{Occurrence, keywordAt, occurrencesAt, listed, joinFrom, listBytes}
 use Rattle.spec.proofs.Writing.{Going, going-start, going-room, going-on, going-end, going-place}
 use Rattle.spec.proofs.ListBytes.{length-list, list-nil, list-append}
-use Rattle.tables.specs.Tabled.{tablesOf}
 use Rattle.listing.specs.Streams.{unreadAt, occurrences, total, ReadableStreams}
 use Rattle.listing.proofs.Totals.{total-is}
-use Rattle.walk.specs.Walking.{noChunk, chunksIn, fileList, sizeOf, widthOf, Checked, File, LoadedAt, Crossed}
-use Rattle.walk.proofs.Entries.{chunks-length, chunk-at, proper, records-good, size-small, keywords-count, few}
+use Rattle.walk.specs.Walking.{noChunk, chunksIn, fileList, sizeOf, widthOf, Checked, File, LoadedPair, Crossed, crossings}
+use Rattle.walk.proofs.Entries.{chunks-length, chunk-at, proper, records-good, sets-good, size-small, keywords-count, few}
 use Rattle.walk.proofs.Places.{AllGood, place-ready, place-join}
 
 -- ---- what the check of the index says of a file's chunks
@@ -40,6 +39,11 @@ all-good index good file slots f =
       sizes = λ n h.
           let m : n < length file / 20 = rw (chunks-length index file) at h in
           subst (λ (c : ChunkRecords). c .size ≤ 1048576) (sym (chunk-at index file n m)) (size-small index good _ (f .found n m));
+      sets = λ n h k u.
+          let m : n < length file / 20 = rw (chunks-length index file) at h in
+          let w : ℕ = length (keywordAt (foldedKeywords (listIn index)) k) in
+          subst (λ (c : ChunkRecords). (recordAt c k .inner < 2 ^ (w - c .size)) × (recordAt c k .inner % 2 ≡ 0)) (sym (chunk-at index file n m))
+          (sets-good index good _ (f .found n m) k u);
     }
 
 -- ---- lengths
@@ -130,11 +134,10 @@ pub record ListingFile (index : List ℕ) (number : ℕ) (chunks : List ChunkRec
   pub small : base + sizeOf (drop n chunks) < 2 ^ 32
   pub going : Going out₀ out place p (listBytes (joinFrom number (wordsIn index) 0 chunks)) (listBytes (joinFrom number (wordsIn index) base (drop n chunks)))
 
-module _ (index : List ℕ) (opened : Opened) (tables : List (List (List ℕ))) (chunks : List ChunkRecords) (d : Checked index opened)
-    (tabled : tables ≡ tablesOf (foldedKeywords (listIn index))) (good : AllGood (foldedKeywords (listIn index)) chunks)
-    (n : ℕ) (rows rows′ : List (List ℕ)) (size size′ : ℕ) (h : n < length chunks)
-    (l : LoadedAt index opened chunks n rows size) (l′ : LoadedAt index opened chunks (n + 1) rows′ size′)
-    (streams : List (List ℕ)) (c : Crossed size (opened .keywords) tables rows rows′ streams) where
+module _ (index : List ℕ) (opened : Opened) (chunks : List ChunkRecords) (d : Checked index opened)
+    (good : AllGood (foldedKeywords (listIn index)) chunks) (n : ℕ) (rows rows′ : List (List ℕ)) (size size′ : ℕ)
+    (pair : LoadedPair index opened chunks n rows rows′ size size′)
+    (streams : List (List ℕ)) (c : Crossed size (opened .keywords) (crossings (foldedKeywords (listIn index)) rows (drop (n + 1) chunks)) rows streams) where
   abbrev count : ℕ
   count = opened .keywords
 
@@ -143,11 +146,11 @@ module _ (index : List ℕ) (opened : Opened) (tables : List (List (List ℕ))) 
   here file base = occurrences file count base size (unreadAt index (widthOf opened) streams)
 
   pub ready : ReadableStreams index (widthOf opened) size count streams
-  ready = place-ready index opened tables chunks d tabled good n rows rows′ size size′ h l l′ streams c
+  ready = place-ready index opened chunks d good n rows rows′ size size′ pair streams c
 
   next : (file base : ℕ)
       → joinFrom file (wordsIn index) base (drop n chunks) ≡ here file base ++ joinFrom file (wordsIn index) (base + size) (drop (n + 1) chunks)
-  next file base = place-join index opened tables chunks d tabled good n rows rows′ size size′ h l l′ streams c file base
+  next file base = place-join index opened chunks d good n rows rows′ size size′ pair streams c file base
 
   pub counting-on : (sum m : ℕ) → Counting index chunks n sum → m ≡ total streams count → Counting index chunks (n + 1) (sum + m)
   counting-on sum m at e =
@@ -161,7 +164,7 @@ module _ (index : List ℕ) (opened : Opened) (tables : List (List (List ℕ))) 
 
   module _ (number : ℕ) (out₀ out : List ℕ) (place p base : ℕ) (at : ListingFile index number chunks out₀ out place p n base) where
     sizes : sizeOf (drop n chunks) ≡ size + sizeOf (drop (n + 1) chunks)
-    sizes = rw (drop-cons chunks n noChunk h, add-one) (ap (λ (z : ℕ). z + sizeOf (drop (suc n) chunks)) (sym (l .sized h)))
+    sizes = rw (drop-cons chunks n noChunk (pair .inside), add-one) (ap (λ (z : ℕ). z + sizeOf (drop (suc n) chunks)) (sym (pair .first .sized (pair .inside))))
 
     pub listing-fits : base + size < 2 ^ 32
     listing-fits = omega (arith, at .small, sizes)

@@ -2,37 +2,37 @@
 -- the ranges. Assumes nothing.
 use mathlib.Core.Path.{_≡_, refl, sym, ap, ap₂, _∙_, subst}
 use mathlib.Core.Logic.{_⊎_, inl, inr}
-use mathlib.Core.Bool.{true, false≢true}
+use mathlib.Core.Bool.{true}
 use mathlib.Core.List.{List, [], _∷_, map}
-use Prim.Native.Nat.{ℕ, zero, suc, _+_, _-_, _*_, _/_, _≤_, _<_}
+use Prim.Native.Nat.{ℕ, zero, suc, _+_, _-_, _*_, _/_, _%_, _^_, _≤_, _<_}
 use native.Mathlib.Omega.{arith}
 use lib.ListN.{length, getD, drop, length-map, drop-of-length-le, replicate, length-replicate}
 use lib.Seq.{drop-cons}
 use Rattle.spec.specs.declared.Opened.{Opened}
 use Rattle.spec.specs.declared.Format.{Format}
 use Rattle.spec.specs.Bytes.{part, fieldAt, positionOf}
-use Rattle.spec.specs.Keywords.{listSize, foldedKeywords}
+use Rattle.spec.specs.Keywords.{listSize, flagOf, keywordsOf, foldedAll, foldedKeywords, longest}
 use Rattle.spec.specs.Directory.{directoryEnd, sizeAt, offsetAt, lengthAt}
 use Rattle.spec.specs.Store.{chunkCount}
 use Rattle.spec.specs.Form.{Form, formOf, formIn}
-use Rattle.spec.specs.Records.{MatchRecord, ChunkRecords, emptyRecord, recordAt, inRange, allInRange, readBody}
+use Rattle.spec.specs.Records.{MatchRecord, ChunkRecords, emptyRecord, recordAt, inRange, setInRange, allInRange, readBody}
 use Rattle.spec.specs.Index.{listIn, indexLayout, indexKeys, bodyAt, lengthsIn, indexRecords, indexCode, goodAt}
 use Rattle.spec.specs.Opened.{openedOf}
 use Rattle.spec.specs.Join.{keywordAt, fileRecords}
-use Rattle.spec.proofs.Tests.{le-or-lt, and-left, and-right}
+use Rattle.spec.proofs.Tests.{le-or-lt}
 use Rattle.spec.proofs.KeywordLaws.{Accepted, accepted, folded-count, folded-proper, folded-lengths}
-use Rattle.spec.proofs.JoinIsSearch.{getD-map}
+use Rattle.spec.proofs.JoinIsSearch.{getD-map, longest-at, longest-folded}
 use Rattle.spec.proofs.EntryLaws.{length-keys, key-at}
 use Rattle.spec.proofs.IndexChecks.{IndexGood, index-good}
 use Rattle.spec.proofs.Forms.{FormRead, form-read}
-use Rattle.spec.proofs.RecordLaws.{allPositive, good-is-written}
+use Rattle.spec.proofs.RecordLaws.{allProper, good-is-written, range-none, range-first, set-first, range-rest, set-below, set-even}
 use Rattle.spec.proofs.ScanLaws.{positive-lengths}
 use Rattle.directory.specs.Chains.{keysFrom, Lies}
-use Rattle.loader.specs.Loaded.{fitsFrom, Row, rowOf, Loadable}
+use Rattle.loader.specs.Loaded.{fitsFrom, Row, rowOf, rowEnd, setAt, Loadable}
 use Rattle.loader.proofs.Loading.{Loaded}
 use Rattle.loader.proofs.Fitting.{good-body-fits}
 use Rattle.spec.specs.Recipes.{named}
-use Rattle.walk.specs.Walking.{noChunk, chunksIn, chunkIn, firstSuffix, widthOf, Checked, File, EntryAt, LoadedEntry, LoadedAt}
+use Rattle.walk.specs.Walking.{noChunk, chunksIn, chunkIn, firstSuffix, widthOf, Checked, File, EntryAt, bodyEnd, SetsBehind, LoadedEntry, LoadedAt}
 
 -- ---- a file's chunks
 
@@ -57,16 +57,16 @@ module _ (index file : List ℕ) where
 
 -- ---- an entry of a checked index
 
--- a record in range for each keyword
-range-at : (size : ℕ) (keywords : List (List ℕ)) (records : List MatchRecord) (k : ℕ) → allInRange size (map length keywords) records ≡ true
+-- a record and a set in range for each keyword
+range-at : (f : Form) (size : ℕ) (keywords : List (List ℕ)) (records : List MatchRecord) (k : ℕ) → allInRange f size (map length keywords) records ≡ true
     → k < length keywords
-    → inRange (length (keywordAt keywords k)) size (getD records k emptyRecord) ≡ true
-unfolding allInRange
-range-at size [] records k e h = let z : ⊥ = omega arith in absurd z
-range-at size (w ∷ keywords) [] k e h = absurd (false≢true e)
-range-at size (w ∷ keywords) (r ∷ records) zero e h = and-left (inRange (length w) size r) (allInRange size (map length keywords) records) e
-range-at size (w ∷ keywords) (r ∷ records) (suc k) e h =
-    range-at size keywords records k (and-right (inRange (length w) size r) (allInRange size (map length keywords) records) e) (omega arith)
+    → (inRange (length (keywordAt keywords k)) size (getD records k emptyRecord) ≡ true)
+    × (setInRange f (length (keywordAt keywords k)) size (getD records k emptyRecord .inner) ≡ true)
+range-at f size [] records k e h = let z : ⊥ = omega arith in absurd z
+range-at f size (w ∷ keywords) [] k e h = absurd (range-none f size (length w) (map length keywords) e)
+range-at f size (w ∷ keywords) (r ∷ records) zero e h =
+    (range-first f size (length w) (map length keywords) r records e, set-first f size (length w) (map length keywords) r records e)
+range-at f size (w ∷ keywords) (r ∷ records) (suc k) e h = range-at f size keywords records k (range-rest f size (length w) (map length keywords) r records e) (omega arith)
 
 module _ (index : List ℕ) (good : indexCode (formOf index) index ≡ 0) where
   passed : IndexGood (formOf index) index
@@ -80,8 +80,8 @@ module _ (index : List ℕ) (good : indexCode (formOf index) index ≡ 0) where
       → (1 ≤ length (keywordAt (foldedKeywords (listIn index)) k)) × (length (keywordAt (foldedKeywords (listIn index)) k) ≤ 32)
   proper k h = folded-proper (listIn index) (passed .list) k (omega (arith, folded-count (listIn index), accepted (listIn index) (passed .list) .count))
 
-  positive : allPositive (lengthsIn index) ≡ true
-  positive = ap allPositive lengths-are ∙ positive-lengths (foldedKeywords (listIn index)) proper
+  positive : allProper (lengthsIn index) ≡ true
+  positive = ap allProper lengths-are ∙ positive-lengths (foldedKeywords (listIn index)) proper
 
   pub count-is : length (lengthsIn index) ≡ length (foldedKeywords (listIn index))
   count-is = ap length lengths-are ∙ length-map (foldedKeywords (listIn index)) length
@@ -100,16 +100,34 @@ module _ (index : List ℕ) (good : indexCode (formOf index) index ≡ 0) where
     pub body-inside : offsetAt (indexLayout index) index e + lengthAt (indexLayout index) index e ≤ length index
     body-inside = passed .entries .within e (omega arith) (omega arith) .1
 
+    ranges : (k : ℕ) → k < length (foldedKeywords (listIn index))
+        → (inRange (length (keywordAt (foldedKeywords (listIn index)) k)) (indexRecords (formOf index) index e .size)
+        (recordAt (indexRecords (formOf index) index e) k) ≡ true)
+        × (setInRange (formOf index) (length (keywordAt (foldedKeywords (listIn index)) k)) (indexRecords (formOf index) index e .size)
+        (recordAt (indexRecords (formOf index) index e) k .inner) ≡ true)
+    unfolding indexRecords
+    ranges k h =
+        let size : ℕ = sizeAt (indexLayout index) index e in
+        let records : List MatchRecord = readBody (formOf index) (length (lengthsIn index)) (bodyAt index e) in
+        range-at (formOf index) size (foldedKeywords (listIn index)) records k
+        (ap (λ (l : List ℕ). allInRange (formOf index) size l records) (sym lengths-are)
+        ∙ good-is-written (formOf index) (lengthsIn index) size (bodyAt index e) body-good .1)
+        h
+
     pub records-good : (k : ℕ) → k < length (foldedKeywords (listIn index))
         → inRange (length (keywordAt (foldedKeywords (listIn index)) k)) (indexRecords (formOf index) index e .size)
         (recordAt (indexRecords (formOf index) index e) k) ≡ true
-    unfolding indexRecords
-    records-good k h =
-        range-at (sizeAt (indexLayout index) index e) (foldedKeywords (listIn index)) (readBody (formOf index) (length (lengthsIn index)) (bodyAt index e)) k
-        (ap (λ (l : List ℕ). allInRange (sizeAt (indexLayout index) index e) l (readBody (formOf index) (length (lengthsIn index)) (bodyAt index e)))
-        (sym lengths-are)
-        ∙ good-is-written (formOf index) (lengthsIn index) (sizeAt (indexLayout index) index e) (bodyAt index e) body-good .1)
-        h
+    records-good k h = ranges k h .0
+
+    pub sets-good : (k : ℕ) → k < length (foldedKeywords (listIn index))
+        → (recordAt (indexRecords (formOf index) index e) k .inner
+        < 2 ^ (length (keywordAt (foldedKeywords (listIn index)) k) - indexRecords (formOf index) index e .size))
+        × (recordAt (indexRecords (formOf index) index e) k .inner % 2 ≡ 0)
+    sets-good k h =
+        let n : ℕ = length (keywordAt (foldedKeywords (listIn index)) k) in
+        let size : ℕ = indexRecords (formOf index) index e .size in
+        let set : ℕ = recordAt (indexRecords (formOf index) index e) k .inner in
+        (set-below (formOf index) n size set (ranges k h .1), set-even (formOf index) n size set (ranges k h .1))
 
     module _ (format : Format) (is : formIn format ≡ formOf index) (at len count : ℕ) (a : at ≡ offsetAt (indexLayout index) index e)
         (l : len ≡ lengthAt (indexLayout index) index e) (c : count ≡ length (foldedKeywords (listIn index))) where
@@ -129,14 +147,26 @@ module _ (index : List ℕ) (good : indexCode (formOf index) index ≡ 0) where
             whole = subst (λ (f : Form). fitsFrom f 0 count (part index at len) ≡ true) (sym is) body-fits;
           }
 
+      record-is : (k : ℕ) → getD (readBody (formIn format) count (part index at len)) k emptyRecord ≡ recordAt (indexRecords (formOf index) index e) k
+      unfolding bodyAt indexRecords
+      record-is k =
+          ap (λ (f : Form). getD (readBody f count (part index at len)) k emptyRecord) is
+          ∙ ap₂ (λ (n : ℕ) (body : List ℕ). getD (readBody (formOf index) n body) k emptyRecord) (c ∙ sym count-is) (ap₂ (part index) a l)
+
       pub row-is : (rows : List (List ℕ)) → Loaded (formIn format) index at len count rows → (k : ℕ) → k < count
           → Row index (format .width) (rowOf rows k) (recordAt (indexRecords (formOf index) index e) k)
-      unfolding bodyAt indexRecords
-      row-is rows r k h =
-          subst (Row index (format .width) (rowOf rows k))
-          (ap (λ (f : Form). getD (readBody f count (part index at len)) k emptyRecord) is
-          ∙ ap₂ (λ (n : ℕ) (body : List ℕ). getD (readBody (formOf index) n body) k emptyRecord) (c ∙ sym count-is) (ap₂ (part index) a l))
-          (r .each k h)
+      row-is rows r k h = subst (Row index (format .width) (rowOf rows k)) (record-is k) (r .each k h)
+
+      pub row-ends : (rows : List (List ℕ)) → Loaded (formIn format) index at len count rows → (k : ℕ) → k < count
+          → rowEnd (format .width) (rowOf rows k) ≤ bodyEnd index e
+      row-ends rows r k h = omega (arith, r .ends k h, a, l)
+
+      pub set-is : (rows : List (List ℕ)) → Loaded (formIn format) index at len count rows → (k : ℕ) → k < count
+          → setAt (formOf index) index (bodyEnd index e) (rowOf rows k) k ≡ recordAt (indexRecords (formOf index) index e) k .inner
+      set-is rows r k h =
+          ap₂ (λ (f : Form) (end : ℕ). setAt f index end (rowOf rows k) k) (sym is) (ap₂ (λ (x y : ℕ). x + y) (sym a) (sym l))
+          ∙ r .sets k h
+          ∙ ap (λ (m : MatchRecord). m .inner) (record-is k)
 
 -- ---- an opened index
 
@@ -152,6 +182,13 @@ module _ (index : List ℕ) (opened : Opened) (d : Checked index opened) where
   pub keywords-count : opened .keywords ≡ length (foldedKeywords (listIn index))
   unfolding openedOf
   keywords-count = ap (λ (o : Opened). o .keywords) (d .read) ∙ sym (folded-count (listIn index))
+
+  pub longest-keyword : (k : ℕ) → k < length (foldedKeywords (listIn index)) → length (keywordAt (foldedKeywords (listIn index)) k) ≤ opened .longest
+  unfolding openedOf foldedKeywords
+  longest-keyword k u =
+      let words : List (List ℕ) = foldedAll (flagOf (listIn index)) (keywordsOf (listIn index)) in
+      let most : length (keywordAt words k) ≤ longest words = longest-at words k u in
+      omega (arith, most, longest-folded (flagOf (listIn index)) (keywordsOf (listIn index)), ap (λ (o : Opened). o .longest) (d .read))
 
   list-accepted : Accepted (listIn index)
   list-accepted = accepted (listIn index) (passed index (d .good) .list)
@@ -199,7 +236,7 @@ module _ (index : List ℕ) (opened : Opened) (d : Checked index opened) (e : �
   entry = opened .directory + 32 * e
 
   module _ (h : e < opened .entries) where
-    in-directory : e < chunkCount index
+    pub in-directory : e < chunkCount index
     in-directory = omega (arith, counts index opened d)
 
     pub entry-room : entry + 32 ≤ length index
@@ -214,11 +251,11 @@ module _ (index : List ℕ) (opened : Opened) (d : Checked index opened) (e : �
     unfolding indexLayout indexRecords
     size-is = field-is 20
 
-    offset-is : fieldAt index (entry + 24) 4 ≡ offsetAt (indexLayout index) index e
+    pub offset-is : fieldAt index (entry + 24) 4 ≡ offsetAt (indexLayout index) index e
     unfolding indexLayout
     offset-is = field-is 24
 
-    length-is : fieldAt index (entry + 28) 4 ≡ lengthAt (indexLayout index) index e
+    pub length-is : fieldAt index (entry + 28) 4 ≡ lengthAt (indexLayout index) index e
     unfolding indexLayout
     length-is = field-is 28
 
@@ -235,8 +272,15 @@ module _ (index : List ℕ) (opened : Opened) (d : Checked index opened) (e : �
           record {
             long = r .long;
             sized = λ _. s ∙ size-is;
+            small = omega (arith, s, size-is, size-small index (d .good) e in-directory);
             each = λ k u _. row-is index (d .good) e in-directory (opened .format) (said index opened d) at len (opened .keywords)
                 (a ∙ offset-is) (l ∙ length-is) (keywords-count index opened d) rows r k u;
+            sets = λ _. record {
+              ended = row-ends index (d .good) e in-directory (opened .format) (said index opened d) at len (opened .keywords)
+                  (a ∙ offset-is) (l ∙ length-is) (keywords-count index opened d) rows r;
+              inner = set-is index (d .good) e in-directory (opened .format) (said index opened d) at len (opened .keywords)
+                  (a ∙ offset-is) (l ∙ length-is) (keywords-count index opened d) rows r;
+            };
             none = λ k u. let z : ⊥ = omega (arith, in-directory) in absurd z;
           }
 
@@ -246,7 +290,9 @@ module _ (index : List ℕ) (opened : Opened) (d : Checked index opened) (e : �
       record {
         long = omega (arith, few index opened d, length-replicate {A = List ℕ} 16 (replicate {A = ℕ} 4 0));
         sized = λ u. let z : ⊥ = omega (arith, counts index opened d) in absurd z;
+        small = omega arith;
         each = λ k u v. let z : ⊥ = omega (arith, counts index opened d) in absurd z;
+        sets = λ u. let z : ⊥ = omega (arith, counts index opened d) in absurd z;
         none = λ k u. zeros 16 k;
       }
 
@@ -279,6 +325,7 @@ module _ (index file slots : List ℕ) (f : File index file slots) (n : ℕ) whe
         record {
           long = l .long;
           sized = λ m. l .sized (found m) ∙ ap (λ (x : ChunkRecords). x .size) (sym (same m));
+          small = l .small;
           each = row;
           suffix = λ k u. go k u (le-or-lt (length chunks) n);
         }

@@ -2,3 +2,4 @@ pub mod Entries
 pub mod Places
 pub mod Counts
 pub mod CellText
+pub mod Crossings

@@ -3,13 +3,17 @@
 ghost use mathlib.Core.Path.{_≡_};
 ghost use mathlib.Core.List.{[]};
 ghost use Prim.Native.Nat.{_+_, _*_, _^_, _≤_, _<_};
-ghost use lib.ListN.{length};
+ghost use lib.ListN.{length, drop};
 ghost use Rattle.spec.specs.Bytes.{splice};
 ghost use Rattle.spec.specs.Keywords.{foldedKeywords};
-ghost use Rattle.spec.specs.Index.{listIn};
-ghost use Rattle.spec.specs.Join.{listBytes};
+ghost use Rattle.spec.specs.Form.{formOf};
+ghost use Rattle.spec.specs.Records.{recordAt};
+ghost use Rattle.spec.specs.Index.{listIn, indexRecords};
+ghost use Rattle.spec.specs.Join.{keywordAt, listBytes};
 ghost use Rattle.tables.specs.Tabled.{tablesOf};
-ghost use Rattle.walk.specs.Walking.{fileList, Checked, Directory, File, EntryAt, LoadedEntry, Crossable, Filled};
+ghost use Rattle.spans.specs.Spans.{crossingSet};
+ghost use Rattle.walk.specs.Walking.{chunksIn, fileList, Checked, Directory, File, EntryAt, SetsBehind, LoadedEntry, Crossable, Filled, cells};
+ghost use Rattle.walk.specs.Walking.{crossings, Startable, Prefixed, LoadedPair};
 
 // A row is prefix, suffix, the place of the list of offsets, and how many there are.
 const PREFIX: usize = 0;
@@ -66,7 +70,70 @@ fn wide(set: u32) -> usize
     set as usize
 }
 
-// Fills the streams of a place, before they are opened: its own offsets, and its starts that cross into the next place. It returns how many
+// The set of keyword k in entry e, which lies behind its row's record.
+fn inner_at(index: &[u8], opened: spec::Opened, e: usize, rows: &[[usize; 4]; 16], k: usize) -> u32
+    requires { ⌜ Checked (now index) opened × (e < opened .entries) × (k < opened .keywords) ⌝ }
+    requires { ⌜ SetsBehind (now index) opened e (now rows) ⌝ }
+    ensures { λ r. ⌜ r ≡ recordAt (indexRecords (formOf (now (index .entry))) (now (index .entry)) e) k .inner ⌝ }
+{
+    let entry = opened.directory + 32 * e;
+    let from = field::read(index, entry + 24, 4) as usize;
+    let long = field::read(index, entry + 28, 4) as usize;
+    loader::set_at(index, opened.format, rows[k], from + long, k)
+}
+
+// A keyword's starts that cross the end of a place where it has this prefix; `place` is the number of the place behind.
+struct Start {
+    opened: spec::Opened,
+    keyword: usize,
+    prefix: usize,
+    place: usize,
+}
+
+// The starts of a keyword that cross the end of a place, over as many places as it takes: each start is carried on until it ends, or no longer can.
+fn crossing(
+    index: &[u8],
+    start: Start,
+    chains: &[u32],
+    tables: &[[[u32; 32]; 32]; 16],
+    file: &[u8],
+    slots: &[u32],
+) -> u32
+    requires { ⌜ Directory (now index) (start .opened) (now chains) ⌝ }
+    requires { ⌜ now tables ≡ tablesOf (foldedKeywords (listIn (now index))) ⌝ }
+    requires { ⌜ File (now index) (now file) (now slots) × Startable (now index) (start .keyword) (start .prefix) ⌝ }
+    ensures { λ r. ⌜ r ≡ crossingSet (keywordAt (foldedKeywords (listIn (now (index .entry)))) (start .keyword)) (start .keyword) (start .prefix)
+        (drop (start .place) (chunksIn (now (index .entry)) (now (file .entry)))) ⌝ }
+{
+    let opened = start.opened;
+    let k = start.keyword;
+    let i = start.prefix;
+    if i == 0 {
+        return 0;
+    }
+    let mut rows = [[0usize; 4]; 16];
+    let mut live = spans::starts_of(tables, k, i);
+    let mut found: u32 = 0;
+    let mut gone: usize = 0;
+    let mut n = start.place;
+    while n < file.len() / 20 {
+        if live == 0 {
+            return found;
+        }
+        let e = entry_at(index, opened, chains, file, slots, n);
+        let size = load(index, opened, e, &mut rows);
+        let ends = spans::ends_of(tables, k, rows[k][SUFFIX]);
+        let inner = inner_at(index, opened, e, &rows, k);
+        let ended = spans::going(ends, live, i, gone);
+        found = spans::either(found, ended);
+        live = spans::going(inner, live, i, gone);
+        gone += size;
+        n += 1;
+    }
+    found
+}
+
+// Fills the streams of a place, before they are opened: its own offsets, and its starts that end in the next place. It returns how many
 // occurrences that is.
 fn cross(
     size: usize,
@@ -77,7 +144,7 @@ fn cross(
     streams: &mut [[usize; 5]; 16],
 ) -> usize
     requires { ⌜ (count ≤ 16) × (count ≤ length (now streams)) × Crossable size count (now here) (now next) ⌝ }
-    ensures { λ r. ⌜ Filled size count (now (tables .entry)) (now (here .entry)) (now (next .entry)) (now (streams .exit)) r ⌝ }
+    ensures { λ r. ⌜ Filled size count (cells (now (tables .entry)) (now (here .entry)) (now (next .entry))) (now (here .entry)) (now (streams .exit)) r ⌝ }
 {
     let mut many: usize = 0;
     let mut k: usize = 0;
@@ -90,6 +157,54 @@ fn cross(
         let s = [size, at, left, size - i, set];
         streams[k] = s;
         many += listing::offsets_in(s);
+        k += 1;
+    }
+    many
+}
+
+// A place of a file: the opened index, the place's number, and its chunk's size.
+struct Here {
+    opened: spec::Opened,
+    place: usize,
+    size: usize,
+}
+
+// The same where a keyword may go on over the next place.
+fn cross_over(
+    index: &[u8],
+    spot: Here,
+    chains: &[u32],
+    tables: &[[[u32; 32]; 32]; 16],
+    file: &[u8],
+    slots: &[u32],
+    here: &[[usize; 4]; 16],
+    streams: &mut [[usize; 5]; 16],
+) -> usize
+    requires { ⌜ Directory (now index) (spot .opened) (now chains) × (now tables ≡ tablesOf (foldedKeywords (listIn (now index)))) ⌝ }
+    requires { ⌜ File (now index) (now file) (now slots) × (spot .opened .keywords ≤ length (now streams)) ⌝ }
+    requires { ⌜ Prefixed (now index) (spot .size) (spot .opened .keywords) (now here) × (spot .place < 2 ^ 63) ⌝ }
+    ensures { λ r. ⌜ Filled (spot .size) (spot .opened .keywords) (crossings (foldedKeywords (listIn (now (index .entry)))) (now (here .entry))
+        (drop (spot .place + 1) (chunksIn (now (index .entry)) (now (file .entry))))) (now (here .entry)) (now (streams .exit)) r ⌝ }
+{
+    let opened = spot.opened;
+    let size = spot.size;
+    let place = spot.place + 1;
+    let mut many: usize = 0;
+    let mut k: usize = 0;
+    while k < opened.keywords {
+        let i = here[k][PREFIX];
+        let start = Start {
+            opened: opened,
+            keyword: k,
+            prefix: i,
+            place: place,
+        };
+        let set = wide(crossing(index, start, chains, tables, file, slots));
+        let at = here[k][PLACE];
+        let left = here[k][LEFT];
+        let stream = [size, at, left, size - i, set];
+        streams[k] = stream;
+        many += listing::offsets_in(stream);
         k += 1;
     }
     many
@@ -119,7 +234,25 @@ pub fn count_file(
         let first = rows;
         let e = entry_at(index, opened, chains, file, slots, n + 1);
         let after = load(index, opened, e, &mut rows);
-        sum += cross(size, opened.keywords, tables, &first, &rows, &mut streams);
+        if opened.longest <= after + 1 {
+            sum += cross(size, opened.keywords, tables, &first, &rows, &mut streams);
+        } else {
+            let spot = Here {
+                opened: opened,
+                place: n,
+                size: size,
+            };
+            sum += cross_over(
+                index,
+                spot,
+                chains,
+                tables,
+                file,
+                slots,
+                &first,
+                &mut streams,
+            );
+        }
         size = after;
         n += 1;
     }
@@ -168,8 +301,27 @@ pub fn list_file(
     while n < file.len() / 20 {
         let first = rows;
         let e = entry_at(index, opened, chains, file, &slots, n + 1);
-        let after = load(index, opened, e, &mut rows);
-        let many = cross(size, opened.keywords, tables, &first, &rows, &mut streams);
+        let behind = load(index, opened, e, &mut rows);
+        let mut many: usize = 0;
+        if opened.longest <= behind + 1 {
+            many = cross(size, opened.keywords, tables, &first, &rows, &mut streams);
+        } else {
+            let spot = Here {
+                opened: opened,
+                place: n,
+                size: size,
+            };
+            many = cross_over(
+                index,
+                spot,
+                chains,
+                tables,
+                file,
+                &slots,
+                &first,
+                &mut streams,
+            );
+        }
         let place = listing::Place {
             file: listing.number,
             base: base,
@@ -181,7 +333,7 @@ pub fn list_file(
         };
         p = listing::list_place(index, place, &streams, out);
         base += size;
-        size = after;
+        size = behind;
         n += 1;
     }
     p

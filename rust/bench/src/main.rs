@@ -3,6 +3,7 @@
 //!     bench [MEGABYTES] [ROUNDS] [--fresh] [--no-plain] [--directories]
 //!     bench --scan [MEGABYTES] [ROUNDS] [FOLDER..]
 //!     bench --compact [ROUNDS]
+//!     bench --places [ROUNDS] [--few]
 //!
 //! Every row's methods run one after the other in each round, so that a row's ratios are of one run; times are medians of
 //! the rounds, in processor time of the thread. With each row stands the time of a fixed loop: rows whose loop took longer
@@ -11,7 +12,7 @@
 use bench::clock::{self, calibration, median, timed};
 use bench::generate::{self, index_of, key, recipes, recipes_of, store_of, vault, Vault};
 use bench::peers::{plain, restore_each, Automaton, Chunks};
-use bench::{compaction, scan};
+use bench::{compaction, places, scan};
 use std::hint::black_box;
 
 struct Options {
@@ -45,13 +46,16 @@ fn main() {
     match words.next().as_deref() {
         Some("--scan") => return scan::main(words.collect(), &[scan::OWN]),
         Some("--compact") => return compaction::main(words.collect()),
+        Some("--places") => return places::main(words.collect()),
         _ => (),
     }
     let Some(options) = options() else {
         eprintln!(
-            "usage: bench [MEGABYTES] [ROUNDS] [--fresh] [--no-plain] [--directories]\n       bench --scan {}\n       bench --compact {}",
+            "usage: bench [MEGABYTES] [ROUNDS] [--fresh] [--no-plain] [--directories]\n       bench --scan {}\n       bench --compact {}\n       \
+             bench --places {}",
             scan::USAGE,
-            compaction::USAGE
+            compaction::USAGE,
+            places::USAGE
         );
         std::process::exit(64);
     };

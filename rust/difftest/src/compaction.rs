@@ -4,10 +4,11 @@ use crate::compare::{fits, pattern, Comparison, Number, Verdict};
 use crate::fixed::{case, key, small_chunks, Chunks};
 use crate::inputs::{list, Case};
 use crate::pairs::{Change, Pair};
+use crate::reached::Reached;
 use crate::rng::Rng;
 use oracle::store::{self, Chunk};
 use oracle::{compact, recipes, Fingerprint};
-use std::collections::{BTreeMap, HashSet};
+use std::collections::{HashMap, HashSet};
 use vault::raw;
 
 const UNNAMED: &str = "chunks that no recipe names";
@@ -18,23 +19,12 @@ const NOTHING: &str = "chunks of which none is named";
 const ITSELF: &str = "a store that stays as it is";
 const BOTH: &str = "a refused store beside refused recipes";
 const TOO_LONG: &str = "a file that a join refuses with 16";
-const TOO_SHORT: &str = "a chunk for which a join refuses with 17";
+const SHORT: &str = "a chunk of one byte inside a file";
 
-/// How often compactions came upon what a wrong one would slip on.
-pub struct Reached(BTreeMap<&'static str, u64>);
-
-impl Default for Reached {
-    fn default() -> Reached {
-        let all = [UNNAMED, HOLES, TWICE, ORDER, NOTHING, ITSELF, BOTH, TOO_LONG, TOO_SHORT];
-        Reached(all.map(|what| (what, 0)).into())
-    }
-}
+/// What compactions have to come upon.
+pub const ALL: [&str; 9] = [BOTH, NOTHING, SHORT, TWICE, UNNAMED, TOO_LONG, ITSELF, HOLES, ORDER];
 
 impl Reached {
-    fn count(&mut self, what: &'static str, met: bool) {
-        *self.0.entry(what).or_default() += u64::from(met);
-    }
-
     /// A compaction that was done: a good store, the files of good recipes, and the new store.
     fn done(&mut self, old: &[u8], chunks: &[Chunk], files: &[Vec<Fingerprint>], new: &[u8]) {
         let mut seen = HashSet::new();
@@ -47,14 +37,8 @@ impl Reached {
         self.count(ORDER, first != kept);
         self.count(NOTHING, kept.is_empty() && !chunks.is_empty());
         self.count(ITSELF, new == old && !kept.is_empty());
-    }
-
-    pub fn missing(&self) -> Vec<String> {
-        self.0.iter().filter(|(_, count)| **count == 0).map(|(what, _)| what.to_string()).collect()
-    }
-
-    pub fn report(&self) -> String {
-        self.0.iter().map(|(what, count)| format!("{what} {count}")).collect::<Vec<_>>().join(", ")
+        let length_of: HashMap<Fingerprint, usize> = chunks.iter().map(|c| (c.key, c.place.len())).collect();
+        self.count(SHORT, files.iter().any(|file| file.windows(3).any(|three| length_of[&three[1]] == 1)));
     }
 }
 
@@ -131,7 +115,6 @@ impl Comparison<'_> {
         let indexes = [&scans[0].2[..], &scans[1].2[..shorter]];
         let (code, count) = self.pair_counts(pair, indexes)?;
         self.tally.compactions.count(TOO_LONG, code == 16);
-        self.tally.compactions.count(TOO_SHORT, code == 17);
         let rooms = match code {
             0 if 9 * count <= self.limits.large => vec![9 * count as usize, (9 * count as usize).saturating_sub(1)],
             _ => vec![50],
@@ -169,8 +152,8 @@ fn every_naming() -> Vec<Case> {
     cases
 }
 
-/// A fingerprint that isn't there, unlike one that is in a single byte: first, last, in the last file, and behind a chunk for which a join
-/// refuses with 17.
+/// A fingerprint that isn't there, unlike one that is in a single byte: first, last, in the last file, and behind a file for which 17 stood
+/// before request 108.
 fn absent() -> Vec<Case> {
     let (a, b, c) = ([1; 20], [2; 20], [3; 20]);
     let mut cases = Vec::new();
@@ -267,18 +250,19 @@ mod tests {
         let mut reached = Reached::default();
         let new = compact::of(store, &recipes::encode(&files)).unwrap();
         reached.done(store, &store::read(store).unwrap(), &files, &new);
-        reached.missing()
+        reached.missing(&ALL)
     }
 
     #[test]
     fn what_a_compaction_comes_upon() {
-        let all = Reached::default().missing();
+        let all = Reached::default().missing(&ALL);
         let but = |met: &[&str]| all.iter().filter(|what| !met.contains(&what.as_str())).cloned().collect::<Vec<_>>();
         let plain = store::encode(&small_chunks());
         assert_eq!(all.len(), 9);
         assert_eq!(missing_after(&plain, &[&[1, 2], &[3]]), but(&[ITSELF]));
         assert_eq!(missing_after(&plain, &[&[1, 2, 1], &[3]]), but(&[ITSELF, TWICE]));
         assert_eq!(missing_after(&plain, &[&[2, 1, 3]]), but(&[ITSELF, ORDER]));
+        assert_eq!(missing_after(&plain, &[&[1, 3, 2], &[3, 3]]), but(&[ITSELF, ORDER, TWICE, SHORT]));
         assert_eq!(missing_after(&holed(), &[&[1], &[2, 3]]), but(&[HOLES]));
         assert_eq!(missing_after(&holed(), &[&[3, 1]]), but(&[HOLES, ORDER, UNNAMED]));
         assert_eq!(missing_after(&plain, &[&[], &[]]), but(&[NOTHING, UNNAMED]));

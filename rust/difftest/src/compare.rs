@@ -1,10 +1,11 @@
 //! One case: every call of the library beside the oracle, with every byte of every buffer.
 
-use crate::compaction::Reached;
+use crate::across;
 use crate::folds::Meetings;
 use crate::holes;
 use crate::inputs::Case;
 use crate::pairs::Change;
+use crate::reached::Reached;
 use crate::rng::Rng;
 use oracle::join::{self, Joined};
 use oracle::store::Chunk;
@@ -32,8 +33,9 @@ pub struct Tally {
     pub pairs: BTreeMap<Change, u64>,
     /// Stores that are good, with a hole before the first chunk, between two, and behind the last.
     pub holes: [u64; 3],
-    /// What compactions came upon.
+    /// What compactions came upon, and joins of chunks that keywords cross.
     pub compactions: Reached,
+    pub crossings: Reached,
     /// Bytes at the fold's borders.
     pub meetings: Meetings,
     /// Indexes that are good, by mark; stores that are good with a chunk longer than 65,535 bytes.
@@ -244,6 +246,7 @@ impl Comparison<'_> {
             *self.tally.marks.entry([bytes[0], bytes[1], bytes[2], bytes[3]]).or_default() += 1;
         }
         let joined = index.as_ref().map_err(|code| *code).and_then(|index| Joined::new(index, recipes));
+        across::count(&mut self.tally.crossings, bytes, &joined);
         let count = joined.as_ref().map(Joined::count).map_err(|code| *code);
         let mut counted = Number::new(self.rng);
         let code = raw::count(bytes, recipes, &mut counted.now);

@@ -2,7 +2,7 @@
 
 use crate::inputs::{list, Case};
 use crate::rng::Rng;
-use crate::{beyond, compaction, folds, holes, lanes, windows};
+use crate::{across, beyond, compaction, folds, holes, lanes, windows};
 use oracle::form::{Form, KNOWN, NEWEST};
 use oracle::records::Record;
 use oracle::{index, recipes, store, Fingerprint};
@@ -98,6 +98,7 @@ pub fn small() -> Vec<Case> {
     cases.extend(holes::by_hand());
     cases.extend(all_recipes());
     cases.extend(compaction::by_hand());
+    cases.extend(across::by_hand());
     cases
 }
 
@@ -239,7 +240,7 @@ fn keyword_lists() -> Vec<Case> {
 }
 
 /// A body of that form: bytes in decimal, with `#` a field of the form's width; a `<` at the end takes the last byte away.
-fn written(form: &Form, text: &str) -> Vec<u8> {
+pub fn written(form: &Form, text: &str) -> Vec<u8> {
     let mut body = Vec::new();
     for word in text.split_whitespace() {
         match word.strip_prefix('#') {
@@ -337,7 +338,7 @@ fn indexes(form: &Form) -> Vec<Case> {
         (offsets + form.width, 0),
         (offsets + form.width + last, 1),
     ] {
-        let mut body = Record { prefix: 0, suffix: 0, offsets: all.clone() }.encode(form, 0);
+        let mut body = Record { offsets: all.clone(), ..Record::default() }.encode(form, 0);
         body[at] = byte;
         let mut bad = case("bodies by hand", list(false, &[b"A"]), &small_chunks(), &[vec![[1; 20]]]);
         bad.index = Some(index::encode(form, &list(false, &[b"A"]), &[([1; 20], 255, body)]));
@@ -435,6 +436,7 @@ pub fn large() -> Vec<(&'static str, fn(&mut Rng) -> Vec<Case>)> {
         ("the most occurrences", windows::most),
         ("long holes", holes::large),
         ("compaction", compaction::large),
+        ("keywords over many chunks", across::large),
     ]
 }
 
@@ -513,7 +515,7 @@ fn many_files(_: &mut Rng) -> Vec<Case> {
     cases
 }
 
-/// 65,537 times 65,535 bytes are the most; one byte more is refused. From a store, and from made-up records of either mark. 4,096 of the
+/// 65,537 times 65,535 bytes are the most; one byte more is refused. From a store, and from made-up records of each mark. 4,096 of the
 /// longest chunks are one byte too many.
 fn longest_file(_: &mut Rng) -> Vec<Case> {
     let kind = "the longest file";
@@ -537,7 +539,7 @@ fn longest_file(_: &mut Rng) -> Vec<Case> {
     ];
     for (form, file) in KNOWN.iter().flat_map(|form| [(form, &exact), (form, &above)]) {
         let mut made_up = case(kind, words.clone(), &chunks, &[file.clone()]);
-        let record = Record { prefix: 0, suffix: 0, offsets: vec![65_532] };
+        let record = Record { offsets: vec![65_532], ..Record::default() };
         made_up.index = Some(index::encode(form, &words, &[([1; 20], 65_535, record.encode(form, 1)), ([2; 20], 1, vec![])]));
         cases.push(made_up);
     }

@@ -1,6 +1,7 @@
 //! The borders of the fold (request 104): keywords and chunks of the bytes at which the map begins and ends, and an account of where
 //! two bytes 20 (hexadecimal) apart have met. [`inputs::vault`](crate::inputs::vault) draws them too.
 
+use crate::across;
 use crate::fixed::{case, key, Chunks};
 use crate::inputs::{self, list, Case};
 use crate::rng::Rng;
@@ -70,7 +71,8 @@ pub fn by_hand() -> Vec<Case> {
         let chunks: Chunks = LOWER.iter().flat_map(|b| (0..4).map(|k| chunk(*b, k))).collect();
         let places = |b: u8| (0..16).map(move |k| vec![chunk(b, k / 4).0, chunk(b, k % 4).0]);
         let files: Vec<Vec<Fingerprint>> = LOWER.iter().flat_map(|b| places(*b)).collect();
-        cases.push(case(KIND, keywords(LOWER.into_iter(), fold, |b| vec![b, b + 0x20, b]), &chunks, &files));
+        let cells = case(KIND, keywords(LOWER.into_iter(), fold, |b| vec![b, b + 0x20, b]), &chunks, &files);
+        cases.extend(across::under_each_mark(cells));
         // Two keywords that differ in one such byte, in a list and in an index, whose directory is cut short in some.
         for b in LOWER {
             let (one, two) = ([b'c', b, b'f'], [b'c', b + 0x20, b'f']);
@@ -92,7 +94,7 @@ fn older_index() -> Case {
     let words = list(true, &[b"\xC9\xE9\xC9"]);
     let chunks: Chunks = vec![(key(1), b"\xC9\xE9".to_vec()), (key(2), b"\xE9\xC9".to_vec()), (key(3), b"\xE9\xE9\xE9".to_vec())];
     let files = [vec![key(1), key(2)], vec![key(3)], vec![key(1), key(1), key(2), key(2)]];
-    let body = |prefix, suffix| Record { prefix, suffix, offsets: vec![] }.encode(&FORM1, 0);
+    let body = |prefix, suffix| Record { prefix, suffix, ..Record::default() }.encode(&FORM1, 0);
     let entries = [(key(1), 2, body(2, 1)), (key(2), 2, body(1, 2)), (key(3), 3, body(0, 0))];
     Case { index: Some(index::encode(&FORM1, &words, &entries)), ..case(KIND, words, &chunks, &files) }
 }
@@ -129,6 +131,8 @@ pub fn vault(rng: &mut Rng) -> Case {
         if rng.percent(50) {
             case.index = Some(index::encode::<&[u8]>(&NEWEST, &case.list, &[]));
         }
+    } else if rng.percent(40) {
+        case.index = inputs::scanned(rng, &case);
     }
     case
 }

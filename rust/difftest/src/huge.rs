@@ -300,9 +300,9 @@ fn moves_past_32_bits() -> Verdict {
 fn longest_bound(more: u64) -> Verdict {
     println!("a bound of 4,294,967,295 + {more}");
     let words = list(false, &[b"ab"]);
-    // The bound is 32 + list + 127 x count + 3 x bytes of chunks.
+    // The bound is 32 + list + 133 x count + 3 x bytes of chunks.
     let count = 1_367 + more;
-    let data = (U32 + more - 32 - words.len() as u64 - 127 * count) / 3;
+    let data = (U32 + more - 32 - words.len() as u64 - 133 * count) / 3;
     let (size, longer) = (data / count, data % count);
     let read = keywords::read(&words).map_err(|code| format!("the oracle refuses with {code}"))?;
     let trie = Trie::new(&read);

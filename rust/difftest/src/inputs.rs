@@ -5,7 +5,7 @@ use crate::holes;
 use crate::rng::Rng;
 use oracle::form::{Form, KNOWN};
 use oracle::keywords::{alike, Keywords};
-use oracle::records::{encode_body, reach, Record};
+use oracle::records::{encode_body, inner_starts, reach, set_of, Record};
 use oracle::store::Chunk;
 use oracle::{index, keywords, recipes, store, Fingerprint};
 
@@ -314,7 +314,7 @@ pub fn vault_of(rng: &mut Rng, kind: &'static str, words: Words) -> (Case, Words
 }
 
 /// A record that keeps the ranges, whether or not some chunk gives it.
-fn record(rng: &mut Rng, n: usize, size: usize) -> Record {
+pub fn record(rng: &mut Rng, n: usize, size: usize) -> Record {
     let most = reach(n, size);
     let length = |rng: &mut Rng| match rng.below(4) {
         0 => 0,
@@ -338,7 +338,18 @@ fn record(rng: &mut Rng, n: usize, size: usize) -> Record {
             offsets.insert(gap, at);
         }
     }
-    Record { prefix, suffix, offsets }
+    Record { prefix, suffix, offsets, inner: set(rng, n, size) }
+}
+
+/// A set of inner starts in range, whether or not some chunk gives it: empty, one, all, or any.
+pub fn set(rng: &mut Rng, n: usize, size: usize) -> u32 {
+    let all = set_of(inner_starts(n, size));
+    match rng.below(6) {
+        0..=1 => 0,
+        2 => all & (1 << rng.below(32)),
+        3 => all,
+        _ => all & rng.next() as u32,
+    }
 }
 
 /// An index that no store gave: what an entry says of each fingerprint, L and the body.
@@ -358,10 +369,15 @@ impl MadeUp {
     }
 }
 
-/// What a scan of the case's store writes, or wrote under the old mark, if it does its work.
+/// What a scan of the case's store writes, or wrote under an older mark, if it does its work.
 pub fn scanned(rng: &mut Rng, case: &Case) -> Option<Vec<u8>> {
+    scanned_in(rng.pick(&KNOWN), case)
+}
+
+/// The same in that form.
+pub fn scanned_in(form: &Form, case: &Case) -> Option<Vec<u8>> {
     let (keywords, chunks) = (keywords::read(&case.list).ok()?, store::read(&case.store).ok()?);
-    Some(index::of_scan(rng.pick(&KNOWN), &case.list, &keywords, &case.store, &chunks))
+    Some(index::of_scan(form, &case.list, &keywords, &case.store, &chunks))
 }
 
 /// Bodies of made-up records.

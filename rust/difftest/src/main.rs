@@ -7,6 +7,7 @@
 //! valgrind can run it; `--huge` runs only those that want 5 GB of memory. A difference prints the seed and the case, writes its
 //! inputs to a folder, and ends with status 1.
 
+mod across;
 mod beyond;
 mod compaction;
 mod compare;
@@ -18,6 +19,7 @@ mod huge;
 mod inputs;
 mod lanes;
 mod pairs;
+mod reached;
 mod rng;
 mod windows;
 
@@ -81,10 +83,10 @@ fn on_large_stack<T: Send>(work: impl FnOnce() -> T + Send) -> T {
     vault::on_large_stack(work).expect("a thread can be started")
 }
 
-/// A random case: sound, damaged in one input, in two, made up, noise, for the walk, for the fold, for the ends of 32 bits, or for the
-/// borders of chunks.
+/// A random case: sound, damaged in one input, in two, made up, noise, for the walk, for the fold, for the ends of 32 bits, for the
+/// borders of chunks, or for keywords over many of them.
 fn random(rng: &mut Rng) -> Case {
-    match rng.below(132) {
+    match rng.below(156) {
         0..=29 => inputs::vault(rng, "vaults").0,
         30..=36 => damaged(rng, "damaged keywords", |rng, case| damage::keywords(rng, &mut case.list)),
         37..=46 => damaged(rng, "damaged store", |rng, case| damage::store(rng, &mut case.store)),
@@ -102,10 +104,11 @@ fn random(rng: &mut Rng) -> Case {
         98..=99 => noise(rng),
         100..=111 => lanes::vault(rng),
         112..=119 => folds::vault(rng),
-        120..=124 => damaged(rng, "indexes of either mark", |rng, case| case.index = inputs::scanned(rng, case)),
+        120..=124 => damaged(rng, "indexes of each mark", |rng, case| case.index = inputs::scanned(rng, case)),
         125 => beyond::random(rng),
         126..=127 => beyond::few(rng),
-        _ => damaged(rng, "store damaged at a chunk's borders", |rng, case| damage::borders(rng, &mut case.store)),
+        128..=131 => damaged(rng, "store damaged at a chunk's borders", |rng, case| damage::borders(rng, &mut case.store)),
+        _ => across::random(rng),
     }
 }
 
@@ -248,7 +251,8 @@ fn run(arguments: &Arguments) -> ExitCode {
         ("codes that no case reached", missing(&run.tally)),
         ("bytes at the fold's borders that no case brought together", run.tally.meetings.missing()),
         ("holes that no good store had", run.tally.missing_holes()),
-        ("what no compaction came upon", run.tally.compactions.missing()),
+        ("what no compaction came upon", run.tally.compactions.missing(&compaction::ALL)),
+        ("what no join came upon", run.tally.crossings.missing(&across::ALL)),
     ];
     for (what, which) in lacking.iter().filter(|(_, which)| !which.is_empty()) {
         println!("FAILED: {what}: {}", which.join(", "));
@@ -308,7 +312,7 @@ const REACHABLE: [(&str, &[u8]); 12] = [
     ("join", &[0, 1, 2, 3, 4, 10, 11, 12, 13, 14, 15, 16, 17, 18]),
     ("find_chunk", &[0, 5, 6, 7, 8, 15, 19, 20]),
     ("find_body", &[0, 1, 2, 3, 4, 10, 11, 12, 13, 15, 19]),
-    ("search", &[0, 1, 2, 3, 4, 5, 6, 7, 8, 9, 14, 15, 16, 17, 18, 20]),
+    ("search", &[0, 1, 2, 3, 4, 5, 6, 7, 8, 9, 14, 15, 16, 18, 20]),
     ("compact_size", &[0, 5, 6, 7, 8, 14, 15, 20]),
     ("compact", &[0, 5, 6, 7, 8, 9, 14, 15, 20]),
 ];
@@ -337,7 +341,8 @@ fn report(tally: &Tally, time: Duration) {
     let marks: Vec<String> = tally.marks.iter().map(|(mark, n)| format!("{} {n}", mark[..3].escape_ascii())).collect();
     println!("\ngood indexes by mark: {}; good stores with a chunk longer than 65,535 bytes: {}", marks.join(", "), tally.long);
     println!("holes in good stores: {}", tally.holes_by_place().map(|(place, count)| format!("{place} {count}")).join(", "));
-    println!("compactions: {}", tally.compactions.report());
+    println!("compactions: {}", tally.compactions.report(&compaction::ALL));
+    println!("keywords across chunks: {}", tally.crossings.report(&across::ALL));
     let calls: u64 = tally.codes.values().sum();
     println!(
         "\n{} cases, {calls} answers compared, {} bytes of buffers, {} occurrences listed,",

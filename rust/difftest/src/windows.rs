@@ -7,7 +7,7 @@ use crate::holes;
 use crate::inputs::{self, list, Case};
 use crate::lanes;
 use crate::rng::Rng;
-use oracle::form::{Form, FORM1, FORM2, NEWEST};
+use oracle::form::{Form, FORM1, FORM2, FORM3, KNOWN, NEWEST};
 use oracle::keywords::{alike, Keywords};
 use oracle::records::Record;
 use oracle::{index, recipes, Fingerprint};
@@ -108,14 +108,14 @@ fn occurrences() -> Vec<Case> {
     cases
 }
 
-/// Indexes of long chunks under both marks: L around each mark's longest, offsets around L - n, and offsets that differ, rise or fall only in
+/// Indexes of long chunks under each mark: L around each mark's longest, offsets around L - n, and offsets that differ, rise or fall only in
 /// their third byte.
 pub fn long_entries() -> Vec<Case> {
     let kind = "long chunks in an index";
     let list = list(false, &[b"ABA", b"A"]);
     let mut cases = Vec::new();
     for (form, size) in
-        [FORM1, FORM2].iter().flat_map(|form| [65_534, 65_535, 65_536, 65_537, LONGEST, LONGEST + 1].map(|size| (form, size)))
+        KNOWN.iter().flat_map(|form| [65_534, 65_535, 65_536, 65_537, LONGEST, LONGEST + 1].map(|size| (form, size)))
     {
         let lists: [&[usize]; 10] = [
             &[],
@@ -130,25 +130,27 @@ pub fn long_entries() -> Vec<Case> {
             &[0, 65_536],
         ];
         for offsets in lists {
-            let of = |n: usize, offsets: &[usize]| Record { prefix: n - 1, suffix: 0, offsets: offsets.to_vec() };
+            let of = |n: usize, offsets: &[usize]| Record { prefix: n - 1, offsets: offsets.to_vec(), ..Record::default() };
             let body = [of(3, offsets).encode(form, 0), of(1, &[size - 1]).encode(form, 1)].concat();
             cases.push(with_index(kind, form, &list, &[(key(1), size as u64, body), (key(2), 3, vec![])]));
         }
     }
     // Each field's third byte, in a body of 255 and of 300 offsets; and each mark over the other's bodies.
     for count in [255, 300] {
-        let good = Record { prefix: 0, suffix: 0, offsets: (0..count).collect() };
+        let good = Record { offsets: (0..count).collect(), ..Record::default() };
         for at in [5, 8, 11, 11 + 3 * (count - 1)].map(|field| field + 2) {
-            let mut body = good.encode(&FORM2, 1);
-            body[at] = 1;
-            cases.push(with_index(kind, &FORM2, &list, &[(key(1), LONGEST as u64, body)]));
+            for form in [FORM2, FORM3] {
+                let mut body = good.encode(&form, 1);
+                body[at] = 1;
+                cases.push(with_index(kind, &form, &list, &[(key(1), LONGEST as u64, body)]));
+            }
         }
-        for (form, other) in [(FORM1, FORM2), (FORM2, FORM1)] {
+        for (form, other) in [(FORM1, FORM2), (FORM2, FORM1), (FORM1, FORM3), (FORM3, FORM1), (FORM2, FORM3), (FORM3, FORM2)] {
             cases.push(with_index(kind, &form, &list, &[(key(1), 65_535, good.encode(&other, 1))]));
         }
     }
-    for mark in [b"DM0\n", b"DM3\n", b"DM4\n", b"DM2\r", b"dm2\n", b"DV1\n", b"2MD\n"] {
-        for form in [FORM1, FORM2] {
+    for mark in [b"DM0\n", b"DM4\n", b"DM5\n", b"DM3\r", b"dm3\n", b"DV1\n", b"3MD\n"] {
+        for form in KNOWN {
             let mut other = with_index(kind, &form, &list, &[(key(1), 3, vec![])]);
             other.index.as_mut().expect("it has one")[..4].copy_from_slice(mark);
             cases.push(other);
@@ -163,13 +165,13 @@ fn with_index(kind: &'static str, form: &Form, list: &[u8], entries: &[(Fingerpr
     Case { index: Some(index::encode(form, list, entries)), ..case(kind, list.to_vec(), &chunks, &files) }
 }
 
-/// All records of a long chunk under the old mark, and under the new one: 65,535 occurrences, joined.
+/// All records of a long chunk under the oldest mark, and under the new ones: 65,535 occurrences, joined.
 fn most_entries() -> Vec<Case> {
     let kind = "the most occurrences in an index";
     let list = list(false, &[b"A"]);
-    let all = |count: usize| Record { prefix: 0, suffix: 0, offsets: (0..count).collect() };
+    let all = |count: usize| Record { offsets: (0..count).collect(), ..Record::default() };
     let mut cases = Vec::new();
-    for (form, count) in [(FORM1, 65_535), (FORM2, 65_535), (FORM2, 65_536), (FORM2, 65_791), (FORM2, LONGEST)] {
+    for (form, count) in [(FORM1, 65_535), (FORM2, 65_535), (FORM2, 65_536), (FORM3, 65_536), (FORM2, 65_791), (FORM3, LONGEST)] {
         let body = all(count).encode(&form, 0);
         for size in [count as u64, count as u64 - 1] {
             cases.push(with_index(kind, &form, &list, &[(key(1), size, body.clone())]));
@@ -184,7 +186,7 @@ fn most_entries() -> Vec<Case> {
 }
 
 /// Up to four keywords that overlap themselves, of two letters.
-fn random_words(rng: &mut Rng) -> inputs::Words {
+pub fn random_words(rng: &mut Rng) -> inputs::Words {
     let (a, b) = *rng.pick(&[(b'a', b'b'), (b'Z', b'A'), (0xC9, 0xE9), (0x00, 0xFF)]);
     let fold = rng.percent(50);
     let mut words: Vec<Vec<u8>> = Vec::new();

@@ -161,7 +161,7 @@ pub fn search(
 #[cfg(test)]
 mod tests {
     use super::*;
-    use crate::form::FORM1;
+    use crate::form::{Form, FORM1, FORM2, KNOWN};
     use crate::keywords::list_of;
     use crate::{direct, recipes};
 
@@ -171,7 +171,7 @@ mod tests {
         (list_of(false, &[b"ABA", b"AA"]), store, recipes)
     }
 
-    /// The length of the small vault's index: two records have a field. 136 bytes in document 01's form, 138 in request 105's.
+    /// The length of the small vault's index: two records have a field. 136 bytes in document 01's form, 138 in those of requests 105 and 108.
     const SMALL: usize = 132 + 2 * NEWEST.width;
 
     /// What a number holds that no call has told.
@@ -235,12 +235,28 @@ mod tests {
         }
     }
 
+    /// What a scan writes in that form.
+    fn scanned_in(form: &Form, list: &[u8], store: &[u8]) -> Vec<u8> {
+        index::of_scan(form, list, &keywords::read(list).unwrap(), store, &store::read(store).unwrap())
+    }
+
+    /// Document 01's refused case: 17 under the older marks; request 108's lists it.
     #[test]
-    fn a_short_inner_chunk_is_refused() {
+    fn a_short_inner_chunk() {
         let (list, store, _) = small();
         let index = index_of(&list, &store).unwrap();
         let three = recipes::encode(&[vec![[1; 20], [3; 20], [2; 20]]]);
-        assert_eq!(answer(|number| count(&index, &three, number)), (17, UNTOLD));
+        for form in [FORM1, FORM2] {
+            let (index, mut out) = (scanned_in(&form, &list, &store), [0xEE; 30]);
+            assert_eq!(answer(|number| count(&index, &three, number)), (17, UNTOLD));
+            assert_eq!(answer(|number| join(&index, &three, &mut out, number)), (17, UNTOLD));
+            assert_eq!(out, [0xEE; 30]);
+        }
+        let (mut indexed, mut out, mut length, mut found) = (vec![0; SMALL], vec![0xEE; 28], UNTOLD, UNTOLD);
+        let code = search(&list, &store, &three, (&mut indexed, &mut out), (&mut length, &mut found));
+        assert_eq!((code, length, found, &indexed), (0, SMALL as u64, 3, &index));
+        let row = |offset: u8, word: u8| [0, 0, 0, 0, offset, 0, 0, 0, word];
+        assert_eq!(out, [&row(1, 0)[..], &row(3, 1), &row(4, 0), &[0xEE]].concat());
         let two = recipes::encode(&[vec![[1; 20], [3; 20]]]);
         let mut out = [0; 9];
         assert_eq!(answer(|number| join(&index, &two, &mut out, number)), (0, 1));
@@ -288,19 +304,19 @@ mod tests {
         }
     }
 
-    /// Document 01's small vault under the old mark: the same list.
+    /// Document 01's small vault under the older marks: the same list.
     #[test]
-    fn the_old_mark_is_joined() {
+    fn the_old_marks_are_joined() {
         let (list, store, recipes) = small();
-        let old = index::of_scan(&FORM1, &list, &keywords::read(&list).unwrap(), &store, &store::read(&store).unwrap());
-        let new = index_of(&list, &store).unwrap();
-        assert_eq!((old.len(), new.len(), &new[..4]), (136, 138, &[0x44, 0x4D, 0x32, 0x0A][..]));
+        let [old, older, new] = KNOWN.map(|form| scanned_in(&form, &list, &store));
+        assert_eq!((old.len(), older.len(), new.len(), &new[..4]), (136, 138, 138, &[0x44, 0x4D, 0x33, 0x0A][..]));
+        assert_eq!((index_of(&list, &store), &older[4..]), (Ok(new.clone()), &new[4..]));
         let list_of = |index: &[u8]| {
             let mut out = [0; 27];
             (answer(|count| join(index, &recipes, &mut out, count)), out)
         };
         assert_eq!(list_of(&old).0, (0, 3));
-        assert_eq!(list_of(&old), list_of(&new));
+        assert_eq!((list_of(&old), list_of(&older)), (list_of(&new), list_of(&new)));
         assert_eq!((body(&old, &[3; 20]), body(&new, &[3; 20])), (Ok(130..136), Ok(132..138)));
     }
 
@@ -317,19 +333,14 @@ mod tests {
         assert_eq!(body(&index, &[]), Err(19));
     }
 
-    /// The occurrences in every file of three of these pieces: the join's, and the direct search's.
-    fn joined_and_searched(fold: bool, words: &[&[u8]], pieces: [&[u8]; 6]) -> usize {
+    /// The occurrences in every file of so many of these pieces: the join's, and the direct search's.
+    fn joined_and_searched(fold: bool, words: &[&[u8]], pieces: &[&[u8]], places: u32) -> usize {
         let list = list_of(fold, words);
         let chunks: Vec<_> = pieces.iter().enumerate().map(|(k, p)| ([k as u8; 20], *p)).collect();
         let store = store::encode(&chunks);
-        let mut files = vec![];
-        for a in 0..6u8 {
-            for b in 0..6u8 {
-                for c in 0..6u8 {
-                    files.push(vec![[a; 20], [b; 20], [c; 20]]);
-                }
-            }
-        }
+        let count = pieces.len();
+        let file = |f: usize| (0..places).map(|p| [(f / count.pow(p) % count) as u8; 20]).collect();
+        let files: Vec<Vec<crate::Fingerprint>> = (0..count.pow(places)).map(file).collect();
         let index = index::read(&index_of(&list, &store).unwrap()).unwrap();
         let joined = Joined::new(&index, &recipes::encode(&files)).unwrap().list();
         let restored = direct::restore(&store, &store::read(&store).unwrap(), &files).unwrap();
@@ -340,7 +351,46 @@ mod tests {
     #[test]
     fn the_join_is_the_direct_search() {
         let words: &[&[u8]] = &[b"ABA", b"AA", b"A", b"BAAB"];
-        assert!(joined_and_searched(true, words, [b"XAB", b"abaX", b"AAA", b"bab", b"aAaAa", b"Baa"]) > 500);
+        assert!(joined_and_searched(true, words, &[b"XAB", b"abaX", b"AAA", b"bab", b"aAaAa", b"Baa"], 3) > 500);
+    }
+
+    /// Request 108: pieces that are shorter than the keywords, in files of three to seven.
+    #[test]
+    fn the_join_is_the_direct_search_of_small_chunks() {
+        let words: &[&[u8]] = &[b"ABAAB", b"AAAA", b"BAB", b"ABABABA", b"BB", b"xa"];
+        let pieces: [(&[&[u8]], u32, usize); 4] = [
+            (&[b"A", b"b"], 7, 200),
+            (&[b"a", b"B", b"AB", b"BA"], 5, 1_000),
+            (&[b"A", b"aab", b"xAB", b"ABA", b"B"], 4, 500),
+            (&[b"XAB", b"ABAX", b"A", b"AA"], 4, 300),
+        ];
+        for (pieces, places, least) in pieces {
+            let found = joined_and_searched(true, words, pieces, places);
+            assert!(found > least, "{found} of {least}");
+        }
+    }
+
+    /// Request 108: a keyword of 32 bytes that repeats itself, over chunks of one byte and longer ones.
+    #[test]
+    fn the_longest_keyword_over_small_chunks() {
+        for (word, period) in [(vec![b'A'; 32], &b"A"[..]), (b"AB".repeat(16), b"AB"), (b"AAB".repeat(11)[..32].to_vec(), b"AAB")]
+        {
+            let letters: Vec<&[u8]> = period.chunks(1).collect();
+            let chunks: Vec<&[u8]> = [&letters[..], &[&word[..30], &word[1..32], &word, b"AAA"]].concat();
+            let keyed: Vec<_> = chunks.iter().enumerate().map(|(k, chunk)| ([k as u8; 20], *chunk)).collect();
+            let (list, store) = (
+                list_of(false, &[&word, &word[..31], &word[1..]][..if period.len() == 1 { 2 } else { 3 }]),
+                store::encode(&keyed),
+            );
+            let repeated = |count: usize| (0..count).map(|p| [(p % letters.len()) as u8; 20]).collect::<Vec<_>>();
+            let files: Vec<Vec<_>> =
+                (0..4).map(|k| [repeated(40), vec![[(letters.len() + k) as u8; 20]], repeated(33)].concat()).collect();
+            let joined =
+                Joined::new(&index::read(&index_of(&list, &store).unwrap()).unwrap(), &recipes::encode(&files)).unwrap().list();
+            let restored = direct::restore(&store, &store::read(&store).unwrap(), &files).unwrap();
+            assert_eq!(joined, direct::search(&keywords::read(&list).unwrap(), &restored));
+            assert!(joined.len() > 40, "{}", joined.len());
+        }
     }
 
     /// Request 104, inside chunks and across: the same pieces with and without the flag.
@@ -349,7 +399,7 @@ mod tests {
         let words: &[&[u8]] = &[b"\xC9\xE9\xC9", b"\xE9\xDE", b"\xD7\xC9", b"\xDF\xDF", b"\xF8"];
         let pieces: [&[u8]; 6] =
             [b"\xC9\xE9", b"\xE9\xC9", b"\xFE\xF7\xE9\xC9", b"\xDF\xFF\xD7", b"\xD8\xE9", b"\xDF\xBF\xC9\xC9"];
-        let (with, without) = (joined_and_searched(true, words, pieces), joined_and_searched(false, words, pieces));
+        let [with, without] = [true, false].map(|fold| joined_and_searched(fold, words, &pieces, 3));
         assert!(with > 300 && 3 * without < with && without > 0, "{with} {without}");
     }
 }

@@ -20,7 +20,8 @@ pub fn of(bytes: &[u8], recipe_bytes: &[u8]) -> Result<Vec<u8>, Code> {
 #[cfg(test)]
 mod tests {
     use super::*;
-    use crate::calls;
+    use crate::form::{FORM2, NEWEST};
+    use crate::{calls, index};
 
     const NONE: [u8; 4] = [0; 4];
 
@@ -103,7 +104,8 @@ mod tests {
         );
     }
 
-    /// A join would refuse the file of 4,096 of the longest chunks with 16, and three of one byte, for a keyword of three, with 17.
+    /// A join would refuse the file of 4,096 of the longest chunks with 16, and three of one byte, for a keyword of three, with 17 under the
+    /// older marks.
     #[test]
     fn no_16_and_no_17() {
         let store = store::encode(&[([1; 20], vec![0; 1_048_576]), ([2; 20], vec![0])]);
@@ -111,8 +113,10 @@ mod tests {
         assert_eq!(of(&store, &long).map(|new| new.len()), Ok(36 + 1_048_576));
         assert_eq!(of(&store, &files(&[&[2, 2, 2]])).map(|new| new.len()), Ok(37));
         let list = crate::keywords::list_of(false, &[b"ABA"]);
-        let index = calls::index_of(&list, &store).unwrap();
-        assert_eq!(calls::count(&index, &long, &mut 0), 16);
-        assert_eq!(calls::count(&index, &files(&[&[2, 2, 2]]), &mut 0), 17);
+        for (form, short) in [(FORM2, 17), (NEWEST, 0)] {
+            let index = index::encode(&form, &list, &[([1; 20], form.longest_chunk, b""), ([2; 20], 1, b"")]);
+            assert_eq!(calls::count(&index, &long, &mut 0), 16);
+            assert_eq!(calls::count(&index, &files(&[&[2, 2, 2]]), &mut 0), short);
+        }
     }
 }

@@ -1,4 +1,4 @@
-//! The written forms of an index ("Notes file"), by their marks: document 01's, and the one of request 105.
+//! The written forms of an index ("Notes file"), by their marks: document 01's, and those of requests 105 and 108.
 
 /// What an index's mark says of the rest.
 #[derive(Clone, Copy, Debug, PartialEq, Eq)]
@@ -8,19 +8,24 @@ pub struct Form {
     pub width: usize,
     /// The longest chunk.
     pub longest_chunk: u64,
+    /// Whether records have a set of inner starts (kind 4), so that a keyword is joined over any number of chunks. Without it 17 stands.
+    pub sets: bool,
 }
 
 /// Document 01.
-pub const FORM1: Form = Form { mark: [0x44, 0x4D, 0x31, 0x0A], width: 2, longest_chunk: 65_535 };
+pub const FORM1: Form = Form { mark: [0x44, 0x4D, 0x31, 0x0A], width: 2, longest_chunk: 65_535, sets: false };
 
 /// Request 105.
-pub const FORM2: Form = Form { mark: [0x44, 0x4D, 0x32, 0x0A], width: 3, longest_chunk: 1_048_576 };
+pub const FORM2: Form = Form { mark: [0x44, 0x4D, 0x32, 0x0A], width: 3, longest_chunk: 1_048_576, sets: false };
+
+/// Request 108.
+pub const FORM3: Form = Form { mark: [0x44, 0x4D, 0x33, 0x0A], sets: true, ..FORM2 };
 
 /// The form that a scan writes. Its longest chunk is a store's too.
-pub const NEWEST: Form = FORM2;
+pub const NEWEST: Form = FORM3;
 
 /// The forms that are read.
-pub const KNOWN: [Form; 2] = [FORM1, FORM2];
+pub const KNOWN: [Form; 3] = [FORM1, FORM2, FORM3];
 
 impl Form {
     /// The one of these forms that the mark names.
@@ -45,8 +50,9 @@ mod tests {
             assert_eq!(Form::of(&KNOWN, &form.mark[..3]), None);
         }
         assert_eq!(Form::of(&KNOWN, b"DM1\n\0\0\0\0"), Some(FORM1));
-        assert_eq!(Form::of(&KNOWN, &[0x44, 0x4D, 0x32, 0x0A]), Some(NEWEST));
-        for other in [b"DM0\n", b"DM3\n", b"DM4\n", b"DM2\r", b"DV1\n", b"dm2\n"] {
+        assert_eq!(Form::of(&KNOWN, &[0x44, 0x4D, 0x32, 0x0A]), Some(FORM2));
+        assert_eq!(Form::of(&KNOWN, &[0x44, 0x4D, 0x33, 0x0A]), Some(NEWEST));
+        for other in [b"DM0\n", b"DM4\n", b"DM5\n", b"DM3\r", b"DV1\n", b"dm3\n"] {
             assert_eq!(Form::of(&KNOWN, other), None);
         }
     }
@@ -58,5 +64,6 @@ mod tests {
         assert_eq!(FORM1.field(0x0102), [2, 1]);
         assert_eq!(FORM2.field(1_048_576), [0, 0, 0x10]);
         assert_eq!(FORM2.field(0x010203), [3, 2, 1]);
+        assert_eq!((FORM3.width, FORM3.longest_chunk), (FORM2.width, FORM2.longest_chunk));
     }
 }

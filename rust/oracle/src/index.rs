@@ -21,6 +21,7 @@ pub struct Entry {
 /// An accepted index.
 #[derive(Clone, Debug, PartialEq, Eq)]
 pub struct Index {
+    pub form: Form,
     pub keywords: Keywords,
     pub entries: Vec<Entry>,
 }
@@ -66,7 +67,7 @@ pub fn read_among(known: &[Form], index: &[u8]) -> Result<Index, Code> {
         let records = decode_body(&form, &keywords, size as usize, &index[body.clone()]).ok_or(13)?;
         entries.push(Entry { key, size, body, records });
     }
-    Ok(Index { keywords, entries })
+    Ok(Index { form, keywords, entries })
 }
 
 /// An index of that form from a keyword list's bytes and, for each chunk, fingerprint, L and body, whether or not they are good.
@@ -107,7 +108,7 @@ pub fn of_scan(form: &Form, list: &[u8], keywords: &Keywords, store: &[u8], chun
 #[cfg(test)]
 mod tests {
     use super::*;
-    use crate::form::{FORM1, FORM2};
+    use crate::form::{FORM1, FORM2, FORM3};
     use crate::keywords::list_of;
     use crate::{store, U32};
 
@@ -158,13 +159,26 @@ mod tests {
         }
     }
 
+    /// Request 108: the small vault's index is request 105's under another mark; a set is 13 under the older ones.
+    #[test]
+    fn the_small_index_in_the_third_form() {
+        let (second, third) = (small_in(&FORM2), small_in(&FORM3));
+        assert_eq!((&third[..4], &third[4..]), (&[0x44, 0x4D, 0x33, 0x0A][..], &second[4..]));
+        assert_eq!(read_among(&[FORM1, FORM2], &third), Err(10));
+        let body = [0, 0, 3, 0, 4, 6, 0, 0, 0];
+        for (form, want) in [(FORM1, 13), (FORM2, 13), (FORM3, 0)] {
+            let index = encode(&form, &list_of(false, &[b"AAAA"]), &[([1; 20], 1, body)]);
+            assert_eq!(code(&index), want);
+        }
+    }
+
     /// Each mark has its longest chunk.
     #[test]
     fn chunk_lengths_by_the_mark() {
-        for form in [FORM1, FORM2] {
+        for form in KNOWN {
             for (size, want) in [(0, 11), (1, 0), (form.longest_chunk, 0), (form.longest_chunk + 1, 11), (U32, 11)] {
                 let index = encode(&form, &[1, 0, 1, 0x41], &[([1; 20], size, &b""[..])]);
-                assert_eq!(read_among(&[FORM1, FORM2], &index).err().unwrap_or(0), want, "{form:?} {size}");
+                assert_eq!(read_among(&KNOWN, &index).err().unwrap_or(0), want, "{form:?} {size}");
             }
         }
     }

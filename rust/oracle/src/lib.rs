@@ -5,12 +5,12 @@
 //!
 //! * [`keywords`]: "Words" with request 104's accented capitals, and the word check;
 //! * [`store`]: "Store" with request 106's holes, and the store check with request 105's number 20;
-//! * [`records`]: "Notes on one chunk and one word", and their written form;
+//! * [`records`]: "Notes on one chunk and one word" with request 108's sets, and their written form;
 //! * [`moves`]: request 103, what a scan's walk of the trie counts;
-//! * [`form`]: the written forms of an index, by their marks: document 01's and request 105's;
+//! * [`form`]: the written forms of an index, by their marks: document 01's and those of requests 105 and 108;
 //! * [`index`]: "Notes file", with the notes check;
 //! * [`recipes`]: "Recipes", with refusals 14 to 17;
-//! * [`join`]: "Joining two notes" and the join;
+//! * [`join`]: "Joining two notes", request 108's crossings over any number of chunks, and the join;
 //! * [`compact`]: request 107, a store's chunks that some recipe names, without holes;
 //! * [`direct`]: the restored files searched byte by byte, which knows no records at all;
 //! * [`calls`]: the operations in the shape of the C interface (a code, a number, lent buffers).

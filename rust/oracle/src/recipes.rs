@@ -1,4 +1,4 @@
-//! Document 01, "Recipes": their form (14), and each file's tests against the index (15, 16, 17).
+//! Document 01, "Recipes": their form (14), and each file's tests against the index (15, 16, and 17 where its form has no sets).
 
 use crate::index::Index;
 use crate::{fingerprint, number, Code, Fingerprint, U32};
@@ -37,7 +37,8 @@ pub fn read(recipes: &[u8]) -> Result<Vec<Vec<Fingerprint>>, Code> {
 /// Each file's places as entries of the index; 15, 16 or 17 for the first file that fails, each test over the whole file.
 pub fn resolve(index: &Index, files: &[Vec<Fingerprint>]) -> Result<Vec<Vec<usize>>, Code> {
     let entry_of: HashMap<&Fingerprint, usize> = index.entries.iter().enumerate().map(|(e, entry)| (&entry.key, e)).collect();
-    let due = index.keywords.longest() as u64 - 1;
+    // Request 108: an index with sets joins over chunks of any length.
+    let due = if index.form.sets { 0 } else { index.keywords.longest() as u64 - 1 };
     let mut resolved = Vec::new();
     for file in files {
         let mut places = Vec::new();
@@ -70,7 +71,7 @@ pub fn encode(files: &[Vec<Fingerprint>]) -> Vec<u8> {
 #[cfg(test)]
 mod tests {
     use super::*;
-    use crate::form::{FORM1, FORM2};
+    use crate::form::{FORM1, FORM2, FORM3};
     use crate::{index, keywords::list_of};
 
     fn code(recipes: &[u8]) -> Code {
@@ -133,6 +134,21 @@ mod tests {
         file[0] = [2; 20];
         assert_eq!(code(file.clone()), 0);
         assert_eq!(code(vec![[1; 20]; 4_096]), 16);
+    }
+
+    /// Request 108: 17 goes by the mark, and 15 and 16 do not.
+    #[test]
+    fn no_17_where_there_are_sets() {
+        let (long, one, unknown) = ([1; 20], [2; 20], [9; 20]);
+        for (form, short) in [(FORM1, 17), (FORM2, 17), (FORM3, 0)] {
+            let entries = [(long, 65_535, b""), (one, 1, b"")];
+            let index = index::read(&index::encode(&form, &list_of(false, &[b"ABA"]), &entries)).unwrap();
+            let code = |files: &[Vec<Fingerprint>]| resolve(&index, files).err().unwrap_or(0);
+            assert_eq!(code(&[vec![one, one, one], vec![long, one, one, long]]), short);
+            assert_eq!(code(&[vec![one, one, unknown]]), 15);
+            assert_eq!(code(&[vec![one, one, one], vec![unknown]]), if short == 0 { 15 } else { short });
+            assert_eq!(code(&[[vec![long; 65_537], vec![one; 2]].concat()]), 16);
+        }
     }
 
     #[test]

@@ -8,11 +8,16 @@ pub struct Form {
     pub width: usize,
     /// The longest chunk that it has a body of.
     pub longest_chunk: usize,
+    /// Whether it has sets of inner starts (kind 4): then a keyword is found over any number of chunks, and refusal 17 never comes.
+    pub sets: bool,
 }
 
 /// The forms that the library reads, the oldest first.
-pub const FORMS: [Form; 2] =
-    [Form { mark: *b"DM1\n", width: 2, longest_chunk: 65_535 }, Form { mark: *b"DM2\n", width: 3, longest_chunk: 1_048_576 }];
+pub const FORMS: [Form; 3] = [
+    Form { mark: *b"DM1\n", width: 2, longest_chunk: 65_535, sets: false },
+    Form { mark: *b"DM2\n", width: 3, longest_chunk: 1_048_576, sets: false },
+    Form { mark: *b"DM3\n", width: 3, longest_chunk: 1_048_576, sets: true },
+];
 
 /// The form that a scan writes.
 pub const NEWEST: Form = FORMS[FORMS.len() - 1];
@@ -49,6 +54,16 @@ impl Form {
 
     /// Bytes of a record before its fields: keyword, kind, prefix, suffix, count.
     pub const HEAD: usize = 5;
+
+    /// The kind of a set of inner starts, and its bytes: keyword, kind, bits.
+    pub const SET: u8 = 4;
+    pub const SET_LENGTH: usize = 6;
+
+    /// The starts of the set at a place of a good body: those whose bits its 4 bytes have.
+    pub fn starts_at(body: &[u8], at: usize) -> Vec<usize> {
+        let bits = u32::from_le_bytes([body[at], body[at + 1], body[at + 2], body[at + 3]]);
+        (0..32).filter(|start| (bits >> start) & 1 == 1).collect()
+    }
 }
 
 #[cfg(test)]
@@ -73,7 +88,15 @@ mod tests {
         for form in FORMS {
             assert_eq!(Form::of(&[&form.mark[..], &[0; 4]].concat()), form);
         }
-        assert_eq!((FORMS[0].name(), NEWEST.name()), ("DM1".into(), "DM2".into()));
-        assert_eq!((Form::of(b"DM1\n\0\0\0\0").width, NEWEST.mark), (2, [0x44, 0x4D, 0x32, 0x0A]));
+        assert_eq!((FORMS[0].name(), NEWEST.name()), ("DM1".into(), "DM3".into()));
+        assert_eq!((Form::of(b"DM1\n\0\0\0\0").width, NEWEST.mark), (2, [0x44, 0x4D, 0x33, 0x0A]));
+        assert_eq!(FORMS.map(|form| form.sets), [false, false, true]);
+    }
+
+    #[test]
+    fn sets() {
+        assert_eq!(Form::starts_at(&[9, 6, 0, 0, 0], 1), [1, 2]);
+        assert_eq!(Form::starts_at(&[0xFE, 0xFF, 0xFF, 0x7F], 0), (1..31).collect::<Vec<_>>());
+        assert_eq!(Form::starts_at(&[0, 1, 0, 0x40], 0), [8, 30]);
     }
 }

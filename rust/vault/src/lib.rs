@@ -5,7 +5,7 @@
 //!   the same.
 //! * [`scan`] scans each chunk for up to 16 **keywords** at once, writes a **match index** and counts its **moves**.
 //! * [`join`] takes the index and recipes, and no chunk, and lists every [`Occurrence`] in the restored files: by file,
-//!   then offset, then keyword, each exactly once, also those that cross from one chunk into the next.
+//!   then offset, then keyword, each exactly once, also those that go over two chunks or more.
 //! * [`compact`] writes the store anew, without holes and with the chunks alone that recipes name: a search of these recipes lists the same.
 //!
 //! Bytes compare by the keyword list's **fold flag**. With 0 they compare as they are. With 1, capitals compare as small letters: 41 to
@@ -14,8 +14,9 @@
 //! fold. An index that an earlier version, which folded 41 to 5A only, wrote with flag 1 has to be scanned anew: no call can tell or
 //! refuses it, and its join may lack occurrences.
 //!
-//! A chunk has 1 to 1,048,576 bytes. A scan writes an index of the newest form, with the mark `DM2`; one with the mark `DM1`, which an
-//! earlier version wrote, is read too ([`forms`]).
+//! A chunk has 1 to 1,048,576 bytes. A scan writes an index of the newest form, with the mark `DM3`; those with the marks `DM1` and `DM2`, which
+//! earlier versions wrote, are read too ([`forms`]). They alone are refused with 17: where a chunk inside a file is shorter than the longest
+//! keyword less one byte, they can't tell a keyword that crosses it whole.
 //!
 //! Every function takes every input: what isn't a good file is refused with an [`Error`], and a refused call changes no
 //! buffer. What is proved is the library behind; this crate checks nothing again and only names things. Functions that make
@@ -195,7 +196,7 @@ pub fn scan_size(list: &[u8], store: &[u8]) -> Result<u64, Error> {
 }
 
 /// A length that no index of a scan of these passes, from lengths and counts alone: 8 and the list's length, 32 for each chunk, and for
-/// each keyword 11 for each chunk and 3 for each byte of the store, holes too.
+/// each keyword 17 for each chunk and 3 for each byte of the store, holes too.
 ///
 /// Where it is at most [`LONGEST_INDEX`] and a buffer has it, [`scan_into`] walks each chunk to write only; else once to measure
 /// and, where a keyword occurs, to write. Writing walks a chunk of at most 65,536 bytes once and a longer one twice. The answer is
@@ -208,9 +209,9 @@ pub fn scan_bound(list: &[u8], store: &[u8]) -> u64 {
 
 /// The same of a list's length, the numbers of keywords and of chunks, and a store's length; the largest number where it would be more.
 fn bound(list: u64, keywords: u64, chunks: u64, store: u64) -> u64 {
-    // The head, the first offset, the exact count; an offset for each byte.
+    // The head, the first offset, the exact count, a set; an offset for each byte.
     let width = NEWEST.width as u64;
-    let of_keyword = ((Form::HEAD as u64 + 2 * width) * chunks).saturating_add(width.saturating_mul(store));
+    let of_keyword = (((Form::HEAD + Form::SET_LENGTH) as u64 + 2 * width) * chunks).saturating_add(width.saturating_mul(store));
     (8 + list + 32 * chunks).saturating_add(keywords.saturating_mul(of_keyword))
 }
 
@@ -242,18 +243,18 @@ pub fn scan(list: &[u8], store: &[u8]) -> Result<Scan, Failure> {
     Ok(Scan { index, moves: written.moves })
 }
 
-/// The number of occurrences. Refusals of the index check, 14 to 17.
+/// The number of occurrences. Refusals of the index check, 14 to 16, and of an index without sets ([`Form::sets`]) 17.
 pub fn count(index: &[u8], recipes: &[u8]) -> Result<u64, Error> {
     valued(|count| raw::count(index, recipes, count))
 }
 
 /// Writes the list to the buffer's front, [`ROW`] bytes an occurrence, and gives the count; what follows stays as it
-/// was. Refusals of the index check, 14 to 18.
+/// was. Refusals of the index check, 14 to 18 (17 as [`count`]).
 pub fn join_into(index: &[u8], recipes: &[u8], out: &mut [u8]) -> Result<usize, Error> {
     valued(|count| raw::join(index, recipes, out, count)).map(|count| count as usize)
 }
 
-/// The list's bytes. Refusals of the index check, 14 to 17.
+/// The list's bytes. Refusals of the index check, 14 to 17 (17 as [`count`]).
 ///
 /// A list of some megabytes is tried first; only a longer one is counted and then made.
 pub fn join_bytes(index: &[u8], recipes: &[u8]) -> Result<Vec<u8>, Failure> {
@@ -270,7 +271,7 @@ pub fn join_bytes(index: &[u8], recipes: &[u8]) -> Result<Vec<u8>, Failure> {
     Ok(bytes)
 }
 
-/// Every occurrence. Refusals of the index check, 14 to 17.
+/// Every occurrence. Refusals of the index check, 14 to 17 (17 as [`count`]).
 pub fn join(index: &[u8], recipes: &[u8]) -> Result<Vec<Occurrence>, Failure> {
     let bytes = join_bytes(index, recipes)?;
     let found = occurrences(&bytes);
@@ -340,7 +341,7 @@ pub fn search_into(list: &[u8], store: &[u8], recipes: &[u8], index: &mut [u8], 
     }
 }
 
-/// Every occurrence in the restored files, by a scan and a join of its index. Refusals 1 to 9 and 20 are the scan's, 14 to 17
+/// Every occurrence in the restored files, by a scan and a join of its index. Refusals 1 to 9 and 20 are the scan's, 14 to 16
 /// the join's.
 pub fn search(list: &[u8], store: &[u8], recipes: &[u8]) -> Result<Vec<Occurrence>, Failure> {
     join(&scan(list, store)?.index, recipes)
@@ -398,7 +399,7 @@ mod tests {
         with_stack(|| {
             let (list, store, recipes) = small();
             let Scan { index, moves } = scan(&list, &store).unwrap();
-            assert_eq!((index.len(), moves, &index[..4]), (138, 10, &[0x44, 0x4D, 0x32, 0x0A][..]));
+            assert_eq!((index.len(), moves, &index[..4]), (138, 10, &[0x44, 0x4D, 0x33, 0x0A][..]));
             assert_eq!(index[113..], [0, 1, 2, 0, 0, 0, 0, 0, 0, 1, 0, 1, 1, 0, 0, 0, 1, 0, 2, 0, 0, 3, 1, 0, 3]);
             let found = |file, offset, keyword| Occurrence { file, offset, keyword };
             let want = vec![found(0, 1, 0), found(0, 3, 0), found(1, 0, 1)];
@@ -492,7 +493,7 @@ mod tests {
         });
     }
 
-    /// Three chunks of one byte, with a keyword of three: a join refuses with 17, a compaction doesn't ask.
+    /// Three chunks of one byte, with a keyword of three: a join of an older index refuses with 17, a compaction doesn't ask.
     #[test]
     fn recipes_that_a_join_refuses_are_compacted() {
         with_stack(|| {
@@ -501,7 +502,8 @@ mod tests {
             let compacted = compact(&store, &short).unwrap();
             assert_eq!(compacted, entries(&[(3, 36, 1)], b"A"));
             for store in [&store, &compacted] {
-                assert_eq!(search(&list, store, &short), Err(Error::new(17).into()));
+                let found = |offset| Occurrence { file: 0, offset, keyword: 1 };
+                assert_eq!(search(&list, store, &short), Ok(vec![found(0), found(1)]));
             }
         });
     }
@@ -645,25 +647,108 @@ mod tests {
     #[test]
     fn the_bound_of_a_scan() {
         let (list, store, _) = small();
-        assert_eq!(scan_bound(&list, &store), 8 + 9 + 32 * 3 + 2 * (11 * 3 + 3 * 100));
+        assert_eq!(scan_bound(&list, &store), 8 + 9 + 32 * 3 + 2 * (17 * 3 + 3 * 100));
         assert_eq!(scan_bound(&[], &[]), 8);
         // Stores longer than 32 bits, and lengths that no memory has.
-        assert_eq!(bound(9, 2, 3, 1 << 33), 8 + 9 + 32 * 3 + 2 * (11 * 3 + 3 * (1 << 33)));
+        assert_eq!(bound(9, 2, 3, 1 << 33), 8 + 9 + 32 * 3 + 2 * (17 * 3 + 3 * (1 << 33)));
         for store in [u64::MAX, u64::MAX / 3, u64::MAX / 16] {
             assert_eq!(bound(530, 16, 65_000, store), u64::MAX);
         }
     }
 
-    /// Document 01's bodies under the old mark, and request 105's under the new one: the same list.
+    /// Document 01's index, which an earlier version wrote.
+    fn old_index() -> Vec<u8> {
+        let mut old = [&b"DM1\n\x03\0\0\0"[..], &small().0].concat();
+        for (key, size, offset, length) in [(1, 3, 113, 7), (2, 4, 120, 10), (3, 1, 130, 6)] {
+            old.extend([&[key; 20][..], &[size, 0, 0, 0, offset, 0, 0, 0, length, 0, 0, 0]].concat());
+        }
+        old.extend([0, 1, 2, 0, 0, 0, 0, 0, 1, 0, 1, 1, 0, 0, 1, 0, 2, 0, 0, 3, 1, 0, 3]);
+        old
+    }
+
+    /// An index of one chunk, fingerprint 0, under that mark.
+    fn index_of_one(mark: &[u8], list: &[u8], size: u8, body: &[u8]) -> Vec<u8> {
+        let start = (8 + list.len() + 32) as u8;
+        let entry = [&[0; 20][..], &[size, 0, 0, 0, start, 0, 0, 0, body.len() as u8, 0, 0, 0]].concat();
+        [mark, &[1, 0, 0, 0], list, &entry, body].concat()
+    }
+
+    /// Document 01's refused case, XAB, A, ABAX: 17 under the older marks, and a list under the newest.
+    #[test]
+    fn a_short_chunk_inside_a_file() {
+        with_stack(|| {
+            let (list, store, _) = small();
+            let three = recipes_of(&[&[1, 3, 2]]);
+            let new = scan(&list, &store).unwrap().index;
+            let second = [b"DM2\n", &new[4..]].concat();
+            for old in [old_index(), second] {
+                assert_eq!((count(&old, &three), join_into(&old, &three, &mut [])), (Err(Error::new(17)), Err(Error::new(17))));
+                assert!(!Form::of(&old).sets);
+            }
+            let found = |offset, keyword| Occurrence { file: 0, offset, keyword };
+            let want = vec![found(1, 0), found(3, 1), found(4, 0)];
+            assert_eq!((join(&new, &three), search(&list, &store, &three)), (Ok(want.clone()), Ok(want)));
+        });
+    }
+
+    /// Sets of inner starts: as written, as listed, and under the marks that have none.
+    #[test]
+    fn sets_of_inner_starts() {
+        with_stack(|| {
+            let list = keyword_list(false, &[b"AAAA"]).unwrap();
+            let index = scan(&list, &store_of(&[b"A"])).unwrap().index;
+            let body = [0, 0, 3, 0, 4, 6, 0, 0, 0];
+            assert_eq!((find_body(&index, &[0; 20]), &index), (Ok(&body[..]), &index_of_one(b"DM3\n", &list, 1, &body)));
+            let found: Vec<u32> = join(&index, &recipes_of(&[&[0; 6]])).unwrap().iter().map(|o| o.offset).collect();
+            assert_eq!(found, [0, 1, 2]);
+            for (mark, size, set, want) in [
+                (b"DM3\n", 1, 6, 0),
+                (b"DM3\n", 1, 0, 13),
+                (b"DM3\n", 1, 1, 13),
+                (b"DM3\n", 1, 8, 13),
+                (b"DM3\n", 2, 2, 0),
+                (b"DM3\n", 2, 4, 13),
+                (b"DM3\n", 3, 2, 13),
+                (b"DM2\n", 1, 6, 13),
+                (b"DM1\n", 1, 6, 13),
+                (b"DM4\n", 1, 6, 10),
+            ] {
+                assert_eq!(
+                    raw::check_index(&index_of_one(mark, &list, size, &[0, 0, 3, 0, 4, set, 0, 0, 0])),
+                    want,
+                    "{size} {set}"
+                );
+            }
+        });
+    }
+
+    /// A keyword of 32 bytes over chunks of one byte, and one that begins and ends in longer ones.
+    #[test]
+    fn the_longest_keyword_over_small_chunks() {
+        with_stack(|| {
+            let word = b"abracadabraabracadabraabracadabr";
+            let letters: Vec<&[u8]> = vec![b"a", b"b", b"r", b"c", b"d", b"xabracad", b"adabrx", b"abra"];
+            let of = |b: &u8| letters.iter().position(|letter| *letter == [*b]).unwrap() as u8;
+            let alone: Vec<u8> = word.iter().map(of).collect();
+            let longer = [&[5][..], &alone[7..27], &[6]].concat();
+            let list = keyword_list(false, &[word, b"abra"]).unwrap();
+            let recipes = recipes_of(&[&alone, &alone[1..], &[&alone[..], &alone[..]].concat(), &longer]);
+            let found = search(&list, &store_of(&letters), &recipes).unwrap();
+            let whole: Vec<(u32, u32)> = found.iter().filter(|o| o.keyword == 0).map(|o| (o.file, o.offset)).collect();
+            assert_eq!(whole, [(0, 0), (2, 0), (2, 32), (3, 1)]);
+            assert_eq!(
+                found.iter().filter(|o| o.file == 0 && o.keyword == 1).map(|o| o.offset).collect::<Vec<_>>(),
+                [0, 7, 11, 18, 22]
+            );
+        });
+    }
+
+    /// Document 01's bodies under the old mark, and request 105's under the new ones: the same list.
     #[test]
     fn an_index_under_the_old_mark() {
         with_stack(|| {
             let (list, store, recipes) = small();
-            let mut old = [&b"DM1\n\x03\0\0\0"[..], &list].concat();
-            for (key, size, offset, length) in [(1, 3, 113, 7), (2, 4, 120, 10), (3, 1, 130, 6)] {
-                old.extend([&[key; 20][..], &[size, 0, 0, 0, offset, 0, 0, 0, length, 0, 0, 0]].concat());
-            }
-            old.extend([0, 1, 2, 0, 0, 0, 0, 0, 1, 0, 1, 1, 0, 0, 1, 0, 2, 0, 0, 3, 1, 0, 3]);
+            let mut old = old_index();
             assert_eq!((old.len(), check_index(&old)), (136, Ok(())));
             let new = scan(&list, &store).unwrap().index;
             assert_eq!(join(&old, &recipes), join(&new, &recipes));

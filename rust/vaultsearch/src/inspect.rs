@@ -194,39 +194,53 @@ fn from_hex(text: &str) -> Option<Vec<u8>> {
     Some(digits.chunks(2).map(|two| 16 * two[0] + two[1]).collect())
 }
 
-/// What a good body of that form says, a line for each keyword that it has a record of.
+/// What a good body of that form says, a line for each record.
 fn explained(form: &Form, body: &[u8], keywords: &[&[u8]]) -> String {
     let mut text = String::new();
-    let width = form.width;
     let mut at = 0;
     while at < body.len() {
-        let (k, kind) = (usize::from(body[at]), body[at + 1]);
-        let (prefix, suffix) = match kind {
-            0 => (body[at + 2] % 2, body[at + 2] / 2),
-            _ => (body[at + 2], body[at + 3]),
-        };
-        let head = at + Form::HEAD;
-        let (first, count) = match kind {
-            0 => (at + 3, 0),
-            1 => (head, usize::from(body[at + 4])),
-            2 => (head + width, usize::from(body[at + 4])),
-            _ => (head + 2 * width, form.field_at(body, head + width)),
-        };
-        let shown: Vec<String> = (0..count.min(20)).map(|o| form.field_at(body, first + width * o).to_string()).collect();
-        let more = if count > 20 { " .." } else { "" };
+        let k = usize::from(body[at]);
         let word = keywords.get(k).map_or(String::new(), |word| text::ascii(word));
-        text.push_str(&format!(
-            "keyword {k} ({word}): prefix {prefix}, suffix {suffix}, {count} inside: {}{more}\n",
-            shown.join(" ")
-        ));
-        at = match kind {
-            0 => at + 3,
-            1 => head + width,
-            _ => first + width * count,
-        };
+        let (said, end) = if body[at + 1] == Form::SET { inner_starts(body, at) } else { ends_and_offsets(form, body, at) };
+        text.push_str(&format!("keyword {k} ({word}): {said}\n"));
+        at = end;
     }
     if text.is_empty() {
         text.push_str("no keyword has a record\n");
     }
     text
+}
+
+/// Numbers with a space between.
+fn spaced(numbers: impl Iterator<Item = usize>) -> String {
+    numbers.map(|number| number.to_string()).collect::<Vec<_>>().join(" ")
+}
+
+/// A set, of a chunk that is shorter than the keyword, and where the next record is.
+fn inner_starts(body: &[u8], at: usize) -> (String, usize) {
+    (format!("the chunk inside it at {}", spaced(Form::starts_at(body, at + 2).into_iter())), at + Form::SET_LENGTH)
+}
+
+/// A record of another kind, and where the next one is.
+fn ends_and_offsets(form: &Form, body: &[u8], at: usize) -> (String, usize) {
+    let (kind, width) = (body[at + 1], form.width);
+    let (prefix, suffix) = match kind {
+        0 => (body[at + 2] % 2, body[at + 2] / 2),
+        _ => (body[at + 2], body[at + 3]),
+    };
+    let head = at + Form::HEAD;
+    let (first, count) = match kind {
+        0 => (at + 3, 0),
+        1 => (head, usize::from(body[at + 4])),
+        2 => (head + width, usize::from(body[at + 4])),
+        _ => (head + 2 * width, form.field_at(body, head + width)),
+    };
+    let shown = spaced((0..count.min(20)).map(|o| form.field_at(body, first + width * o)));
+    let more = if count > 20 { " .." } else { "" };
+    let end = match kind {
+        0 => at + 3,
+        1 => head + width,
+        _ => first + width * count,
+    };
+    (format!("prefix {prefix}, suffix {suffix}, {count} inside: {shown}{more}"), end)
 }

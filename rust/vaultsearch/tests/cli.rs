@@ -117,17 +117,17 @@ fn the_help_names_the_limits() {
 fn an_index_is_kept_and_joined() {
     let folder = Folder::new("index");
     folder.prints("scan store.bin --words words.bin -o index.bin", "index.bin: 138 bytes for a store of 100 bytes, 10 moves\n");
-    assert_eq!(folder.read("index.bin")[..4], *b"DM2\n");
+    assert_eq!(folder.read("index.bin")[..4], *b"DM3\n");
     assert_eq!(folder.read("index.bin")[113..121], [0, 1, 2, 0, 0, 0, 0, 0]);
     folder.prints("join index.bin recipes.bin --format plain", "finds 3\n0 1 0\n0 3 0\n1 0 1\n");
-    let good = "store.bin: good, 3 chunks, 8 bytes in them, 0 bytes in holes\nindex.bin: good, 3 chunks, mark DM2\nrecipes.bin: good, 3 files, 3 occurrences\n";
+    let good = "store.bin: good, 3 chunks, 8 bytes in them, 0 bytes in holes\nindex.bin: good, 3 chunks, mark DM3\nrecipes.bin: good, 3 files, 3 occurrences\n";
     folder.prints("check --store store.bin --index index.bin --recipes recipes.bin", good);
     let key = "02".repeat(20);
     folder.prints(&format!("lookup --store store.bin {key}"), "chunk of 4 bytes at 95\nABAX\n");
     folder.prints(&format!("lookup --store store.bin {key} -o chunk"), "");
     assert_eq!(folder.read("chunk"), b"ABAX");
     let explained = "keyword 0 (ABA): prefix 0, suffix 1, 1 inside: 0\nkeyword 1 (AA): prefix 0, suffix 1, 0 inside: \n";
-    let body = format!("body of 11 bytes at 121, mark DM2\n{explained}");
+    let body = format!("body of 11 bytes at 121, mark DM3\n{explained}");
     folder.prints(&format!("lookup --index index.bin {key}"), &body);
     folder.refuses(&format!("lookup --store store.bin {}", "04".repeat(20)), 15, "not there");
     folder.refuses("lookup --index index.bin 0102", 19, "20 bytes");
@@ -208,11 +208,11 @@ fn an_index_under_the_old_mark() {
     folder.write("old.bin", &old_index());
     folder.prints("join old.bin recipes.bin --format plain", "finds 3\n0 1 0\n0 3 0\n1 0 1\n");
     folder.prints("join old.bin recipes.bin --count", "3\n");
-    let good = "old.bin: good, 3 chunks, mark DM1 (older; a scan writes DM2)\nrecipes.bin: good, 3 files, 3 occurrences\n";
+    let good = "old.bin: good, 3 chunks, mark DM1 (older; a scan writes DM3)\nrecipes.bin: good, 3 files, 3 occurrences\n";
     folder.prints("check --index old.bin --recipes recipes.bin", good);
     let (_, entries, _) = folder.run("check --index old.bin --entries");
     assert!(entries.ends_with(&format!("{}\t130\t6\n", "03".repeat(20))), "{entries}");
-    let body = "body of 10 bytes at 120, mark DM1 (older; a scan writes DM2)\nkeyword 0 (ABA): prefix 0, suffix 1, 1 inside: 0\nkeyword 1 (AA): prefix 0, suffix 1, 0 inside: \n";
+    let body = "body of 10 bytes at 120, mark DM1 (older; a scan writes DM3)\nkeyword 0 (ABA): prefix 0, suffix 1, 1 inside: 0\nkeyword 1 (AA): prefix 0, suffix 1, 0 inside: \n";
     folder.prints(&format!("lookup --index old.bin {}", "02".repeat(20)), body);
     // Its chunks have at most 65,535 bytes, those of the newest mark 1,048,576; the bodies of one are not good under the other.
     for (mark, size, code) in [
@@ -221,15 +221,65 @@ fn an_index_under_the_old_mark() {
         (b"DM2\n", 65_536, 0),
         (b"DM2\n", 1_048_576, 0),
         (b"DM2\n", 1_048_577, 11),
-        (b"DM3\n", 1, 10),
+        (b"DM3\n", 1_048_576, 0),
+        (b"DM3\n", 1_048_577, 11),
+        (b"DM4\n", 1, 10),
     ] {
         let entry = [&[1; 20][..], &size.to_le_bytes(), &[44, 0, 0, 0, 0, 0, 0, 0]].concat();
         folder.write("long.bin", &[&mark[..], &[1, 0, 0, 0, 1, 0, 1, 0x41], &entry].concat());
         let (status, out, err) = folder.run("check --index long.bin");
         assert_eq!(status, code, "{out}{err}");
     }
-    folder.write("old.bin", &[b"DM2\n", &old_index()[4..]].concat());
-    folder.refuses("join old.bin recipes.bin", 13, "written form");
+    for mark in [b"DM2\n", b"DM3\n"] {
+        folder.write("old.bin", &[mark, &old_index()[4..]].concat());
+        folder.refuses("join old.bin recipes.bin", 13, "written form");
+    }
+}
+
+/// Document 01's refused case: 17 with an index of the older marks, a list with the newest, by scan and join and by search.
+#[test]
+fn a_short_chunk_inside_a_file() {
+    let folder = Folder::new("short-inside");
+    assert_eq!(folder.run("scan store.bin --words words.bin -o index.bin").0, 0);
+    folder.write("three.bin", &recipes(&[&[1, 3, 2]]));
+    let list = "finds 3\n0 1 0\n0 3 1\n0 4 0\n";
+    folder.prints("join index.bin three.bin --format plain", list);
+    folder.prints("search store.bin three.bin --words words.bin --format plain", list);
+    for old in [old_index(), [b"DM2\n", &folder.read("index.bin")[4..]].concat()] {
+        folder.write("old.bin", &old);
+        folder.prints("join old.bin recipes.bin --format plain", "finds 3\n0 1 0\n0 3 0\n1 0 1\n");
+        folder.refuses("join old.bin three.bin -o out", 17, "shorter than the longest keyword");
+        folder.refuses("join old.bin three.bin --count", 17, "of too old a mark (DM1 or DM2)");
+        folder.refuses("check --index old.bin --recipes three.bin", 17, "scan the store anew");
+        assert!(!folder.0.join("out").exists(), "a refusal writes nothing");
+    }
+}
+
+/// Small logs: each letter a chunk. What a set of inner starts says is shown.
+#[test]
+fn keywords_over_many_chunks() {
+    let folder = Folder::new("many-chunks");
+    folder.write(
+        "letters.bin",
+        &store(&[(1, b"", b"l"), (2, b"", b"o"), (3, b"", b"g"), (4, b"", b"in"), (5, b"", b"."), (6, b"", b"ogi")], b""),
+    );
+    folder.write("files.bin", &recipes(&[&[1, 2, 3, 4], &[5, 1, 2, 3, 4, 5, 1, 6], &[1, 2, 3], &[4], &[1, 2, 5, 3, 4]]));
+    folder.prints(
+        "search letters.bin files.bin --word login --word logi --format plain",
+        "finds 5\n0 0 0\n0 0 1\n1 1 0\n1 1 1\n1 7 1\n",
+    );
+    assert_eq!(folder.run("scan letters.bin --word login --word oooo -o index.bin").0, 0);
+    let lookup = |key: u8, start: &str, want: &str| {
+        let (status, out, err) = folder.run(&format!("lookup --index index.bin {}", format!("{key:02}").repeat(20)));
+        assert!(status == 0 && out.starts_with(start) && out.ends_with(&format!(", mark DM3\n{want}")), "{out}{err}");
+    };
+    lookup(1, "body of 3 bytes at ", "keyword 0 (login): prefix 1, suffix 0, 0 inside: \n");
+    let twice = "keyword 0 (login): the chunk inside it at 1\nkeyword 1 (oooo): prefix 1, suffix 1, 0 inside: \nkeyword 1 (oooo): the chunk inside it at 1 2\n";
+    lookup(2, "body of 15 bytes at ", twice);
+    lookup(4, "body of 8 bytes at ", "keyword 0 (login): prefix 0, suffix 2, 0 inside: \n");
+    let first = "keyword 0 (login): the chunk inside it at 1\nkeyword 1 (oooo): prefix 0, suffix 1, 0 inside: \n";
+    lookup(6, "body of 9 bytes at ", first);
+    lookup(5, "body of 0 bytes at ", "no keyword has a record\n");
 }
 
 /// A chunk of 1,048,576 bytes, from plain files to the list, by both cuts: also with an occurrence at each byte.
@@ -360,11 +410,7 @@ fn every_refusal_is_told() {
         folder.refuses("join bad recipes.bin", code, meaning);
         folder.refuses("check --index bad", code, meaning);
     }
-    for (code, bytes, meaning) in [
-        (14, vec![1, 0, 0], "not recipes"),
-        (15, recipes(&[&[9]]), "not there"),
-        (17, recipes(&[&[1, 3, 2]]), "shorter than the longest keyword"),
-    ] {
+    for (code, bytes, meaning) in [(14, vec![1, 0, 0], "not recipes"), (15, recipes(&[&[9]]), "not there")] {
         folder.write("bad", &bytes);
         folder.refuses("join index.bin bad", code, meaning);
         folder.refuses("search store.bin bad --words words.bin -o out", code, meaning);

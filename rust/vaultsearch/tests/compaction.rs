@@ -51,7 +51,7 @@ fn nothing_named() {
 #[test]
 fn a_search_lists_the_same() {
     let folder = folder("compact-search");
-    for (files, status) in [(&[&[1, 2][..], &[3, 3], &[]][..], 0), (&[&[2, 1, 2, 3], &[9, 2]], 0), (&[&[2], &[1, 3, 2]], 17)] {
+    for (files, status) in [(&[&[1, 2][..], &[3, 3], &[]][..], 0), (&[&[2, 1, 2, 3], &[9, 2]], 0), (&[&[2], &[1, 3, 2]], 0)] {
         folder.write("recipes.bin", &recipes(files));
         assert_eq!(folder.run(LINE).0, 0);
         let of = |store: &str| {

@@ -7,7 +7,7 @@ use native.Mathlib.Numerals.{add-one}
 use native.Mathlib.Omega.{arith}
 use lib.ListN.{length, getD}
 use Rattle.spec.specs.Keywords.{flagOf, foldedKeywords}
-use Rattle.spec.specs.Table.{setOf}
+use Rattle.spec.specs.Bytes.{setOf}
 use Rattle.spec.specs.Join.{keywordAt}
 use Rattle.spec.proofs.Sets.{set-lt}
 use Rattle.keywords.specs.declared.Keywords.{Keywords}

@@ -1,8 +1,7 @@
 -- `files::file_code` meets its contract: the measure's tests in their order. Assumes nothing.
-use Prim.Native.Nat.{_-_}
 use denote.Ref.{now}
 use Rattle.spec.specs.Recipes.{named}
-use Rattle.files.specs.Measures.{keysAt, sizesAt}
+use Rattle.files.specs.Measures.{keysAt, sizesAt, leastIn}
 use Rattle.files.proofs.Measuring.{tested}
 use borrow.Author.Needs.{needs}
 use Rattle.files.proofs.file_code.Statement.{statement}
@@ -23,7 +22,7 @@ returns c =
     let a = m .before .before .before .before .before .before .args in
     let r = m .measure-file in
     let index = now (a .index) in
-    tested (keysAt index (a .opened .directory) (a .opened .entries)) (sizesAt index (a .opened .directory)) (a .opened .longest - 1)
+    tested (keysAt index (a .opened .directory) (a .opened .entries)) (sizesAt index (a .opened .directory)) (leastIn (a .opened))
     (named (now (a .file))) (now (a .slots))
     (r .last .1 .1 .1 .1 .0) (r .result .missing) (r .result .total) (r .result .short)
     (c .first-of .result) (r .ensures) (c .first-of .ensures)

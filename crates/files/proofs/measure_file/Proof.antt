@@ -5,7 +5,7 @@ use native.Mathlib.Omega.{arith}
 use lib.ListN.{length}
 use denote.Ref.{now}
 use Rattle.spec.specs.Recipes.{named}
-use Rattle.files.specs.Measures.{keysAt, sizesAt, innerShort}
+use Rattle.files.specs.Measures.{keysAt, sizesAt, innerShort, leastIn}
 use Rattle.files.proofs.Measuring.{measuring-start}
 use Rattle.files.proofs.Places.{Before, place-missing, place-on, place-end}
 use Rattle.files.proofs.measure_file.Statement.{statement}
@@ -14,7 +14,7 @@ use Rattle.files.proofs.measure_file.Tie as tie
 abbrev Inv-loop : tie.InvT-loop
 Inv-loop file index opened chains slots₀ least count n total₀ short₀ j₀ slots total short j =
     (j ≤ length file / 20) × (n ≡ length file / 20) × (length slots ≡ length slots₀)
-    × Before file index (opened .directory) (opened .entries) (opened .longest - 1) slots₀ j total short slots
+    × Before file index (opened .directory) (opened .entries) (leastIn opened) slots₀ j total short slots
 
 abbrev μ-loop : tie.MeasureT-loop
 μ-loop file index opened chains slots₀ least count n total₀ short₀ j₀ slots total short j = n - j
@@ -29,7 +29,7 @@ loop-holds c =
       omega arith,
       refl,
       refl,
-      measuring-start (keysAt index (a .opened .directory) (a .opened .entries)) (sizesAt index (a .opened .directory)) (a .opened .longest - 1)
+      measuring-start (keysAt index (a .opened .directory) (a .opened .entries)) (sizesAt index (a .opened .directory)) (leastIn (a .opened))
           (named (now (a .file))) (now (a .slots)),
     )
 
@@ -47,7 +47,7 @@ returns c =
     let a = p .before .before .before .before .before .before .args in
     let l = p .loop in
     let e = c .before .entry-of in
-    place-missing (now (a .file)) (now (a .index)) (a .opened .directory) (a .opened .entries) (a .opened .longest - 1) (now (a .slots))
+    place-missing (now (a .file)) (now (a .index)) (a .opened .directory) (a .opened .entries) (leastIn (a .opened)) (now (a .slots))
     (l .j) (l .total) (l .short) (l .slots) (l .inv .3) (omega arith) (e .result) (e .ensures) (c .if1 .taken)
 
 keep-requires : tie.Need-keep-requires Inv-loop μ-loop
@@ -86,7 +86,7 @@ loop-again c =
       omega arith,
       l .inv .1,
       k .keep .kept .0 ∙ l .inv .2,
-      place-on (now (a .file)) (now (a .index)) (a .opened .directory) (a .opened .entries) (a .opened .longest - 1) (now (a .slots))
+      place-on (now (a .file)) (now (a .index)) (a .opened .directory) (a .opened .entries) (leastIn (a .opened)) (now (a .slots))
           (l .j) (l .total) (l .short) (l .slots) (l .inv .3) (omega arith)
           (f .result) (z .result) (f .ensures) (e .if1 .left) (z .ensures) (t .result) (t .ensures)
           (c .inner-short .result) (c .inner-short .ensures ∙ short) (k .keep .last .0) (k .keep .ensures),
@@ -100,7 +100,7 @@ returns-2 c =
     let p = c .before in
     let a = p .before .before .before .before .before .before .args in
     let l = p .loop in
-    place-end (now (a .file)) (now (a .index)) (a .opened .directory) (a .opened .entries) (a .opened .longest - 1) (now (a .slots))
+    place-end (now (a .file)) (now (a .index)) (a .opened .directory) (a .opened .entries) (leastIn (a .opened)) (now (a .slots))
     (l .j) (l .total) (l .short) (l .slots) (l .inv .3) (omega arith)
 
 pub measure-file-spec : {M : Type 1} → statement M

@@ -1,19 +1,22 @@
--- `index_writer::measure_bodies` meets its contract. The invariant: lengths and moves so far and those of what is left are the whole. Assumes nothing.
+-- `index_writer::measure_bodies` meets its contract. The invariant: lengths, moves and marks so far and those of what is left are the whole. Assumes
+-- nothing.
 use mathlib.Core.Path.{_≡_, refl, ap, _∙_}
 use mathlib.Core.List.{List}
 use Prim.Native.Nat.{ℕ, _+_, _*_, _-_, _≤_, _<_}
 use native.Mathlib.Nat.{zero-add}
 use native.Mathlib.Omega.{arith}
 use lib.ListN.{length, length-set}
+use Rattle.spec.specs.Bytes.{splice}
 use Rattle.spec.specs.Store.{chunkCount, chunkAt}
 use Rattle.spec.specs.Form.{newest}
 use Rattle.spec.specs.Scan.{scanBody}
 use Rattle.spec.proofs.StoreLaws.{store-good}
 use Rattle.chunkwalk.specs.Marks.{chunkMoves, markOf}
 use Rattle.chunkwalk.proofs.Walking.{equipped-on, measured-size, measured-moves, measured-mark}
-use Rattle.index_writer.specs.Layout.{bodiesFrom, Marked}
+use Rattle.index_writer.specs.Layout.{bodiesFrom}
 use Rattle.index_writer.proofs.Parts.{bodies-length, bodies-end, bodies-most, body-short}
-use Rattle.index_writer.proofs.Moves.{Lengths, movesAt, movesLeft, moves-all, moves-step, moves-end, moves-most, marked-more}
+use Rattle.index_writer.proofs.Moves.{Lengths, movesAt, movesLeft, moves-all, moves-step, moves-end, moves-most}
+use Rattle.index_writer.proofs.MarkLaws.{marksLeft, marks-all, marks-turn, marks-end}
 use Rattle.index_writer.proofs.measure_bodies.Statement.{statement}
 use Rattle.index_writer.proofs.measure_bodies.Tie as tie
 
@@ -25,7 +28,7 @@ Inv-loop list words store count table ends tails log₀ run1₀ run2₀ run3₀ 
     × (size + length (bodiesFrom newest list store j) ≡ length (bodiesFrom newest list store 0))
     × (moves + movesLeft store (movesAt list store) j ≡ movesLeft store (movesAt list store) 0)
     × (moves ≤ 2097152 * j)
-    × Marked list store marks j
+    × (splice marks j (marksLeft list store j) ≡ splice marks₀ 0 (marksLeft list store 0))
 
 abbrev μ-loop : tie.MeasureT-loop
 μ-loop list words store count table ends tails log₀ run1₀ run2₀ run3₀ marks₀ size₀ moves₀ j₀ log run1 run2 run3 marks size moves j = count - j
@@ -55,7 +58,7 @@ loop-holds c = (
   zero-add _,
   zero-add _,
   omega arith,
-  λ k h. let z : ⊥ = omega arith in absurd z,
+  refl,
 )
 
 chunk-at-requires : tie.Need-chunk-at-requires Inv-loop μ-loop
@@ -161,12 +164,12 @@ loop-again c =
         run2 = k .1 .1 .0 ∙ l .inv .1 .run2;
         run3 = k .1 .1 .1 .0 ∙ l .inv .1 .run3;
       },
-      length-set (l .marks) (l .j) (m .measure .result .mark) ∙ l .inv .2,
+      length-set (l .marks) (l .j) _ ∙ l .inv .2,
       omega (arith, step m, l .inv .3),
       omega (arith, moves-is m, moves-step (a .store .now) (movesAt (a .list .now) (a .store .now)) (l .j) (within i), l .inv .4),
       omega (arith, moves-few m, l .inv .5),
-      marked-more (a .list .now) (a .store .now) (l .marks) (l .j) (m .measure .result .mark) (omega (arith, few i, l .inv .2, s .pre .long)) (mark-is m)
-          (l .inv .6),
+      marks-turn (a .list .now) (a .store .now) (l .marks) (splice (a .marks .now) 0 (marksLeft (a .list .now) (a .store .now) 0)) (l .j)
+          (m .measure .result .mark) (within i) (omega (arith, few i, l .inv .2, s .pre .long)) (mark-is m) (l .inv .6),
     )
 
 same-length : tie.Need-same-length Inv-loop μ-loop
@@ -192,7 +195,7 @@ returns c =
     let e : chunkCount (a .store .now) ≤ l .j = omega (arith, c .loop-test .left, s .pre .walks .counted) in (
       omega (arith, l .inv .3, ap length (bodies-end newest (a .list .now) (a .store .now) (l .j) e)),
       omega (arith, l .inv .4, moves-end (a .store .now) (movesAt (a .list .now) (a .store .now)) (l .j) e, moves-all (a .list .now) (a .store .now)),
-      λ k h. l .inv .6 k (omega arith),
+      marks-end (a .list .now) (a .store .now) (l .marks) _ (l .j) e (l .inv .6) ∙ ap (splice (a .marks .now) 0) (marks-all (a .list .now) (a .store .now)),
     )
 
 pub measure-bodies-spec : {M : Type 1} → statement M

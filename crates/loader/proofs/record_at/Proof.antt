@@ -1,23 +1,52 @@
 -- `loader::record_at` meets its contract: each kind's row is a law of Rows.
-use Prim.Native.Nat.{_+_, _≤_}
+use mathlib.Core.Path.{_≡_}
+use mathlib.Core.Logic.{_≢_}
+use mathlib.Core.Bool.{false}
+use mathlib.Core.List.{[], _∷_}
+use Prim.Native.Nat.{ℕ, _+_, _≤_}
 use native.Mathlib.Omega.{arith}
-use lib.ListN.{length}
+use lib.ListN.{length, getD}
+use Rattle.spec.specs.Bytes.{part}
 use Rattle.spec.specs.Form.{formIn}
-use Rattle.loader.proofs.Rows.{room-least, room-full, room-exact, row-is, row-tiny, row-none, row-one, row-two, row-three}
+use Rattle.spec.specs.Records.{readRecord, readKeyword, recordSize, recordTaken, setIsNext}
+use Rattle.loader.specs.Loaded.{rowAt}
+use Rattle.loader.proofs.Rows.{head-least, head-full, whole-here, not-set, row-here, RowAt, row-tiny, row-none, row-one, row-two}
 use borrow.Author.Needs.{needs}
 use Rattle.loader.proofs.record_at.Statement.{statement}
 use Rattle.loader.proofs.record_at.Tie as tie
 
--- room for what every record has, and for a full record's head
+-- room for what every keyword has whose number is next, and for what it has of another kind than 0
 least : (s : tie.Start) → s .args .at + 3 ≤ length (s .args .index .now)
-least s = room-least (formIn (s .args .format)) (s .args .index .now) (s .args .at) (s .args .len) (s .pre .0) (s .pre .1)
+least s = head-least (formIn (s .args .format)) (s .args .index .now) (s .args .at) (s .args .len) (s .args .k) (s .pre .0) (s .pre .1) (s .pre .3) (s .pre .4)
 
 full : (c : tie.Else1)
     → let a = c .before .before .before .before .args in
-    a .at + (5 + a .format .width) ≤ length (a .index .now)
+    a .at + 5 ≤ length (a .index .now)
 full c =
     let s = c .before .before .before .before in
-    room-full (formIn (s .args .format)) (s .args .index .now) (s .args .at) (s .args .len) (s .pre .0) (s .pre .1) (c .if1 .left)
+    head-full (formIn (s .args .format)) (s .args .index .now) (s .args .at) (s .args .len) (s .args .k) (s .pre .0) (s .pre .1) (s .pre .3) (s .pre .4)
+    (c .if1 .left)
+
+-- a kind other than a set's: its record is next, and lies whole in the body
+alone : (s : tie.Start) → getD (s .args .index .now) (s .args .at + 1) 0 ≢ 4
+    → setIsNext (formIn (s .args .format)) (s .args .k) (part (s .args .index .now) (s .args .at) (s .args .len)) ≡ false
+alone s h = not-set (formIn (s .args .format)) (s .args .index .now) (s .args .at) (s .args .len) (s .args .k) (s .pre .0) (s .pre .1) (s .pre .3) (s .pre .4) h
+
+whole : (s : tie.Start) → getD (s .args .index .now) (s .args .at + 1) 0 ≢ 4
+    → recordSize (formIn (s .args .format)) (part (s .args .index .now) (s .args .at) (s .args .len)) ≤ s .args .len
+whole s h =
+    whole-here (formIn (s .args .format)) (s .args .index .now) (s .args .at) (s .args .len) (s .args .k) (s .pre .0) (s .pre .1) (s .pre .3) (s .pre .4)
+    (alone s h)
+
+-- so its row is the keyword's
+its-row : (s : tie.Start) → getD (s .args .index .now) (s .args .at + 1) 0 ≢ 4 → {a b c d : ℕ}
+    → let f = formIn (s .args .format) in
+    let here = part (s .args .index .now) (s .args .at) (s .args .len) in
+    RowAt (s .args .index .now) (f .width) (s .args .at) (a ∷ b ∷ c ∷ d ∷ []) (readRecord f here) (recordSize f here)
+    → a ∷ b ∷ c ∷ d ∷ [] ≡ rowAt (f .width) (s .args .at) (recordTaken f (s .args .k) here) (readKeyword f (s .args .k) here)
+its-row s h =
+    row-here (formIn (s .args .format)) (s .args .index .now) (s .args .at) (s .args .len) (s .args .k) (s .pre .0) (s .pre .1) (s .pre .3) (s .pre .4)
+    (alone s h)
 
 add-kind : tie.Need-add-kind
 add-kind c = search needs
@@ -40,7 +69,7 @@ add-t18 c = search needs
 returns : tie.Need-returns
 returns c =
     let s = c .before .before .before .before in
-    row-is (row-tiny (formIn (s .args .format)) (s .args .index .now) (s .args .at) (s .args .len) (s .pre .0) (s .pre .1) (c .if1 .taken))
+    its-row s (λ e. omega (arith, c .if1 .taken)) (row-tiny (formIn (s .args .format)) (s .args .index .now) (s .args .at) (s .args .len) (s .pre .0) (whole s (λ e. omega (arith, c .if1 .taken))) (c .if1 .taken))
 
 add-suffix : tie.Need-add-suffix
 add-suffix c = search needs
@@ -69,8 +98,8 @@ add-t23 c = search needs
 returns-2 : tie.Need-returns-2
 returns-2 c =
     let s = c .before .before .before .before .before .before .before .before in
-    row-is
-    (row-none (formIn (s .args .format)) (s .args .index .now) (s .args .at) (s .args .len) (s .pre .0) (s .pre .1)
+    its-row s (λ e. omega (arith, c .before .if2 .taken))
+    (row-none (formIn (s .args .format)) (s .args .index .now) (s .args .at) (s .args .len) (s .pre .0) (whole s (λ e. omega (arith, c .before .if2 .taken)))
     (c .before .before .before .before .if1 .left) (c .before .if2 .taken) (c .if3 .taken))
 
 add-t24 : tie.Need-add-t24
@@ -79,8 +108,8 @@ add-t24 c = search needs
 returns-3 : tie.Need-returns-3
 returns-3 c =
     let s = c .before .before .before .before .before .before .before .before in
-    row-is
-    (row-one (formIn (s .args .format)) (s .args .index .now) (s .args .at) (s .args .len) (s .pre .0) (s .pre .1)
+    its-row s (λ e. omega (arith, c .before .if2 .taken))
+    (row-one (formIn (s .args .format)) (s .args .index .now) (s .args .at) (s .args .len) (s .pre .0) (whole s (λ e. omega (arith, c .before .if2 .taken)))
     (c .before .before .before .before .if1 .left) (c .before .if2 .taken) (c .if3 .left))
 
 add-t25 : tie.Need-add-t25
@@ -92,41 +121,17 @@ add-t26 c = search needs
 returns-4 : tie.Need-returns-4
 returns-4 c =
     let s = c .before .before .before .before .before .before .before .before in
-    row-is
-    (row-two (formIn (s .args .format)) (s .args .index .now) (s .args .at) (s .args .len) (s .pre .0) (s .pre .1)
+    its-row s (λ e. omega (arith, c .if4 .taken))
+    (row-two (formIn (s .args .format)) (s .args .index .now) (s .args .at) (s .args .len) (s .pre .0) (whole s (λ e. omega (arith, c .if4 .taken)))
     (c .before .before .before .before .if1 .left) (c .if4 .taken))
 
-add-read-offset : tie.Need-add-read-offset
-add-read-offset c = search needs
-
-add-read-offset-2 : tie.Need-add-read-offset-2
-add-read-offset-2 c = search needs
-
-read-offset-requires : tie.Need-read-offset-requires
-read-offset-requires c κs =
+exact-at-requires : tie.Need-exact-at-requires
+exact-at-requires c κs =
     let s = c .before .before .before .before .before .before .before .before in
-    let a = s .args in (
-      omega arith,
-      room-exact (formIn (a .format)) (a .index .now) (a .at) (a .len) (s .pre .0) (s .pre .1)
-          (c .before .before .before .before .if1 .left) (c .before .if2 .left) (c .if4 .left),
-    )
-
-mul-t11 : tie.Need-mul-t11
-mul-t11 c = search needs
-
-add-t28 : tie.Need-add-t28
-add-t28 c = search needs
-
-add-t29 : tie.Need-add-t29
-add-t29 c = search needs
+    (s .pre .0, s .pre .1, s .pre .2, s .pre .3, s .pre .4, omega (arith, c .before .before .before .before .if1 .left, c .before .if2 .left, c .if4 .left))
 
 returns-5 : tie.Need-returns-5
-returns-5 c =
-    let s = c .before .before .before .before .before .before .before .before .before in
-    row-is
-    (row-three (formIn (s .args .format)) (s .args .index .now) (s .args .at) (s .args .len) (s .pre .0) (s .pre .1)
-    (c .before .before .before .before .before .if1 .left) (c .before .before .if2 .left) (c .before .if4 .left)
-    (c .read-offset .result) (c .read-offset .ensures))
+returns-5 c = c .exact-at .ensures
 
 pub record-at-spec : {M : Type 1} → statement M
 record-at-spec =
@@ -153,10 +158,5 @@ record-at-spec =
     add-t25
     add-t26
     returns-4
-    add-read-offset
-    add-read-offset-2
-    read-offset-requires
-    mul-t11
-    add-t28
-    add-t29
+    exact-at-requires
     returns-5)

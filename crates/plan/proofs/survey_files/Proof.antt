@@ -10,6 +10,7 @@ use Rattle.spec.specs.Directory.{sizeAt}
 use Rattle.spec.specs.Index.{indexLayout, indexKeys}
 use Rattle.spec.specs.Recipes.{named, fileCount, fileCode}
 use Rattle.recipes.proofs.Files.{walk-file, accepted}
+use Rattle.files.specs.Measures.{leastIn}
 use Rattle.files.proofs.OfIndex.{index-code, index-slotted}
 use Rattle.walk.specs.Walking.{File}
 use Rattle.walk.proofs.Entries.{lies, starts, counts}
@@ -58,7 +59,7 @@ test c =
     let f = c .before .before .file-at in
     let t = c .file-code in
     index-code (now (a .index)) (a .opened .directory) (a .opened .entries) (starts (now (a .index)) (a .opened) d) (counts (now (a .index)) (a .opened) d)
-    (a .opened .longest - 1) (named (now (f .result))) (turn c .loop .slots) (slots₁ c) (t .result) (t .ensures)
+    (leastIn (a .opened)) (named (now (f .result))) (turn c .loop .slots) (slots₁ c) (t .result) (t .ensures)
     ∙ ap (λ (n : ℕ). fileCode (indexKeys (now (a .index))) (sizeAt (indexLayout (now (a .index))) (now (a .index))) n (named (now (f .result))))
     (inner-least (now (a .index)) (a .opened) (d .read))
 
@@ -76,7 +77,7 @@ walks c z =
     file-walks (now (a .index)) (now (a .recipes)) (l .k) (l .at) (l .inv .2 .walk) (omega arith) (now (f .result)) (f .ensures)
     (slots₁ c) (sym (test c) ∙ z)
     (index-slotted (now (a .index)) (a .opened .directory) (a .opened .entries) (starts (now (a .index)) (a .opened) d) (counts (now (a .index)) (a .opened) d)
-    (a .opened .longest - 1) (named (now (f .result))) (l .slots) (slots₁ c) (t .result) (t .ensures) z)
+    (leastIn (a .opened)) (named (now (f .result))) (l .slots) (slots₁ c) (t .result) (t .ensures) z)
 
 -- the file's count is small
 small : (c : tie.After-count-file Inv-loop μ-loop) → c .count-file .result < 2 ^ 36

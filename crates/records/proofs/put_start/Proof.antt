@@ -1,139 +1,30 @@
 -- `records::put_start` meets its contract. Assumes nothing.
-use mathlib.Core.Path.{_≡_, sym, ap, _∙_}
-use mathlib.Core.Bool.{true, false}
-use Prim.Native.Nat.{ℕ, _≤_, _<_}
+use mathlib.Core.Path.{_∙_}
 use native.Mathlib.Omega.{arith}
-use lib.ListN.{length}
-use Rattle.spec.specs.Form.{newest}
-use Rattle.records.specs.Summaries.{emptyIn, tinyIn}
-use Rattle.records.proofs.Starts.{
-  headSize,
-  startMost,
-  tiny-prefix-most,
-  tiny-suffix-most,
-  start-tiny,
-  start-least,
-  length-tiny,
-  length-head,
-  length-many,
-  put-nothing,
-  put-as-tiny,
-  put-as-few,
-  put-as-many,
-}
-use borrow.Author.Needs.{needs}
+use Rattle.records.proofs.SetLaws.{start-length, put-both}
 use Rattle.records.proofs.put_start.Statement.{statement}
 use Rattle.records.proofs.put_start.Tie as tie
 
-is-empty-requires : tie.Need-is-empty-requires
-is-empty-requires c κs = search needs
+put-record-requires : tie.Need-put-record-requires
+put-record-requires c κs = c .before .before .pre
+
+put-set-requires : tie.Need-put-set-requires
+put-set-requires c κs =
+    let p = c .before .before .before in
+    let s = p .before .before .before in
+    let r = p .put-record in
+    (omega (arith, s .pre .room, r .kept .0, r .ensures 0 .ends, start-length 0 (s .args .k) (s .args .s)), s .pre .number)
+
+same-length : tie.Need-same-length
+same-length c = let x = c .before .before in x .put-set .kept .0 ∙ x .before .before .before .before .put-record .kept .0
 
 returns : tie.Need-returns
 returns c = λ n.
-    let e = c .before in
-    let a = e .before .before .args in
-    put-nothing (a .out .now) (a .k) (a .s) n (sym (e .is-empty .ensures) ∙ c .if1 .taken)
-
-is-tiny-requires : tie.Need-is-tiny-requires
-is-tiny-requires c κs = search needs
-
--- not empty
-some : (c : tie.After-is-tiny) → emptyIn (c .before .before .before .before .args .s) ≡ false
-some c = sym (c .before .before .is-empty .ensures) ∙ c .before .if1 .left
-
-tiny : (c : tie.Then2) (n : ℕ) → tinyIn newest n (c .before .before .before .before .before .args .s) ≡ true
-tiny c n = sym (c .before .is-tiny .ensures n) ∙ c .if2 .taken
-
-full : (c : tie.Else2) (n : ℕ) → tinyIn newest n (c .before .before .before .before .before .args .s) ≡ false
-full c n = sym (c .before .is-tiny .ensures n) ∙ c .if2 .left
-
-put-tiny-requires : tie.Need-put-tiny-requires
-put-tiny-requires c κs =
-    let t = c .before in
-    let b = t .before .before .before .before .before in
-    let s = b .args .s in (
-      omega (arith, b .pre .room, ap length (start-tiny 0 (b .args .k) s (some (t .before)) (tiny t 0)), length-tiny 0 (b .args .k) s),
-      b .pre .number,
-      tiny-prefix-most s 0 (tiny t 0),
-      tiny-suffix-most s 0 (tiny t 0),
-    )
-
-same-length : tie.Need-same-length
-same-length c = search needs
-
-returns-2 : tie.Need-returns-2
-returns-2 c = λ n.
-    let p = c .before .before in
-    let t = p .before .before in
-    let a = t .before .before .before .before .before .args in
-    put-as-tiny (a .out .now) (a .k) (a .s) n (p .put-tiny .result) (p .put-tiny .last .0) (some (t .before)) (tiny t n) (p .put-tiny .ensures)
-
--- a full record's head has room, and its exact count
-room : (c : tie.Else2) → let b = c .before .before .before .before .before in
-    (headSize ≤ length (b .args .out .now)) × (254 < b .args .s .count → startMost ≤ length (b .args .out .now))
-room c =
-    let b = c .before .before .before .before .before in
-    let s = b .args .s in (
-      omega (arith, b .pre .room, start-least 0 (b .args .k) s (some (c .before)) (full c 0)),
-      λ h. omega (arith, b .pre .room, length-many 0 (b .args .k) s (some (c .before)) (full c 0) h),
-    )
-
-put-head-requires : tie.Need-put-head-requires
-put-head-requires c κs =
-    let b = c .before .before .before .before .before .before in
-    (room (c .before) .0, b .pre .number, b .pre .prefixed, b .pre .suffixed)
-
-same-length-2 : tie.Need-same-length-2
-same-length-2 c = search needs
-
-returns-3 : tie.Need-returns-3
-returns-3 c = λ n.
-    let p = c .before .before .before in
-    let f = p .before .before in
-    let a = f .before .before .before .before .before .args in
-    put-as-few (a .out .now) (a .k) (a .s) n (p .put-head .result) (p .put-head .last .0) (some (f .before)) (full f n) (c .if3 .taken) (p .put-head .ensures)
-
-write-requires : tie.Need-write-requires
-write-requires c κs =
-    let e = c .before in
-    let p = e .before .before .before in
-    let f = p .before .before in
-    let a = f .before .before .before .before .before .args in
-    omega (arith, room f .1 (omega arith), p .put-head .kept .0, p .put-head .ensures .ends, length-head 0 (a .k) (a .s))
-
-add-result : tie.Need-add-result
-add-result c =
-    let p = c .before .before .before .before .before .before .before in
-    let a = p .before .before .before .before .before .before .before .args in
-    omega (arith, p .put-head .ensures .ends, length-head 0 (a .k) (a .s))
-
-same-length-3 : tie.Need-same-length-3
-same-length-3 c = search needs
-
-returns-4 : tie.Need-returns-4
-returns-4 c = λ n.
-    let w = c .before .before in
-    let e = w .before .before in
-    let p = e .before .before .before in
-    let f = p .before .before in
-    let a = f .before .before .before .before .before .args in
-    put-as-many (a .out .now) (a .k) (a .s) n (p .put-head .result) (p .put-head .last .0) (w .write .last .0)
-    (some (f .before)) (full f n) (omega arith) (p .put-head .ensures) (w .write .ensures)
+    let x = c .before .before in
+    let p = x .before .before .before .before in
+    let a = p .before .before .before .args in
+    let r = p .put-record in
+    put-both (a .out .now) (r .last .0) (x .put-set .last .0) n (a .k) (r .result) (x .put-set .result) (a .s) (r .ensures n) (x .put-set .ensures)
 
 pub put-start-spec : {M : Type 1} → statement M
-put-start-spec =
-    tie.close
-    (tie.spec
-    is-empty-requires
-    returns
-    is-tiny-requires
-    put-tiny-requires
-    same-length
-    returns-2
-    put-head-requires
-    same-length-2
-    returns-3
-    write-requires
-    add-result
-    same-length-3
-    returns-4)
+put-start-spec = tie.close (tie.spec put-record-requires put-set-requires same-length returns)

@@ -1,48 +1,29 @@
 -- `records::start_size` meets its contract. Assumes nothing.
-use mathlib.Core.Path.{sym, ap, _∙_}
+use mathlib.Core.Path.{sym, ap₂, _∙_}
+use Prim.Native.Nat.{ℕ, _+_}
 use native.Mathlib.Omega.{arith}
-use lib.ListN.{length}
-use Rattle.records.proofs.Starts.{start-empty, start-tiny, start-few, length-tiny, length-head, length-many}
 use borrow.Author.Needs.{needs}
+use Rattle.records.proofs.Starts.{part-most}
+use Rattle.records.proofs.SetLaws.{set-most, start-length}
 use Rattle.records.proofs.start_size.Statement.{statement}
 use Rattle.records.proofs.start_size.Tie as tie
 
-is-empty-requires : tie.Need-is-empty-requires
-is-empty-requires c κs = search needs
+record-size-requires : tie.Need-record-size-requires
+record-size-requires c κs = search needs
+
+set-size-requires : tie.Need-set-size-requires
+set-size-requires c κs = search needs
+
+add-result : tie.Need-add-result
+add-result c =
+    let r = c .before in
+    let s = r .before .args .s in
+    omega (arith, r .record-size .ensures 0 0, part-most 0 0 s, c .set-size .ensures 0, set-most 0 (s .set))
 
 returns : tie.Need-returns
 returns c = λ n k.
-    let e = c .before in
-    sym (ap length (start-empty n k (e .before .args .s) (sym (e .is-empty .ensures) ∙ c .if1 .taken)))
-
-is-tiny-requires : tie.Need-is-tiny-requires
-is-tiny-requires c κs = search needs
-
-returns-2 : tie.Need-returns-2
-returns-2 c = λ n k.
-    let t = c .before in
-    let e = t .before .before in
-    let s = e .before .args .s in
-    sym (ap length (start-tiny n k s (sym (e .is-empty .ensures) ∙ t .before .if1 .left) (sym (t .is-tiny .ensures n) ∙ c .if2 .taken)) ∙ length-tiny n k s)
-
-returns-3 : tie.Need-returns-3
-returns-3 c = λ n k.
-    let t = c .before .before .before in
-    let e = t .before .before in
-    let s = e .before .args .s in
-    sym (ap length (start-few n k s (sym (e .is-empty .ensures) ∙ t .before .if1 .left) (sym (t .is-tiny .ensures n) ∙ c .before .before .if2 .left)
-    (omega arith))
-    ∙ length-head n k s)
-
-add-result : tie.Need-add-result
-add-result c = search needs
-
-returns-4 : tie.Need-returns-4
-returns-4 c = λ n k.
-    let t = c .before .before .before in
-    let e = t .before .before in
-    let s = e .before .args .s in
-    sym (length-many n k s (sym (e .is-empty .ensures) ∙ t .before .if1 .left) (sym (t .is-tiny .ensures n) ∙ c .before .before .if2 .left) (omega arith))
+    let r = c .before in
+    ap₂ (λ (x y : ℕ). x + y) (r .record-size .ensures n k) (c .set-size .ensures k) ∙ sym (start-length n k (r .before .args .s))
 
 pub start-size-spec : {M : Type 1} → statement M
-start-size-spec = tie.close (tie.spec is-empty-requires returns is-tiny-requires returns-2 returns-3 add-result returns-4)
+start-size-spec = tie.close (tie.spec record-size-requires set-size-requires add-result returns)

@@ -2,22 +2,24 @@
 use Prim.Native.Nat.{_+_, _≤_, _<_}
 use native.Mathlib.Omega.{arith}
 use lib.ListN.{length, getD}
-use Rattle.records.proofs.Telling.{summary-is, tells-few, tells-within, tells-prefix}
+use Rattle.records.proofs.Telling.{summary-is, tells-few, tells-within, tells-most, tells-prefix}
 use borrow.Author.Needs.{needs}
 use Rattle.records.proofs.summary_of.Statement.{statement}
 use Rattle.records.proofs.summary_of.Tie as tie
 
+abbrev outset : tie.After-firsts → tie.Start
+outset c = c .before .before .before .before .before .before .before
+
 -- keyword k is one of 16, and a slice of the list
-below : (c : tie.After-firsts) → c .before .before .before .before .before .before .before .args .k < 16
+below : (c : tie.After-firsts) → outset c .args .k < 16
 below c =
-    let s = c .before .before .before .before .before .before .before in
+    let s = outset c in
     let a = s .args in
     tells-few (a .list .now) (a .words) (a .chunk .now) (a .tails .now) (a .last) (a .tally) (s .pre .0) (a .k) (s .pre .1)
 
-slice : (c : tie.After-firsts) → let a = c .before .before .before .before .before .before .before .args in getD (a .words .start) (a .k) 0 + getD
-    (a .words .len) (a .k) 0 ≤ length (a .list .now)
+slice : (c : tie.After-firsts) → let a = outset c .args in getD (a .words .start) (a .k) 0 + getD (a .words .len) (a .k) 0 ≤ length (a .list .now)
 slice c =
-    let s = c .before .before .before .before .before .before .before in
+    let s = outset c in
     let a = s .args in
     tells-within (a .list .now) (a .words) (a .chunk .now) (a .tails .now) (a .last) (a .tally) (s .pre .0) (a .k) (s .pre .1)
 
@@ -48,39 +50,60 @@ part-suffix-of-end c = omega (arith, slice c)
 suffix-of-requires : tie.Need-suffix-of-requires
 suffix-of-requires c κs = search needs
 
-mul-t18 : tie.Need-mul-t18
-mul-t18 c = search needs
+sub-set-of : tie.Need-sub-set-of
+sub-set-of c = search needs
 
-add-t15 : tie.Need-add-t15
-add-t15 c = omega (arith, below (c .before .before), c .before .before .before .before .before .before .before .before .before .pre .0 .inside)
+part-set-of-start : tie.Need-part-set-of-start
+part-set-of-start c = search needs
 
-shared-slice-read-t25 : tie.Need-shared-slice-read-t25
-shared-slice-read-t25 c = omega (arith, below (c .before .before .before), c .before .before .before .before .before .before .before .before .before .before .pre .0 .inside)
+part-set-of-end : tie.Need-part-set-of-end
+part-set-of-end c = omega (arith, slice (c .before .before))
 
-cast-t26 : tie.Need-cast-t26
-cast-t26 c =
-    let s = c .before .before .before .before .before .before .before .before .before .before in
+set-of-requires : tie.Need-set-of-requires
+set-of-requires c κs =
+    let s = outset (c .before .before .before) in
+    let a = s .args in
+    tells-most (a .list .now) (a .words) (a .chunk .now) (a .tails .now) (a .last) (a .tally) (s .pre .0) (a .k) (s .pre .1)
+
+-- where the arrays are read
+abbrev arrays : tie.After-set-of → tie.After-firsts
+arrays c = c .before .before .before .before
+
+mul-t16 : tie.Need-mul-t16
+mul-t16 c = search needs
+
+add-t19 : tie.Need-add-t19
+add-t19 c = omega (arith, below (arrays c), outset (arrays c) .pre .0 .inside)
+
+shared-slice-read-t29 : tie.Need-shared-slice-read-t29
+shared-slice-read-t29 c = omega (arith, below (arrays (c .before)), outset (arrays (c .before)) .pre .0 .inside)
+
+cast-t30 : tie.Need-cast-t30
+cast-t30 c =
+    let s = outset (arrays (c .before)) in
     let a = s .args in
     omega (arith, tells-prefix (a .list .now) (a .words) (a .chunk .now) (a .tails .now) (a .last) (a .tally) (s .pre .0) (a .k) (s .pre .1))
 
-mul-t27 : tie.Need-mul-t27
-mul-t27 c = omega (arith, below (c .before .before .before))
-
-array-read-t30 : tie.Need-array-read-t30
-array-read-t30 c = omega (arith, below (c .before .before .before))
-
 mul-t31 : tie.Need-mul-t31
-mul-t31 c = omega (arith, below (c .before .before .before))
+mul-t31 c = omega (arith, below (arrays (c .before)))
 
 array-read-t34 : tie.Need-array-read-t34
-array-read-t34 c = omega (arith, below (c .before .before .before))
+array-read-t34 c = omega (arith, below (arrays (c .before)))
+
+mul-t35 : tie.Need-mul-t35
+mul-t35 c = omega (arith, below (arrays (c .before)))
+
+array-read-t38 : tie.Need-array-read-t38
+array-read-t38 c = omega (arith, below (arrays (c .before)))
 
 returns : tie.Need-returns
 returns c =
-    let s = c .before .before .before .before .before .before .before .before .before .before in
+    let m = c .before in
+    let x = m .before .before in
+    let s = outset (arrays m) in
     let a = s .args in
     summary-is (a .list .now) (a .words) (a .chunk .now) (a .tails .now) (a .last) (a .tally) (s .pre .0) (a .k) (s .pre .1)
-    (c .before .suffix-of .result) (c .before .suffix-of .ensures)
+    (x .suffix-of .result) (m .set-of .result) (x .suffix-of .ensures) (m .set-of .ensures)
 
 pub summary-of-spec : {M : Type 1} → statement M
 summary-of-spec =
@@ -95,12 +118,16 @@ summary-of-spec =
     part-suffix-of-start
     part-suffix-of-end
     suffix-of-requires
-    mul-t18
-    add-t15
-    shared-slice-read-t25
-    cast-t26
-    mul-t27
-    array-read-t30
+    sub-set-of
+    part-set-of-start
+    part-set-of-end
+    set-of-requires
+    mul-t16
+    add-t19
+    shared-slice-read-t29
+    cast-t30
     mul-t31
     array-read-t34
+    mul-t35
+    array-read-t38
     returns)

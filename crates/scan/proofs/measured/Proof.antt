@@ -6,7 +6,7 @@ use lib.ListN.{length}
 use Rattle.chunkwalk.proofs.Walking.{equipped-on}
 use Rattle.scan.proofs.Answers.{scan-short, scan-large, scan-done}
 use Rattle.scan.proofs.Fits.{count-few, size-few, len-is}
-use Rattle.index_writer.proofs.Moves.{marked-usable}
+use Rattle.index_writer.proofs.MarkLaws.{marked, marked-usable}
 use Rattle.scan.proofs.measured.Statement.{statement}
 use Rattle.scan.proofs.measured.Tie as tie
 
@@ -113,6 +113,7 @@ put-index-requires c κs =
     let a = s .args in
     let r = m .measure-bodies in
     let p = s .pre .0 in
+    let marks = r .last .1 .1 .1 .1 .1 .1 .1 .1 .1 .1 .1 .0 in
     record {
       measures = record {
         walks = p .walks;
@@ -120,7 +121,7 @@ put-index-requires c κs =
             (r .kept .1 .1 .1 .1 .1 .1 .1 .1 .1 .0) (r .kept .1 .1 .1 .1 .1 .1 .1 .1 .1 .1 .0);
         long = omega (arith, r .kept .1 .1 .1 .1 .1 .1 .1 .1 .1 .1 .1 .0, p .long);
       };
-      usable = marked-usable (a .list .now) (a .store .now) (r .last .1 .1 .1 .1 .1 .1 .1 .1 .1 .1 .1 .0) (r .ensures .2);
+      usable = marked-usable (a .list .now) (a .store .now) marks (marked (a .list .now) (a .store .now) (a .marks .now) marks (r .ensures .2));
       room = omega (arith, e .if1 .left, r .ensures .0);
     }
 

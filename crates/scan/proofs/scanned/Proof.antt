@@ -9,7 +9,8 @@ use Rattle.spec.specs.Store.{chunkCount}
 use Rattle.index_writer.specs.Layout.{bodiesFrom}
 use Rattle.scan.proofs.Answers.{scan-done}
 use Rattle.scan.proofs.Fits.{count-few, index-fits, len-is}
-use Rattle.index_writer.proofs.Moves.{odd-moves, odd-usable}
+use Rattle.index_writer.proofs.Moves.{odd-moves}
+use Rattle.index_writer.proofs.MarkLaws.{odd-usable}
 use Rattle.scan.proofs.scanned.Statement.{statement}
 use Rattle.scan.proofs.scanned.Tie as tie
 

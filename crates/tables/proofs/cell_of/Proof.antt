@@ -7,7 +7,8 @@ use native.Mathlib.Omega.{arith}
 use lib.ListN.{length}
 use Rattle.spec.specs.Keywords.{folded}
 use Rattle.spec.specs.Table.{inCell, setOf}
-use Rattle.tables.proofs.Cells.{shl-one, set-in, set-out, set-room, cell-ends}
+use Rattle.spec.proofs.Sets.{shl-one, set-room, turn-in, turn-out}
+use Rattle.tables.proofs.Cells.{cell-ends}
 use Rattle.tables.proofs.cell_of.Statement.{statement}
 use Rattle.tables.proofs.cell_of.Tie as tie
 use Rattle.tables.proofs.cell_of.Reads as reads
@@ -55,14 +56,6 @@ add-set c = let p = c .before .before .before in
     let a = p .before .before .before .args in
     let t = inCell (folded (a .flag) (a .keyword .now)) (a .i) (a .j) in
     rw (shl-one (p .loop .s) (omega arith)) (record { fits = rw (p .loop .inv .4) (set-room t (p .loop .s) (omega arith)) })
-
--- a turn: the set with start s in it, and without, by the answer r
-turn-in : (t : ℕ → Bool) (s set next : ℕ) (r : Bool) → s < 32 → set ≡ setOf t s → r ≡ t s → r ≡ true
-    → next ≡ set + 1 * 2 ^ s % 4294967296 → next ≡ setOf t (s + 1)
-turn-in t s set next r h i e y n = n ∙ ap (λ (x : ℕ). x + 1 * 2 ^ s % 4294967296) i ∙ set-in t s h (sym e ∙ y)
-
-turn-out : (t : ℕ → Bool) (s set next : ℕ) (r : Bool) → set ≡ setOf t s → r ≡ t s → r ≡ false → next ≡ set → next ≡ setOf t (s + 1)
-turn-out t s set next r i e y n = n ∙ i ∙ set-out t s (sym e ∙ y)
 
 add-s : tie.Need-add-s Inv-loop μ-loop
 add-s c = omega arith

@@ -1,18 +1,22 @@
 -- `walk::count_file` meets its contract.
-use Prim.Native.Nat.{_+_, _-_, _/_, _≤_, _<_}
+use mathlib.Core.Path.{_≡_, sym, subst}
+use mathlib.Core.Logic.{⊎-elim}
+use mathlib.Core.List.{List}
+use Prim.Native.Nat.{ℕ, _+_, _-_, _/_, _^_, _≤_, _<_}
 use native.Mathlib.Omega.{arith}
-use lib.ListN.{length}
+use lib.ListN.{length, drop}
 use Rattle.spec.specs.Keywords.{foldedKeywords}
 use Rattle.spec.specs.Index.{listIn}
-use Rattle.walk.specs.Walking.{chunksIn, Checked, LoadedAt}
+use Rattle.walk.specs.Walking.{chunksIn, fileList, Checked, LoadedAt, LoadedPair, crossings, Filled}
 use Rattle.walk.proofs.Entries.{in-chunks, out-chunks, counts, few, entry-most, place-loaded}
-use Rattle.walk.proofs.Places.{AllGood, crossable}
+use Rattle.walk.proofs.Places.{AllGood, crossable, prefixed, near-filled}
 use Rattle.walk.proofs.Counts.{all-good, count-few, Counting, counting-on, counting-end}
 use Rattle.walk.proofs.count_file.Statement.{statement}
 use Rattle.walk.proofs.count_file.Tie as tie
 use Rattle.walk.proofs.count_file.Reads as reads
 use Rattle.walk.proofs.count_file.Lts as lts
 use Rattle.walk.proofs.cross.Reads as cross-reads
+use Rattle.walk.proofs.cross_over.Reads as cross-over-reads
 use Rattle.walk.proofs.entry_at.Reads as entry-at-reads
 use Rattle.walk.proofs.load.Reads as load-reads
 
@@ -52,20 +56,52 @@ ahead c =
     place-loaded (a .index .now) (a .file .now) (a .slots .now) (s .pre .1 .1) (c .before .before .before .before .loop .n + 1) (e .result) (e .ensures)
     (a .opened) (c .load2 .last .1 .1 .1 .0) (c .load2 .result) (c .load2 .ensures)
 
--- one more place is counted
-turn : (c : tie.After-cross Inv-loop μ-loop) → let p = c .before .before .before .before .before .before .before .before in
+-- with the place before it
+pair : (c : tie.After-load2 Inv-loop μ-loop) → let p = c .before .before .before .before in
     let a = start p .args in
-    Counting (a .index .now) (chunksIn (a .index .now) (a .file .now)) (p .loop .n + 1) (p .loop .sum + c .cross .result)
-turn c =
-    let p = c .before .before .before .before .before .before .before .before in
+    LoadedPair (a .index .now) (a .opened) (chunksIn (a .index .now) (a .file .now)) (p .loop .n) (p .loop .rows) (c .load2 .last .1 .1 .1 .0)
+    (p .loop .size) (c .load2 .result)
+pair c = let i = c .before .before .before in record { inside = inside i; first = i .before .loop .inv .2; second = ahead c }
+
+-- what the place's streams are filled with
+abbrev sets : (c : tie.After-load2 Inv-loop μ-loop) → ℕ → ℕ
+sets c =
+    let p = c .before .before .before .before in
+    let a = start p .args in
+    crossings (foldedKeywords (listIn (a .index .now))) (p .loop .rows) (drop (p .loop .n + 1) (chunksIn (a .index .now) (a .file .now)))
+
+-- one more place is counted
+turn : (c : tie.After-load2 Inv-loop μ-loop) (streams : List (List ℕ)) (many : ℕ) → let p = c .before .before .before .before in
+    let a = start p .args in
+    Filled (p .loop .size) (a .opened .keywords) (sets c) (p .loop .rows) streams many
+    → Counting (a .index .now) (chunksIn (a .index .now) (a .file .now)) (p .loop .n + 1) (p .loop .sum + many)
+turn c streams many f =
+    let p = c .before .before .before .before in
     let s = start p in
     let a = s .args in
-    let t = c .before .before .before .before in
-    let x = c .cross in
-    counting-on (a .index .now) (a .opened) (a .tables .now) (chunksIn (a .index .now) (a .file .now)) (known s) (s .pre .1 .0) (ranges s)
-    (p .loop .n) (p .loop .rows) (t .load2 .last .1 .1 .1 .0) (p .loop .size) (t .load2 .result)
-    (inside (c .before .before .before .before .before .before .before)) (p .loop .inv .2) (ahead t)
-    (x .last .1 .1 .1 .1 .1 .0) (x .ensures .crossed) (p .loop .sum) (x .result) (p .loop .inv .3) (x .ensures .all)
+    counting-on (a .index .now) (a .opened) (chunksIn (a .index .now) (a .file .now)) (known s) (ranges s)
+    (p .loop .n) (p .loop .rows) (c .load2 .last .1 .1 .1 .0) (p .loop .size) (c .load2 .result) (pair c)
+    streams (f .crossed) (p .loop .sum) many (p .loop .inv .3) (f .all)
+
+-- in the two ways
+near : (c : tie.After-cross Inv-loop μ-loop) → let t = c .before .before .before .before .before .before in
+    let p = t .before .before .before .before in
+    Filled (p .loop .size) (start p .args .opened .keywords) (sets t) (p .loop .rows) (c .cross .last .1 .1 .1 .1 .1 .0) (c .cross .result)
+near c =
+    let b = c .before .before .before .before in
+    let t = b .before .before in
+    let p = t .before .before .before .before in
+    let s = start p in
+    let a = s .args in
+    near-filled (a .index .now) (a .opened) (chunksIn (a .index .now) (a .file .now)) (known s) (ranges s)
+    (p .loop .n) (p .loop .rows) (t .load2 .last .1 .1 .1 .0) (p .loop .size) (t .load2 .result) (pair t)
+    (a .tables .now) (s .pre .1 .0) (b .if1 .taken) (c .cross .last .1 .1 .1 .1 .1 .0) (c .cross .result) (c .cross .ensures)
+
+small : (c : tie.After-load2 Inv-loop μ-loop) → let a = start (c .before .before .before .before) .args in length (fileList 0 (a .index .now) (a .file .now)) < 2 ^ 36
+small c =
+    let s = start (c .before .before .before .before) in
+    let a = s .args in
+    count-few (a .index .now) (a .opened) (a .file .now) (a .slots .now) (known s) (s .pre .1 .1)
 
 entry-at-requires : tie.Need-entry-at-requires Inv-loop μ-loop
 entry-at-requires c κs = let s = c .before .before .before .before in (s .pre .0, s .pre .1 .1)
@@ -117,37 +153,93 @@ load-requires-2 c κs =
       p .loop .inv .2 .long,
     )
 
+add-if1 : tie.Need-add-if1 Inv-loop μ-loop
+add-if1 c = omega (arith, ahead c .small)
+
 cross-requires : tie.Need-cross-requires Inv-loop μ-loop
 cross-requires c κs =
-    let p = c .before .before .before .before .before .before .before in
+    let t = c .before .before .before .before .before in
+    let p = t .before .before .before .before in
     let s = start p in
-    let a = s .args in
-    let t = c .before .before .before in (
+    let a = s .args in (
       few (a .index .now) (a .opened) (known s),
       p .loop .inv .1,
-      crossable (a .index .now) (a .opened) (a .tables .now) (chunksIn (a .index .now) (a .file .now)) (known s) (s .pre .1 .0) (ranges s)
-          (p .loop .n) (p .loop .rows) (t .load2 .last .1 .1 .1 .0) (p .loop .size) (t .load2 .result)
-          (inside (c .before .before .before .before .before .before)) (p .loop .inv .2) (ahead t),
+      crossable (a .index .now) (a .opened) (chunksIn (a .index .now) (a .file .now)) (known s) (ranges s)
+          (p .loop .n) (p .loop .rows) (t .load2 .last .1 .1 .1 .0) (p .loop .size) (t .load2 .result) (pair t),
     )
 
 add-sum : tie.Need-add-sum Inv-loop μ-loop
 add-sum c =
-    let s = start (c .before .before .before .before .before .before .before .before) in
-    let a = s .args in
-    omega (arith, turn c, count-few (a .index .now) (a .opened) (a .file .now) (a .slots .now) (known s) (s .pre .1 .1))
+    let t = c .before .before .before .before .before .before in
+    omega (arith, turn t (c .cross .last .1 .1 .1 .1 .1 .0) (c .cross .result) (near c), small t)
+
+cross-over-requires : tie.Need-cross-over-requires Inv-loop μ-loop
+cross-over-requires c κs =
+    let t = c .before .before .before .before in
+    let p = t .before .before .before .before in
+    let s = start p in
+    let a = s .args in (
+      (s .pre .0, s .pre .1 .0),
+      (
+        (s .pre .1 .1, p .loop .inv .1),
+        (
+          prefixed (a .index .now) (a .opened) (chunksIn (a .index .now) (a .file .now)) (known s) (ranges s)
+              (p .loop .n) (p .loop .rows) (t .load2 .last .1 .1 .1 .0) (p .loop .size) (t .load2 .result) (pair t),
+          omega (arith, t .before .before .before .loop-test .taken, s),
+        ),
+      ),
+    )
+
+add-sum-2 : tie.Need-add-sum-2 Inv-loop μ-loop
+add-sum-2 c =
+    let t = c .before .before .before .before .before in
+    omega (arith, turn t (c .cross-over .last .1 .1 .1 .1 .1 .1 .1 .0) (c .cross-over .result) (c .cross-over .ensures), small t)
+
+-- either way the streams are long enough, and the place is counted
+abbrev Told : (c : tie.Joined1 Inv-loop μ-loop) → List (List ℕ) → ℕ → Type 0
+Told c streams sum =
+    let p = c .before .before .before .before .before .before in
+    let a = start p .args in
+    (a .opened .keywords ≤ length streams) × Counting (a .index .now) (chunksIn (a .index .now) (a .file .now)) (p .loop .n + 1) sum
+
+told : (c : tie.Joined1 Inv-loop μ-loop) (streams streams′ : List (List ℕ)) (many sum : ℕ) → let t = c .before .before in
+    let p = t .before .before .before .before in
+    Filled (p .loop .size) (start p .args .opened .keywords) (sets t) (p .loop .rows) streams many → streams′ ≡ streams → sum ≡ p .loop .sum + many
+    → Told c streams′ sum
+told c streams streams′ many sum f e q =
+    let t = c .before .before in
+    let p = t .before .before .before .before in
+    subst (λ (x : List (List ℕ)). Told c x sum) (sym e) (subst (Told c streams) (sym q) (f .crossed .long, turn t streams many f))
+
+counted : (c : tie.Joined1 Inv-loop μ-loop) → Told c (c .if1 .streams) (c .if1 .sum)
+counted c =
+    ⊎-elim
+    (λ w.
+    let b : tie.After-cross Inv-loop μ-loop =
+    record {
+      before = record { before = record { before = record { before = record { before = c .before; if1 = w .0 }; first = w .1 }; rows3 = w .2 }; streams = w .3 };
+      cross = w .4;
+    } in
+    told c (b .cross .last .1 .1 .1 .1 .1 .0) (c .if1 .streams) (b .cross .result) (c .if1 .sum) (near b) (w .5) (w .6))
+    (λ w.
+    let b : tie.After-cross-over Inv-loop μ-loop =
+    record { before = record { before = record { before = record { before = c .before; if1 = w .0 }; first2 = w .1 }; streams2 = w .2 }; cross-over = w .3 } in
+    told c (b .cross-over .last .1 .1 .1 .1 .1 .1 .1 .0) (c .if1 .streams) (b .cross-over .result) (c .if1 .sum) (b .cross-over .ensures) (w .4) (w .5))
+    (c .if1 .came)
 
 add-n : tie.Need-add-n Inv-loop μ-loop
 add-n c =
-    let i = c .before .before .before .before .before .before .before in
+    let i = c .before .before .before .before .before in
     omega (arith, i .loop-test .taken, start (i .before))
 
 loop-less : tie.Need-loop-less Inv-loop μ-loop
-loop-less c = omega (arith, c .before .before .before .before .before .before .before .loop-test .taken)
+loop-less c = omega (arith, c .before .before .before .before .before .loop-test .taken)
 
 loop-again : tie.Need-loop-again Inv-loop μ-loop
 loop-again c =
-    let i = c .before .before .before .before .before .before .before in
-    (omega (arith, i .loop-test .taken), c .cross .ensures .crossed .long, ahead (c .before .before .before .before), turn c)
+    let t = c .before .before in
+    let i = t .before .before .before in
+    (omega (arith, i .loop-test .taken), counted c .0, ahead t, counted c .1)
 
 returns : tie.Need-returns Inv-loop μ-loop
 returns c =
@@ -168,8 +260,11 @@ count-file-spec =
     add-entry-at
     entry-at-requires-2
     load-requires-2
+    add-if1
     cross-requires
     add-sum
+    cross-over-requires
+    add-sum-2
     add-n
     loop-less
     loop-again

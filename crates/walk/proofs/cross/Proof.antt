@@ -2,6 +2,7 @@
 use Prim.Native.Nat.{_-_, _*_, _^_, _≤_}
 use native.Mathlib.Omega.{arith}
 use lib.Count.{ones-le}
+use Rattle.walk.specs.Walking.{cells}
 use Rattle.walk.proofs.Places.{Crossing, crossing-start, crossing-on, crossing-end}
 use Rattle.walk.proofs.cross.Statement.{statement}
 use Rattle.walk.proofs.cross.Tie as tie
@@ -11,7 +12,7 @@ use Rattle.walk.proofs.wide.Reads as wide-reads
 use Rattle.listing.proofs.offsets_in.Reads as offsets-in-reads
 
 abbrev Inv-loop : tie.InvT-loop
-Inv-loop size count tables here next streams₀ many₀ k₀ streams many k = (k ≤ count) × Crossing size count tables here next streams k many × (many ≤ k * 2 ^ 33)
+Inv-loop size count tables here next streams₀ many₀ k₀ streams many k = (k ≤ count) × Crossing size count (cells tables here next) here streams k many × (many ≤ k * 2 ^ 33)
 
 abbrev μ-loop : tie.MeasureT-loop
 μ-loop size count tables here next streams₀ many₀ k₀ streams many k = count - k
@@ -27,7 +28,7 @@ few c =
 
 loop-holds : tie.Need-loop-holds Inv-loop μ-loop
 loop-holds c = let a = c .args in
-    (omega arith, crossing-start (a .size) (a .count) (a .tables .now) (a .here .now) (a .next .now) (a .streams .now) (c .pre .1), omega arith)
+    (omega arith, crossing-start (a .size) (a .count) (cells (a .tables .now) (a .here .now) (a .next .now)) (a .here .now) (a .streams .now) (c .pre .1), omega arith)
 
 mul-i : tie.Need-mul-i Inv-loop μ-loop
 mul-i c = omega arith
@@ -121,7 +122,7 @@ loop-again c =
     let t = l .before .before .before .before .before .before .loop-test .taken in
     let w = l .before .before .wide in (
       omega (arith, t),
-      crossing-on (a .size) (a .count) (a .tables .now) (a .here .now) (a .next .now) (p .loop .streams) (p .loop .k) (w .result) (p .loop .many)
+      crossing-on (a .size) (a .count) (cells (a .tables .now) (a .here .now) (a .next .now)) (a .here .now) (p .loop .streams) (p .loop .k) (w .result) (p .loop .many)
           (c .offsets-in .result) (p .loop .inv .1) t (w .ensures .0) (c .offsets-in .ensures),
       omega (arith, few c, p .loop .inv .2),
     )
@@ -129,7 +130,7 @@ loop-again c =
 returns : tie.Need-returns Inv-loop μ-loop
 returns c = let p = c .before in
     let a = p .before .args in
-    crossing-end (a .size) (a .count) (a .tables .now) (a .here .now) (a .next .now) (p .loop .streams) (p .loop .k) (p .loop .many)
+    crossing-end (a .size) (a .count) (cells (a .tables .now) (a .here .now) (a .next .now)) (a .here .now) (p .loop .streams) (p .loop .k) (p .loop .many)
     (p .loop .inv .1) (omega arith)
 
 pub cross-spec : {M : Type 1} → statement M

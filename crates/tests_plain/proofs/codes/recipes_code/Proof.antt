@@ -8,21 +8,18 @@ use Rattle.tests_plain.proofs.codes.recipes_code.Statement.{statement}
 use Rattle.tests_plain.proofs.codes.recipes_code.Tie as tie
 
 abbrev Inv-loop : tie.InvT-loop
-Inv-loop m n due f₀ f =
+Inv-loop m form n due f₀ f =
     (f ≤ n)
 
 abbrev μ-loop : tie.MeasureT-loop
-μ-loop m n due f₀ f =
+μ-loop m form n due f₀ f =
     n - f
 
 files-requires : tie.Need-files-requires Inv-loop μ-loop
 files-requires c κs = search needs
 
-longest-requires : tie.Need-longest-requires Inv-loop μ-loop
-longest-requires c κs = search needs
-
-less-requires : tie.Need-less-requires Inv-loop μ-loop
-less-requires c κs = search needs
+least-inside-requires : tie.Need-least-inside-requires Inv-loop μ-loop
+least-inside-requires c κs = search needs
 
 loop-holds : tie.Need-loop-holds Inv-loop μ-loop
 loop-holds c = search needs
@@ -52,8 +49,7 @@ recipes-code-spec =
     Inv-loop
     μ-loop
     files-requires
-    longest-requires
-    less-requires
+    least-inside-requires
     loop-holds
     file-code-requires
     returns

@@ -22,6 +22,12 @@ loop-holds c = search needs
 put-record-requires : tie.Need-put-record-requires Inv-loop μ-loop
 put-record-requires c κs = search needs
 
+set-of-requires : tie.Need-set-of-requires Inv-loop μ-loop
+set-of-requires c κs = search needs
+
+put-set-requires : tie.Need-put-set-requires Inv-loop μ-loop
+put-set-requires c κs = search needs
+
 add-k : tie.Need-add-k Inv-loop μ-loop
 add-k c = search needs
 
@@ -46,6 +52,8 @@ put-body-spec =
     chunk-size-requires
     loop-holds
     put-record-requires
+    set-of-requires
+    put-set-requires
     add-k
     loop-less
     loop-again

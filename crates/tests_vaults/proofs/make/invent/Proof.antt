@@ -8,16 +8,21 @@ use Rattle.tests_vaults.proofs.make.invent.Statement.{statement}
 use Rattle.tests_vaults.proofs.make.invent.Tie as tie
 
 abbrev Inv-loop : tie.InvT-loop
-Inv-loop m₀ seed n words s₀ c₀ m s c = (c ≤ n) × (length m ≡ length m₀)
+Inv-loop m₀ i n words s₀ c₀ m s c =
+    (c ≤ n) × (length m ≡ length m₀)
 
 abbrev μ-loop : tie.MeasureT-loop
-μ-loop m₀ seed n words s₀ c₀ m s c = n - c
+μ-loop m₀ i n words s₀ c₀ m s c =
+    n - c
 
 chunks-requires : tie.Need-chunks-requires Inv-loop μ-loop
 chunks-requires c κs = search needs
 
 keywords-requires : tie.Need-keywords-requires Inv-loop μ-loop
 keywords-requires c κs = search needs
+
+add-s : tie.Need-add-s Inv-loop μ-loop
+add-s c = search needs
 
 loop-holds : tie.Need-loop-holds Inv-loop μ-loop
 loop-holds c = search needs
@@ -48,6 +53,7 @@ invent-spec =
     μ-loop
     chunks-requires
     keywords-requires
+    add-s
     loop-holds
     invent-chunk-requires
     add-c

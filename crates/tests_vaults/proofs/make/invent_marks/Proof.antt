@@ -8,10 +8,12 @@ use Rattle.tests_vaults.proofs.make.invent_marks.Statement.{statement}
 use Rattle.tests_vaults.proofs.make.invent_marks.Tie as tie
 
 abbrev Inv-loop : tie.InvT-loop
-Inv-loop m₀ c k n size often seed s₀ p₀ m s p = (p ≤ size) × (length m ≡ length m₀)
+Inv-loop m₀ c k n size often seed s₀ p₀ m s p =
+    (p ≤ size) × (length m ≡ length m₀)
 
 abbrev μ-loop : tie.MeasureT-loop
-μ-loop m₀ c k n size often seed s₀ p₀ m s p = size - p
+μ-loop m₀ c k n size often seed s₀ p₀ m s p =
+    size - p
 
 loop-holds : tie.Need-loop-holds Inv-loop μ-loop
 loop-holds c = search needs
@@ -19,11 +21,17 @@ loop-holds c = search needs
 next-requires : tie.Need-next-requires Inv-loop μ-loop
 next-requires c κs = search needs
 
+plus-requires : tie.Need-plus-requires Inv-loop μ-loop
+plus-requires c κs = search needs
+
+is-often-requires : tie.Need-is-often-requires Inv-loop μ-loop
+is-often-requires c κs = search needs
+
 mark-at-requires : tie.Need-mark-at-requires Inv-loop μ-loop
 mark-at-requires c κs = search needs
 
-fits-often-requires : tie.Need-fits-often-requires Inv-loop μ-loop
-fits-often-requires c κs = search needs
+cast-put : tie.Need-cast-put Inv-loop μ-loop
+cast-put c = search needs
 
 put-requires : tie.Need-put-requires Inv-loop μ-loop
 put-requires c κs = search needs
@@ -51,8 +59,10 @@ invent-marks-spec =
     μ-loop
     loop-holds
     next-requires
+    plus-requires
+    is-often-requires
     mark-at-requires
-    fits-often-requires
+    cast-put
     put-requires
     add-p
     loop-less
