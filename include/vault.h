@@ -2,8 +2,8 @@
  *
  * Build the library by `make lib` (it is proved first): target/staticlib/libvault_c.a, for x86-64 Linux.
  * Every function takes every input, ends, and answers 0 or the number of the refusal; README.md has the table of numbers. A refusal
- * changes no byte of a buffer and no number behind a pointer: these are told the length, the moves or the count where the work is done, and
- * stay as they were on a refusal. vault_search is two operations: where its join refuses, the index that its scan wrote stays in the index
+ * changes no byte of a buffer and no number behind a pointer: these are told the length, the moves, the count or the lines where the work is
+ * done, and stay as they were on a refusal. vault_search is two operations: where its join refuses, the index that its scan wrote stays in the index
  * buffer, and its length is told. A buffer or number must not overlap another argument. A null pointer may stand only where the length beside it is 0.
  * Bytes of keywords and data compare by the keyword list's fold flag, which is its second byte: with 0 as they are; with 1, 41 to 5A and
  * C0 to DE except D7 (hexadecimal) compare as the byte 20 (hexadecimal) higher, so that A to Z and the accented capitals of Latin-1 (ISO/IEC
@@ -17,13 +17,13 @@
  * 4): bit p of 4 bytes, least significant first, says that the chunk is the keyword's bytes from p on, for p from 1 to n - 1 - the chunk's length. By these a
  * join lists keywords over any number of chunks. An index with an older mark is read too by every call that takes an index: 44 4D 32 0A (DM2) has the same
  * fields and no sets, 44 4D 31 0A (DM1) no sets, fields of 2 bytes and chunks of at most 65,535. These two know a keyword over two chunks only, so
- * a join of them refuses with 17 where a chunk that is neither first nor last in its file is shorter than the longest keyword less one byte. With the newest
- * mark 17 never comes.
+ * a join or a query of them refuses with 17 where a chunk that is neither first nor last in its file is shorter than the longest keyword less one byte. With
+ * the newest mark 17 never comes.
  * A call keeps nothing behind and touches only what it is lent, so calls may run at once from several threads, each with buffers of its own.
  * Stack that a call needs, about:
  *   600 KB   a check of a store or an index, a lookup
  *   650 KB   a compaction, a compaction's size
- *   1.2 MB   a count, a join
+ *   1.2 MB   a count, a join, a query, a query's count
  *   1.3 MB   a scan, a scan's size
  *            a search: the larger of a scan's and a join's
  */
@@ -82,6 +82,23 @@ uint8_t vault_count(const uint8_t *index, size_t index_length, const uint8_t *re
  * unchanged. */
 uint8_t vault_join(const uint8_t *index, size_t index_length, const uint8_t *recipes, size_t recipes_length,
                    uint8_t *out, size_t out_length, uint64_t *count);
+
+/* ---- query: the files that have several keywords in order, from an index alone */
+
+/* A query is 2 to 8 keyword numbers of one byte each, repeats allowed. A file qualifies exactly when occurrences of these keywords exist in that order, each
+ * starting at or after the end of the one before: adjacent ones do, overlapping ones do not. Of the ways to choose them its line has the one whose first
+ * occurrence starts earliest, then the second, and so on. */
+
+/* How many lines a query would write: 0 with the number; or 10, 1 to 4, 11 to 16, and 17 of an index with an older mark; then 21 (the query has another
+ * length, or a number that is not below the keyword count). */
+uint8_t vault_query_count(const uint8_t *index, size_t index_length, const uint8_t *recipes, size_t recipes_length,
+                          const uint8_t *query, size_t query_length, uint64_t *lines);
+
+/* Writes the lines to the start of the buffer, 4 + 4 x query_length bytes a line: file (4), then the offsets (4 each) in the query's order, least
+ * significant byte first, rising by file: 0 with the number of lines, or the numbers above, then 18 (all lines together exceed the buffer), and the number
+ * stays. No lines fit a buffer of 0. Bytes behind the lines are unchanged. */
+uint8_t vault_query(const uint8_t *index, size_t index_length, const uint8_t *recipes, size_t recipes_length,
+                    const uint8_t *query, size_t query_length, uint8_t *out, size_t out_length, uint64_t *lines);
 
 /* ---- lookups by a fingerprint of 20 bytes */
 

@@ -1,6 +1,7 @@
 // The join: the logical phase of the search, over a match index and recipes alone (document 01, "Recipes and the join"). It is given no
 // store. The plan tests and counts each file first, so that a refusal changes no byte; then the files that have occurrences are listed.
 ghost use mathlib.Core.Path.{_≡_};
+ghost use mathlib.Core.List.{[]};
 ghost use Prim.Native.Nat.{_*_, _≤_};
 ghost use lib.ListN.{length};
 ghost use Rattle.spec.specs.Bytes.{splice};
@@ -17,7 +18,7 @@ fn list_files(
     tables: &[[[u32; 32]; 32]; 16],
     out: &mut [u8],
 )
-    requires { ⌜ Planned (now index) (now recipes) made (now chains) (now tables) ⌝ }
+    requires { ⌜ Planned (now index) (now recipes) [] made (now chains) (now tables) ⌝ }
     requires { ⌜ 9 * length (joinList (formOf (now index)) (now index) (now recipes)) ≤ length (now out) ⌝ }
     ensures { λ _. ⌜ now (out .exit)
         ≡ splice (now (out .entry)) 0 (listBytes (joinList (formOf (now (index .entry))) (now (index .entry)) (now (recipes .entry)))) ⌝ }
@@ -47,7 +48,8 @@ pub fn count(index: &[u8], recipes: &[u8]) -> spec::Outcome
 {
     let mut chains = [0u32; 130536];
     let mut tables = [[[0u32; 32]; 32]; 16];
-    let counted = plan::make(index, recipes, &mut chains, &mut tables);
+    let all = [0u8; 0];
+    let counted = plan::make(index, recipes, &all, &mut chains, &mut tables);
     if counted.code != 0 {
         return spec::Outcome::Refused(counted.code);
     }
@@ -61,7 +63,8 @@ pub fn join(index: &[u8], recipes: &[u8], out: &mut [u8]) -> spec::Outcome
 {
     let mut chains = [0u32; 130536];
     let mut tables = [[[0u32; 32]; 32]; 16];
-    let p = plan::make(index, recipes, &mut chains, &mut tables);
+    let all = [0u8; 0];
+    let p = plan::make(index, recipes, &all, &mut chains, &mut tables);
     if p.code != 0 {
         return spec::Outcome::Refused(p.code);
     }

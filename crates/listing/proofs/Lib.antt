@@ -4,4 +4,7 @@ pub mod Pulling
 pub mod Stepping
 pub mod Totals
 pub mod Writes
+pub mod Coming
 pub mod Listed
+pub mod Choices
+pub mod Carried

@@ -1,12 +1,13 @@
 // The occurrences at one place of a file. Each keyword has a stream of offsets in the place's chunk: first its offsets inside the chunk, as
 // the index holds them, then its starts that cross into the next chunk, as a set. The streams are merged.
 ghost use mathlib.Core.Path.{_≡_};
-ghost use Prim.Native.Nat.{_+_, _*_, _^_, _≤_, _<_};
-ghost use lib.ListN.{length};
+ghost use Prim.Native.Nat.{ℕ, _+_, _*_, _^_, _≤_, _<_};
+ghost use lib.ListN.{length, getD};
 ghost use Rattle.spec.specs.Bytes.{splice};
 ghost use Rattle.spec.specs.Join.{occurrenceBytes, listBytes};
 ghost use Rattle.listing.specs.Streams.{small, numbers, ReadableStream, Pulled, ReadableStreams, total, Held, Least};
 ghost use Rattle.listing.specs.Streams.{placeList, given, OpenedStreams, NextTaken};
+ghost use Rattle.listing.specs.Choosing.{advanced, chosenFrom, noChoice};
 
 // A stream is five numbers: its next offset (the chunk's size where it has ended); where the index has the offsets behind that, and how
 // many; where the starts are counted from, and the set of those that are left.
@@ -161,4 +162,87 @@ pub fn list_place(index: &[u8], place: Place, streams: &[[usize; 5]; 16], out: &
         left -= 1;
     }
     p
+}
+
+// A query's choice in the making (request #109): how many of the query's numbers have their occurrence, where the next may start at the
+// earliest, and the offsets so far.
+pub struct Choice {
+    pub step: usize,
+    pub from: usize,
+    pub offsets: [usize; 8],
+}
+
+// Nothing is chosen yet.
+pub fn nothing_chosen() -> Choice
+    ensures { λ r. ⌜ r ≡ noChoice ⌝ }
+{
+    let offsets = [0usize; 8];
+    Choice {
+        step: 0,
+        from: 0,
+        offsets: offsets,
+    }
+}
+
+// The choice after one occurrence more: taken where it is one of the keyword that is asked for next, and starts at or after the end of the one
+// before.
+fn advance(
+    choice: Choice,
+    keyword: usize,
+    offset: usize,
+    lengths: &[usize; 16],
+    query: &[u8],
+) -> Choice
+    requires { ⌜ (keyword < 16) × (length (now query) ≤ 8) × (offset + getD (now lengths) keyword 0 < 2 ^ 64) ⌝ }
+    ensures { λ r. ⌜ r ≡ advanced (now (lengths .entry)) (now (query .entry)) choice (record { file = 0; offset = offset; keyword = keyword }) ⌝ }
+{
+    let step = choice.step;
+    let from = choice.from;
+    if query.len() <= step {
+        return choice;
+    }
+    let asked = query[step] as usize;
+    if keyword != asked {
+        return choice;
+    }
+    if offset < from {
+        return choice;
+    }
+    let mut next = choice;
+    next.offsets[step] = offset;
+    next.step = step + 1;
+    next.from = offset + lengths[keyword];
+    next
+}
+
+// Carries a choice along the occurrences at a place, until it is complete. The streams are not open yet.
+pub fn choose_place(
+    index: &[u8],
+    place: Place,
+    streams: &[[usize; 5]; 16],
+    lengths: &[usize; 16],
+    query: &[u8],
+    choice: Choice,
+) -> Choice
+    requires { ⌜ (0 < place .count) × (place .count ≤ 16) × (place .width ≤ 8) × (place .base + place .size < 2 ^ 63) ⌝ }
+    requires { ⌜ ReadableStreams (now index) (place .width) (place .size) (place .count) (now streams) × (place .many ≡ total (now streams) (place .count)) ⌝ }
+    requires { ⌜ (length (now query) ≤ 8) × ((k : ℕ) → k < 16 → getD (now lengths) k 0 ≤ 32) ⌝ }
+    ensures { λ r. ⌜ r ≡ chosenFrom (now (lengths .entry)) (now (query .entry)) (placeList place (now (index .entry)) (now (streams .entry))) choice ⌝ }
+{
+    if place.many < 1 {
+        return choice;
+    }
+    let mut opened = open(index, place.width, place.size, place.count, streams);
+    let mut chosen = choice;
+    let mut remaining = place.many;
+    while 0 < remaining {
+        if query.len() <= chosen.step {
+            return chosen;
+        }
+        let t = next(index, place.width, place.size, place.count, &mut opened);
+        let offset = place.base + t.offset;
+        chosen = advance(chosen, t.keyword, offset, lengths, query);
+        remaining -= 1;
+    }
+    chosen
 }

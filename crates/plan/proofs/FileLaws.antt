@@ -1,4 +1,4 @@
--- The files one after the other: what is left to test and to list from file k on, that it starts with file k, and that an accepted file can
+-- The files one after the other: what is left to test, to list and to query from file k on, that it starts with file k, and that an accepted file can
 -- be walked. A file's slice is the definition's file (its fingerprints are read alike); what 15 and 16 test is what the walk asks.
 -- Assumes nothing.
 use mathlib.Core.Path.{_≡_, refl, sym, ap, _∙_}
@@ -14,9 +14,10 @@ use Rattle.spec.specs.Outcome.{firstCode}
 use Rattle.spec.specs.Keywords.{foldedKeywords}
 use Rattle.spec.specs.Directory.{keysOf, sizeAt}
 use Rattle.spec.specs.Form.{formOf}
-use Rattle.spec.specs.Index.{listIn, indexLayout, indexKeys, indexRecords}
+use Rattle.spec.specs.Index.{listIn, lengthsIn, indexLayout, indexKeys, indexRecords}
 use Rattle.spec.specs.Recipes.{named, fileCount, filesOf, sizesIn, fileCode, filesCode}
 use Rattle.spec.specs.Join.{Occurrence, joinFile, joinFiles, fileRecords, joinList, innerLeast}
+use Rattle.spec.specs.Query.{Line, lineOf, linesFrom, queryLines}
 use Rattle.spec.proofs.EntryLaws.{length-keys, key-at}
 use Rattle.spec.proofs.IndexChecks.{length-indexKeys}
 use Rattle.spec.proofs.FileLaws.{file-accepted, files-cons, files-drop}
@@ -53,6 +54,18 @@ module _ (index recipes : List ℕ) where
   pub left-end : (k at : ℕ) → Walk recipes k at → fileCount recipes ≤ k → left k ≡ []
   unfolding left joinFiles
   left-end k at w h = rw (walk-end recipes k at w h)
+
+  -- a query's lines of the files from k on
+  unfoldable pub lines-left : List ℕ → ℕ → List Line
+  lines-left query k = linesFrom (lengthsIn index) query k keywords (map (fileRecords (formOf index) index) (drop k (filesOf recipes)))
+
+  pub lines-start : (query : List ℕ) → lines-left query 0 ≡ queryLines (formOf index) index recipes query
+  unfolding lines-left queryLines
+  lines-start query = refl
+
+  pub lines-end : (query : List ℕ) (k at : ℕ) → Walk recipes k at → fileCount recipes ≤ k → lines-left query k ≡ []
+  unfolding lines-left linesFrom
+  lines-end query k at w h = rw (walk-end recipes k at w h)
 
   -- the code of the files from k on
   abbrev pub codes : ℕ → ℕ
@@ -125,4 +138,13 @@ module _ (index recipes : List ℕ) where
     unfolding left joinFiles
     left-step =
         ap (λ (files : List (List (List ℕ))). joinFiles k keywords (map (fileRecords (formOf index) index) files)) (walk-files recipes k at n w turn refl)
+        ∙ rw (← chunks-are, ← add-one k)
+
+    -- file k's line, and then those of the files behind it
+    pub lines-step : (query : List ℕ)
+        → lines-left query k ≡ lineOf (lengthsIn index) query k (joinFile k keywords (chunksIn index file)) ++ lines-left query (k + 1)
+    unfolding lines-left linesFrom
+    lines-step query =
+        ap (λ (files : List (List (List ℕ))). linesFrom (lengthsIn index) query k keywords (map (fileRecords (formOf index) index) files))
+        (walk-files recipes k at n w turn refl)
         ∙ rw (← chunks-are, ← add-one k)

@@ -17,7 +17,7 @@ use Rattle.spec.specs.Store.{chunkCount}
 use Rattle.spec.specs.Index.{listIn, indexKeys, indexCode}
 use Rattle.spec.specs.Opened.{openedOf}
 use Rattle.spec.specs.Recipes.{fileCount, recipesCode}
-use Rattle.spec.specs.Join.{Occurrence, joinList, joinableCode, innerLeast}
+use Rattle.spec.specs.Join.{joinableCode, innerLeast}
 use Rattle.spec.proofs.Codes.{passed-whole, refused-whole, next-whole, last-whole}
 use Rattle.spec.proofs.IndexChecks.{index-good}
 use Rattle.spec.proofs.Splices.{splice-read}
@@ -29,7 +29,8 @@ use Rattle.tables.specs.Tabled.{tablesOf}
 use Rattle.index.specs.Stages.{examinedChains}
 use Rattle.index.proofs.CheckLaws.{list-is, index-chains}
 use Rattle.plan.specs.declared.Plan.{Plan}
-use Rattle.plan.specs.Plans.{allFilesCode, frontCode, listOf, markOf, marksOf, refusedPlan, planOf, plannedTables, Prepared, Joinable, Marked, Planned}
+use Rattle.plan.specs.Plans.{allFilesCode, frontCode, rowsOf, allRows, markOf, marksOf, refusedPlan, planOf, plannedTables}
+use Rattle.plan.specs.Plans.{Prepared, Joinable, Marked, Planned}
 
 zero-or : (n : ℕ) → (n ≡ 0) ⊎ (n ≢ 0)
 zero-or zero = inl refl
@@ -134,29 +135,26 @@ module _ (index recipes : List ℕ) where
         tabled = t;
       }
 
+module _ (index recipes query : List ℕ) where
   -- ---- the marks
 
-  length-marks : length (marksOf index recipes) ≡ fileCount recipes
+  length-marks : length (marksOf index recipes query) ≡ fileCount recipes
   unfolding marksOf
-  length-marks = length-tabulated (markOf index recipes) 0 (fileCount recipes)
+  length-marks = length-tabulated (markOf index recipes query) 0 (fileCount recipes)
 
-  empty : (l : List Occurrence) → min (length l) 1 ≡ 0 → l ≡ []
-  empty [] e = refl
-  empty (o ∷ l) e = let z : ⊥ = omega arith in absurd z
-
-  marks-mark : (marks : List ℕ) → marks ≡ written (replicate 65535 0) (marksOf index recipes) → Marked index recipes marks
+  marks-mark : (marks : List ℕ) → marks ≡ written (replicate 65535 0) (marksOf index recipes query) → Marked index recipes query marks
   unfolding marksOf
   marks-mark marks e =
-      let v = marksOf index recipes in
+      let v = marksOf index recipes query in
       record {
         none = λ k h z.
             let first : take (length v) marks ≡ v = ap (take (length v)) e ∙ splice-read (replicate 65535 0) 0 v (omega arith) in
-            let here : getD marks k 0 ≡ markOf index recipes k =
+            let here : getD marks k 0 ≡ markOf index recipes query k =
             sym (getD-take (length v) marks k 0 (omega (arith, length-marks)))
             ∙ ap (λ (x : List ℕ). getD x k 0) first
-            ∙ tabulated-at (markOf index recipes) 0 (fileCount recipes) k 0 h
-            ∙ ap (markOf index recipes) (zero-add k) in
-            empty (listOf index recipes k) (sym here ∙ z);
+            ∙ tabulated-at (markOf index recipes query) 0 (fileCount recipes) k 0 h
+            ∙ ap (markOf index recipes query) (zero-add k) in
+            omega (arith, here, z);
       }
 
   -- ---- the plan, by its code
@@ -164,28 +162,28 @@ module _ (index recipes : List ℕ) where
   abbrev code : ℕ
   code = joinableCode (formOf index) index recipes
 
-  plan-refused : code ≢ 0 → planOf index recipes ≡ refusedPlan code
+  plan-refused : code ≢ 0 → planOf index recipes query ≡ refusedPlan code
   unfolding planOf
   plan-refused h = rw (ne-eqb code 0 h)
 
-  pub refused-plan : (n : ℕ) (plan : Plan) → n ≡ code → n ≢ 0 → plan ≡ refusedPlan n → plan ≡ planOf index recipes
+  pub refused-plan : (n : ℕ) (plan : Plan) → n ≡ code → n ≢ 0 → plan ≡ refusedPlan n → plan ≡ planOf index recipes query
   refused-plan n plan e h p = p ∙ ap refusedPlan e ∙ sym (plan-refused (λ z. h (e ∙ z)))
 
   abbrev accepted-plan : ℕ → Opened → List ℕ → Plan
   accepted-plan total opened marks = record { code = 0; total = total; opened = opened; marks = marks }
 
   plan-accepted : code ≡ 0
-      → planOf index recipes
-      ≡ accepted-plan (length (joinList (formOf index) index recipes)) (openedOf index) (written (replicate 65535 0) (marksOf index recipes))
+      → planOf index recipes query
+      ≡ accepted-plan (allRows index recipes query) (openedOf index) (written (replicate 65535 0) (marksOf index recipes query))
   unfolding planOf
   plan-accepted z = rw (eq-eqb code 0 z)
 
-  pub done-plan : (total : ℕ) (opened : Opened) (marks : List ℕ) → code ≡ 0 → total ≡ length (joinList (formOf index) index recipes) → opened ≡ openedOf index
-      → marks ≡ written (replicate 65535 0) (marksOf index recipes) → accepted-plan total opened marks ≡ planOf index recipes
+  pub done-plan : (total : ℕ) (opened : Opened) (marks : List ℕ) → code ≡ 0 → total ≡ allRows index recipes query → opened ≡ openedOf index
+      → marks ≡ written (replicate 65535 0) (marksOf index recipes query) → accepted-plan total opened marks ≡ planOf index recipes query
   done-plan total opened marks z t o m =
       ap {B = Plan} (λ (x : ℕ). accepted-plan x opened marks) t
-      ∙ ap {B = Plan} (λ (x : Opened). accepted-plan (length (joinList (formOf index) index recipes)) x marks) o
-      ∙ ap {B = Plan} (accepted-plan (length (joinList (formOf index) index recipes)) (openedOf index)) m
+      ∙ ap {B = Plan} (λ (x : Opened). accepted-plan (allRows index recipes query) x marks) o
+      ∙ ap {B = Plan} (accepted-plan (allRows index recipes query) (openedOf index)) m
       ∙ sym (plan-accepted z)
 
   refused-number : (n : ℕ) → refusedPlan n .code ≡ n
@@ -194,7 +192,7 @@ module _ (index recipes : List ℕ) where
 
   -- ---- what a plan without refusal gives who lists
 
-  module _ (plan : Plan) (p : plan ≡ planOf index recipes) where
+  module _ (plan : Plan) (p : plan ≡ planOf index recipes query) where
     pub plan-number : plan .code ≡ code
     plan-number = go (zero-or code)
       where
@@ -202,21 +200,21 @@ module _ (index recipes : List ℕ) where
         go (inl z) = ap (λ (x : Plan). x .code) (p ∙ plan-accepted z) ∙ sym z
         go (inr h) = ap (λ (x : Plan). x .code) (p ∙ plan-refused h) ∙ refused-number code
 
-    pub plan-total : plan .code ≡ 0 → plan .total ≡ length (joinList (formOf index) index recipes)
+    pub plan-total : plan .code ≡ 0 → plan .total ≡ allRows index recipes query
     plan-total z = ap (λ (x : Plan). x .total) (p ∙ plan-accepted (sym plan-number ∙ z))
 
     pub planned : (chains₀ chains : List ℕ) (tables₀ tables : List (List (List ℕ))) → plan .code ≡ 0 → Empty chains₀ → chains ≡ examinedChains index chains₀
-        → tables ≡ plannedTables index recipes tables₀ → Planned index recipes plan chains tables
+        → tables ≡ plannedTables index recipes tables₀ → Planned index recipes query plan chains tables
     planned chains₀ chains tables₀ tables z e x t =
         let a : code ≡ 0 = sym plan-number ∙ z in
         let q = p ∙ plan-accepted a in
-        let passed = joinable-passed a in
-        let front : frontCode index recipes ≡ 0 = sym (front-recipes (passed .0)) ∙ passed .1 in
+        let passed = joinable-passed index recipes a in
+        let front : frontCode index recipes ≡ 0 = sym (front-recipes index recipes (passed .0)) ∙ passed .1 in
         record {
           accepted = a;
           passed = passed .2;
           counted = plan-total z;
           marked = marks-mark (plan .marks) (ap (λ (y : Plan). y .marks) q);
-          joinable = joinable (plan .opened) chains₀ chains tables (passed .0) (passed .1) (ap (λ (y : Plan). y .opened) q) e x
-              (t ∙ tables-made tables₀ front);
+          joinable = joinable index recipes (plan .opened) chains₀ chains tables (passed .0) (passed .1) (ap (λ (y : Plan). y .opened) q) e x
+              (t ∙ tables-made index recipes tables₀ front);
         }

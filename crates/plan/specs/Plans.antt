@@ -11,10 +11,11 @@ use Rattle.spec.specs.Outcome.{firstOf, whole}
 use Rattle.spec.specs.Form.{formOf}
 use Rattle.spec.specs.Keywords.{foldedKeywords}
 use Rattle.spec.specs.Directory.{sizeAt}
-use Rattle.spec.specs.Index.{listIn, indexLayout, indexKeys, indexCode}
+use Rattle.spec.specs.Index.{listIn, lengthsIn, indexLayout, indexKeys, indexCode}
 use Rattle.spec.specs.Opened.{openedOf}
 use Rattle.spec.specs.Recipes.{fileCount, filesOf, recipesCode, filesCode}
 use Rattle.spec.specs.Join.{Occurrence, joinFile, fileRecords, joinList, innerLeast, joinableCode}
+use Rattle.spec.specs.Query.{lineOf, queryLines}
 use Rattle.tables.specs.Tabled.{tablesOf}
 use Rattle.index.specs.Stages.{examinedChains}
 use Rattle.walk.specs.Walking.{Directory}
@@ -35,13 +36,26 @@ frontCode index recipes = firstOf (whole (indexCode (formOf index) index) ∷ wh
 abbrev pub listOf : List ℕ → List ℕ → ℕ → List Occurrence
 listOf index recipes k = joinFile k (foldedKeywords (listIn index)) (fileRecords (formOf index) index (getD (filesOf recipes) k []))
 
--- A file's mark: 1 where it has an occurrence, else 0.
-abbrev pub markOf : List ℕ → List ℕ → ℕ → ℕ
-markOf index recipes k = min (length (listOf index recipes k)) 1
+-- How many rows a file with these occurrences has in the answer: an empty query asks for its occurrences, another for its line.
+unfoldable pub rows : List ℕ → List ℕ → ℕ → List Occurrence → ℕ
+rows lengths query k list = cond (eqb (length query) 0) (length list) (length (lineOf lengths query k list))
+
+-- Those of file k.
+abbrev pub rowsOf : List ℕ → List ℕ → List ℕ → ℕ → ℕ
+rowsOf index recipes query k = rows (lengthsIn index) query k (listOf index recipes k)
+
+-- Those of all files.
+unfoldable pub allRows : List ℕ → List ℕ → List ℕ → ℕ
+allRows index recipes query =
+    cond (eqb (length query) 0) (length (joinList (formOf index) index recipes)) (length (queryLines (formOf index) index recipes query))
+
+-- A file's mark: 1 where it has a row, else 0.
+abbrev pub markOf : List ℕ → List ℕ → List ℕ → ℕ → ℕ
+markOf index recipes query k = min (rowsOf index recipes query k) 1
 
 -- The marks of all files.
-unfoldable pub marksOf : List ℕ → List ℕ → List ℕ
-marksOf index recipes = each (λ k. markOf index recipes k ∷ []) 0 (fileCount recipes)
+unfoldable pub marksOf : List ℕ → List ℕ → List ℕ → List ℕ
+marksOf index recipes query = each (λ k. markOf index recipes query k ∷ []) 0 (fileCount recipes)
 
 -- The plan of a refusal: nothing but its number.
 unfoldable pub refusedPlan : ℕ → Plan
@@ -52,15 +66,15 @@ refusedPlan code = record {
   marks = replicate 65535 0;
 }
 
--- The refusals before 18; where there is none the count, the opened index and the files' marks, 0 behind the last file.
-unfoldable pub planOf : List ℕ → List ℕ → Plan
-planOf index recipes =
+-- The refusals before 18 (but a query's 21); where there is none the count, the opened index and the files' marks, 0 behind the last file.
+unfoldable pub planOf : List ℕ → List ℕ → List ℕ → Plan
+planOf index recipes query =
     cond (eqb (joinableCode (formOf index) index recipes) 0)
     (record {
       code = 0;
-      total = length (joinList (formOf index) index recipes);
+      total = allRows index recipes query;
       opened = openedOf index;
-      marks = written (replicate 65535 0) (marksOf index recipes);
+      marks = written (replicate 65535 0) (marksOf index recipes query);
     })
     (refusedPlan (joinableCode (formOf index) index recipes))
 
@@ -81,14 +95,14 @@ pub record Joinable (index recipes : List ℕ) (opened : Opened) (chains : List 
   pub looked : Directory index opened chains
   pub tabled : tables ≡ tablesOf (foldedKeywords (listIn index))
 
--- A file whose mark is 0 has no occurrence.
-pub record Marked (index recipes marks : List ℕ) : Type 0 where
-  pub none : (k : ℕ) → k < fileCount recipes → getD marks k 0 ≡ 0 → listOf index recipes k ≡ []
+-- A file whose mark is 0 has no row.
+pub record Marked (index recipes query marks : List ℕ) : Type 0 where
+  pub none : (k : ℕ) → k < fileCount recipes → getD marks k 0 ≡ 0 → rowsOf index recipes query k ≡ 0
 
 -- What a plan without refusal gives who lists: everything passes, files can be walked, the total and the marks are the definition's.
-pub record Planned (index recipes : List ℕ) (plan : Plan) (chains : List ℕ) (tables : List (List (List ℕ))) : Type 0 where
+pub record Planned (index recipes query : List ℕ) (plan : Plan) (chains : List ℕ) (tables : List (List (List ℕ))) : Type 0 where
   pub accepted : joinableCode (formOf index) index recipes ≡ 0
   pub passed : allFilesCode index recipes ≡ 0
-  pub counted : plan .total ≡ length (joinList (formOf index) index recipes)
-  pub marked : Marked index recipes (plan .marks)
+  pub counted : plan .total ≡ allRows index recipes query
+  pub marked : Marked index recipes query (plan .marks)
   pub joinable : Joinable index recipes (plan .opened) chains tables

@@ -1,13 +1,20 @@
 // What the operations on an index and recipes share: the index check, the chains of its fingerprints, the keywords' tables, 14, and a survey of the
-// files, which tests and counts each. It writes no list: who lists goes by the plan, and a refusal has changed no byte of a list's buffer.
+// files, which tests each and counts its rows: its occurrences, or for a query its line. It writes no list: who lists goes by the plan, and a
+// refusal has changed no byte of a list's buffer.
 ghost use mathlib.Core.Path.{_≡_};
-ghost use Prim.Native.Nat.{min};
+ghost use Prim.Native.Nat.{min, _≤_};
+ghost use lib.ListN.{length, replicate};
+ghost use Rattle.spec.specs.Bytes.{written};
+ghost use Rattle.spec.specs.Keywords.{foldedKeywords};
+ghost use Rattle.spec.specs.Index.{listIn, lengthsIn};
+ghost use Rattle.tables.specs.Tabled.{tablesOf};
+ghost use Rattle.walk.specs.Walking.{fileList, Directory, File};
 ghost use Rattle.index.specs.Stages.{examinedChains};
 ghost use Rattle.directory.specs.Chains.{Empty};
-ghost use Rattle.plan.specs.Plans.{refusedPlan, planOf, plannedTables, Prepared, Joinable};
+ghost use Rattle.plan.specs.Plans.{refusedPlan, rows, planOf, plannedTables, Prepared, Joinable};
 
-// The refusals before 18 and, where there is none, the count of all occurrences, the opened index, and a mark for each file: 1 where it has an
-// occurrence, so that who lists looks at no place of the others.
+// The refusals before 18 (but a query's 21) and, where there is none, the count of all rows, the opened index, and a mark for each file: 1 where
+// it has a row, so that who lists looks at no place of the others.
 pub struct Plan {
     pub code: u8,
     pub total: usize,
@@ -53,7 +60,7 @@ fn prepare(index: &[u8], recipes: &[u8], chains: &mut [u32]) -> u8
     recipes::check(recipes)
 }
 
-// The mark of a file with n occurrences.
+// The mark of a file with n rows.
 fn mark_of(n: usize) -> u8
     ensures { λ r. ⌜ r ≡ min n 1 ⌝ }
 {
@@ -63,18 +70,54 @@ fn mark_of(n: usize) -> u8
     1
 }
 
-// Tests each file and counts its occurrences, file by file. A file is counted right after it is tested, while its slots hold its entries;
-// it is marked if it has an occurrence.
+// How many rows a file has in the answer: its occurrences, or for a query (request #109) its line, if it has one.
+fn rows_in(
+    index: &[u8],
+    choosing: walk::Choosing,
+    chains: &[u32],
+    tables: &[[[u32; 32]; 32]; 16],
+    file: &[u8],
+    slots: &[u32],
+    query: &[u8],
+) -> usize
+    requires { ⌜ Directory (now index) (choosing .opened) (now chains) × (now tables ≡ tablesOf (foldedKeywords (listIn (now index)))) ⌝ }
+    requires { ⌜ File (now index) (now file) (now slots) ⌝ }
+    requires { ⌜ (length (now query) ≤ 8) × (choosing .lengths ≡ written (replicate 16 0) (lengthsIn (now index))) ⌝ }
+    ensures { λ r. ⌜ r ≡ rows (lengthsIn (now (index .entry))) (now (query .entry)) (choosing .number)
+        (fileList (choosing .number) (now (index .entry)) (now (file .entry))) ⌝ }
+{
+    if query.len() == 0 {
+        return walk::count_file(index, choosing.opened, chains, tables, file, slots);
+    }
+    let choice = walk::choose_file(index, choosing, chains, tables, file, slots, query);
+    if choice.step == query.len() {
+        return 1;
+    }
+    0
+}
+
+// What a survey goes by: the opened index, and the keywords' lengths.
+struct Survey {
+    opened: spec::Opened,
+    lengths: [usize; 16],
+}
+
+// Tests each file and counts its rows, file by file. A file is counted right after it is tested, while its slots hold its entries; it is marked if
+// it has a row.
 fn survey_files(
     index: &[u8],
     recipes: &[u8],
-    opened: spec::Opened,
+    survey: Survey,
     chains: &[u32],
     tables: &[[[u32; 32]; 32]; 16],
+    query: &[u8],
 ) -> Plan
-    requires { ⌜ Joinable (now index) (now recipes) opened (now chains) (now tables) ⌝ }
-    ensures { λ r. ⌜ r ≡ planOf (now (index .entry)) (now (recipes .entry)) ⌝ }
+    requires { ⌜ Joinable (now index) (now recipes) (survey .opened) (now chains) (now tables) ⌝ }
+    requires { ⌜ (length (now query) ≤ 8) × (survey .lengths ≡ written (replicate 16 0) (lengthsIn (now index))) ⌝ }
+    ensures { λ r. ⌜ r ≡ planOf (now (index .entry)) (now (recipes .entry)) (now (query .entry)) ⌝ }
 {
+    let opened = survey.opened;
+    let lengths = survey.lengths;
     let mut slots = [0u32; 65536];
     let mut marks = [0u8; 65535];
     let files = recipes::count_at(recipes, 0);
@@ -87,7 +130,12 @@ fn survey_files(
         if code != 0 {
             return refused(code);
         }
-        let n = walk::count_file(index, opened, chains, tables, file, &slots);
+        let choosing = walk::Choosing {
+            opened: opened,
+            number: k,
+            lengths: lengths,
+        };
+        let n = rows_in(index, choosing, chains, tables, file, &slots, query);
         marks[k] = mark_of(n);
         total += n;
         at = at + 4 + file.len();
@@ -101,15 +149,17 @@ fn survey_files(
     }
 }
 
-// The plan of an index and recipes. It leaves the chains of the index's fingerprints and the keywords' tables in the arrays.
+// The plan of an index, recipes and a query; an empty query asks for all occurrences. It leaves the chains of the index's fingerprints and the
+// keywords' tables in the arrays.
 pub fn make(
     index: &[u8],
     recipes: &[u8],
+    query: &[u8],
     chains: &mut [u32],
     tables: &mut [[[u32; 32]; 32]; 16],
 ) -> Plan
-    requires { ⌜ Empty (now chains) ⌝ }
-    ensures { λ r. ⌜ (r ≡ planOf (now (index .entry)) (now (recipes .entry)))
+    requires { ⌜ Empty (now chains) × (length (now query) ≤ 8) ⌝ }
+    ensures { λ r. ⌜ (r ≡ planOf (now (index .entry)) (now (recipes .entry)) (now (query .entry)))
         × (now (chains .exit) ≡ examinedChains (now (index .entry)) (now (chains .entry)))
         × (now (tables .exit) ≡ plannedTables (now (index .entry)) (now (recipes .entry)) (now (tables .entry))) ⌝ }
 {
@@ -119,6 +169,12 @@ pub fn make(
     }
     let opened = index::opened(index);
     let list = &index[8..];
-    *tables = tables::tables_of(list, keywords::parse(list));
-    survey_files(index, recipes, opened, chains, tables)
+    let words = keywords::parse(list);
+    *tables = tables::tables_of(list, words);
+    let lengths = words.len;
+    let survey = Survey {
+        opened: opened,
+        lengths: lengths,
+    };
+    survey_files(index, recipes, survey, chains, tables, query)
 }

@@ -207,10 +207,10 @@ module _ (flag : ℕ) where
   enough-folded f keywords m (inr (q, covers)) = inr (q, rw longest-folded covers)
 
   module _ (f : Form) (keywords : List (List ℕ)) (m : ℕ) (ok : noneEmpty keywords ≡ true) (enough : Enough f keywords m) where
-    one : (file : ℕ) (cs : List (List ℕ)) → innerLong m (map length cs) ≡ true
+    pub one-file : (file : ℕ) (cs : List (List ℕ)) → innerLong m (map length cs) ≡ true
         → joinFile file (foldedAll flag keywords) (map (λ c. recordsOf f (foldedAll flag keywords) (folded flag c)) cs)
         ≡ occurrencesIn file (foldedAll flag keywords) (folded flag (joined cs))
-    one file cs e =
+    one-file file cs e =
         rw (records-folded f (foldedAll flag keywords) cs, folded-joined cs)
         (join-is-search-file f (foldedAll flag keywords) m (rw noneEmpty-folded ok) (enough-folded f keywords m enough) file (map (folded flag) cs) (rw (lengths-folded flag) e))
 
@@ -222,7 +222,7 @@ module _ (flag : ℕ) where
     join-is-search file [] e = refl
     join-is-search file (cs ∷ rest) e =
         ap₂ {C = List Occurrence} (λ x y. x ++ y)
-        (one file cs (and-left (innerLong m (map length cs)) (every (λ cs. innerLong m (map length cs)) rest) e))
+        (one-file file cs (and-left (innerLong m (map length cs)) (every (λ cs. innerLong m (map length cs)) rest) e))
         (join-is-search (suc file) rest (and-right (innerLong m (map length cs)) (every (λ cs. innerLong m (map length cs)) rest) e))
 
 -- ---- a keyword list

@@ -8,6 +8,7 @@ pub mod Splices
 pub mod ListBytes
 pub mod Folding
 pub mod OccurrencesAt
+pub mod Choices
 pub mod Rising
 pub mod Sets
 pub mod Same

@@ -90,6 +90,10 @@ fingerprintLength = 19
 abbrev pub storeEntryBeyond : ℕ
 storeEntryBeyond = 20
 
+-- A query of another length than 2 to 8, or with a number that is no keyword's (request #109).
+abbrev pub queryWrong : ℕ
+queryWrong = 21
+
 -- ---- tests in their order
 
 -- One test of an operation: a condition, and the number that refuses where it holds.

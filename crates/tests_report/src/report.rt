@@ -75,7 +75,7 @@ const KIND_NAMES: [u8; 1200] = *b"\
     - with keywords alike by an accent      \
     - with an occurrence by an accent       ";
 
-const OPERATION_NAMES: [u8; 480] = *b"\
+const OPERATION_NAMES: [u8; 560] = *b"\
     keyword checks                          \
     store checks                            \
     scan sizes                              \
@@ -87,7 +87,9 @@ const OPERATION_NAMES: [u8; 480] = *b"\
     body lookups                            \
     searches                                \
     compaction sizes                        \
-    compactions                             ";
+    compactions                             \
+    query counts                            \
+    queries                                 ";
 
 const BUFFER_NAMES: [u8; 320] = *b"\
     exact buffers, scan                     \
@@ -116,7 +118,7 @@ const STORE_NAMES: [u8; 240] = *b"\
     - refused with 8                        \
     - refused with 20                       ";
 
-const NUMBER_NAMES: [u8; 840] = *b"\
+const NUMBER_NAMES: [u8; 880] = *b"\
     answered 0                              \
     answered 1                              \
     answered 2                              \
@@ -137,7 +139,8 @@ const NUMBER_NAMES: [u8; 840] = *b"\
     answered 17                             \
     answered 18                             \
     answered 19                             \
-    answered 20                             ";
+    answered 20                             \
+    answered 21                             ";
 
 // The first n kinds by the holes.
 fn holes(counts: &mut [u64], n: usize) {
@@ -412,10 +415,42 @@ pub fn bodies(counts: &[u64]) {
     lines(&BODY_NAMES, counts, tally::BODIES, 15);
 }
 
+const QUERY_NAMES: [u8; 520] = *b"\
+    - with lines                            \
+    - without a line                        \
+    - refused for the index                 \
+    - refused with 14                       \
+    - refused with 15                       \
+    - refused with 16                       \
+    - refused with 17                       \
+    - refused with 21                       \
+    - files with a line                     \
+    - files without a line                  \
+    - lines that skip an overlap            \
+    - lines with adjacent occurrences       \
+    - lines with one across a chunk border  ";
+
+const QUERY_BUFFER_NAMES: [u8; 240] = *b"\
+    queries into longer buffers             \
+    queries into exact buffers              \
+    queries into buffers a byte short       \
+    lines into an empty buffer              \
+    no line into an empty buffer            \
+    queries refused whatever the buffer     ";
+
+// The queries since the last such report.
+pub fn queries(counts: &mut [u64]) {
+    report_lines(&QUERY_NAMES, counts, tally::QUERY_KINDS, 13);
+}
+
+pub fn query_buffers(counts: &[u64]) {
+    lines(&QUERY_BUFFER_NAMES, counts, tally::QUERY_BUFFERS, 6);
+}
+
 pub fn totals(counts: &[u64]) {
     lines(&MOVE_NAMES, counts, tally::MOVES, 11);
     lines(&BUFFER_NAMES, counts, tally::BUFFERS, 8);
-    lines(&OPERATION_NAMES, counts, tally::OPERATIONS, 12);
-    lines(&NUMBER_NAMES, counts, 0, 21);
+    lines(&OPERATION_NAMES, counts, tally::OPERATIONS, 14);
+    lines(&NUMBER_NAMES, counts, 0, 22);
     line(b"not as expected", count_at(counts, tally::DIFFERENCES));
 }

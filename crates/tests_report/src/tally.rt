@@ -11,13 +11,13 @@ pub fn store_place(code: u8) -> usize {
     plus(STORES, less(code as usize, 4))
 }
 
-// Places of the counters: numbers 0 to 20, operations, differences, cases since the last line, kinds of cases (those of long chunks 64 behind,
+// Places of the counters: numbers 0 to 21, operations, differences, cases since the last line, kinds of cases (those of long chunks 64 behind,
 // those of chunks longer than a window 96 behind, those by holes 112 behind), kinds of buffers.
 pub(crate) const OPERATIONS: usize = 32;
 
-pub(crate) const DIFFERENCES: usize = 44;
+pub(crate) const DIFFERENCES: usize = 46;
 
-pub const CASES: usize = 45;
+pub const CASES: usize = 47;
 
 pub(crate) const KINDS: usize = 48;
 
@@ -63,8 +63,14 @@ pub(crate) const SPANS: usize = 200;
 // Bodies with sets, good and damaged, by what they have; those under an older mark are the last.
 pub const BODIES: usize = 256;
 
+// Queries: cases with lines, without a line, refused for the index, with 14 to 17, with 21; files with a line, without one; lines by what their
+// choice shows. Then calls by their buffers: longer, exact, a byte short, empty with lines, empty without a line; refused whatever the buffer.
+pub const QUERY_KINDS: usize = 272;
+
+pub const QUERY_BUFFERS: usize = 288;
+
 // Room for the counters.
-pub const ALL: usize = 272;
+pub const ALL: usize = 296;
 
 // The operations.
 pub const KEYWORD_CHECK: usize = 0;
@@ -90,6 +96,10 @@ pub const SEARCH: usize = 9;
 pub const COMPACTION_SIZE: usize = 10;
 
 pub const COMPACTION: usize = 11;
+
+pub const QUERY_COUNT: usize = 12;
+
+pub const QUERY: usize = 13;
 
 pub fn bump(counts: &mut [u64], i: usize) {
     if i < counts.len() {
@@ -117,7 +127,7 @@ fn answer(got: u8, expected: u8, rest: bool) -> usize {
 // A call of an operation: `got` is the number that it answered, `expected` the one that is due, and `rest` says whether its value and its
 // bytes are the ones due.
 pub fn compared(counts: &mut [u64], operation: usize, got: u8, expected: u8, rest: bool) {
-    bump(counts, OPERATIONS + operation % 12);
+    bump(counts, OPERATIONS + operation % 14);
     bump(counts, answer(got, expected, rest));
 }
 

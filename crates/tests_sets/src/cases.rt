@@ -1,7 +1,6 @@
 // The cases of small chunks and of bodies with sets, run and counted.
 use crate::bodies;
 use crate::make;
-use crate::make::make_small;
 use tests_plain::bytes::same;
 use tests_plain::case;
 use tests_plain::codes::recipes_code;
@@ -21,6 +20,7 @@ use tests_runs::cases::run_model;
 use tests_vaults::fill::put_joined;
 use tests_vaults::make::invent;
 use tests_vaults::make::make;
+use tests_vaults::tiny::make_small;
 
 // What is run: vaults of small chunks; the same with made-up records; vaults whose lists are told; made-up records joined by both rules.
 const SCANNED: usize = 0;

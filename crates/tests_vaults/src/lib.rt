@@ -1,5 +1,5 @@
-// The vaults that the tests run: generated from a seed, with long chunks, with holes, torn, damaged, at the longest length, and their inputs in
-// document 01's formats.
+// The vaults that the tests run: generated from a seed, with small chunks, with long ones, with holes, torn, damaged, at the longest length, and
+// their inputs in document 01's formats.
 // Test support: proved safe and ending, with contracts only where a proof needs one.
 pub mod encode;
 pub mod faults;
@@ -10,3 +10,4 @@ pub mod long;
 pub mod make;
 pub mod orders;
 pub mod small;
+pub mod tiny;

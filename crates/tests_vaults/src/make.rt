@@ -57,7 +57,7 @@ pub(crate) fn spell(m: &mut [u8], at: usize, n: usize, alphabet: usize, seed: u6
 }
 
 // The first of four kinds of vaults of small chunks.
-pub const SMALL: usize = 8;
+pub(crate) const SMALL: usize = 8;
 
 // A keyword's length: 1 to 4; in some vaults 1 or 2, 2 only, 31 or 32, 3 to 5, or its number and one.
 fn keyword_length(kind: usize, k: usize, seed: u64) -> usize {
@@ -112,7 +112,7 @@ fn chunk_length(kind: usize, c: usize, seed: u64) -> usize {
     plus(pick(seed, 40), 1)
 }
 
-pub fn make_chunks(m: &mut [u8], n: usize, kind: usize, alphabet: usize, seed: u64) -> u64 {
+pub(crate) fn make_chunks(m: &mut [u8], n: usize, kind: usize, alphabet: usize, seed: u64) -> u64 {
     let mut s = seed;
     for c in 0..n {
         s = next(s);
@@ -124,7 +124,7 @@ pub fn make_chunks(m: &mut [u8], n: usize, kind: usize, alphabet: usize, seed: u
 }
 
 // The chunk numbers of a file.
-pub fn make_file(m: &mut [u8], f: usize, n: usize, chunks: usize, seed: u64) -> u64 {
+pub(crate) fn make_file(m: &mut [u8], f: usize, n: usize, chunks: usize, seed: u64) -> u64 {
     put(m, file_at(f), (n % 256) as u8);
     let mut s = seed;
     for i in 0..n {

@@ -2,7 +2,7 @@
 -- every join of recipes that name only such fingerprints go the same way in both. Requests #101, #106 and #107 are cases of it. Assumes nothing.
 use mathlib.Core.Path.{_≡_, refl, sym, ap, _∙_}
 use mathlib.Core.Logic.{_≢_, ⊎-elim}
-use mathlib.Core.Bool.{Bool, true, false}
+use mathlib.Core.Bool.{Bool, true, false, not}
 use mathlib.Core.List.{List, [], _∷_, map}
 use Prim.Native.Nat.{ℕ, zero, suc, _*_, _<_}
 use native.Mathlib.Omega.{arith}
@@ -11,12 +11,13 @@ use lib.Dec.{ltb}
 use lib.ListN.{length, getD}
 use Rattle.spec.specs.Bytes.{written, contains, positionOf, every, joined}
 use Rattle.spec.specs.Outcome.{firstOf, firstCode, whole, codeOf, valueOf}
-use Rattle.spec.specs.Keywords.{flagOf, folded, foldedKeywords}
+use Rattle.spec.specs.Keywords.{flagOf, folded, keywordsOf, foldedKeywords}
 use Rattle.spec.specs.Directory.{sizeAt}
 use Rattle.spec.specs.Store.{storeLayout, chunkCount, storeKeys}
 use Rattle.spec.specs.Form.{Form, newest, formOf}
 use Rattle.spec.specs.Recipes.{fileCode, filesCode, filesOf, recipesCode}
 use Rattle.spec.specs.Join.{Occurrence, joinList, listBytes, innerLeast, joinCode, joinOutcome, joinBuffer, readList}
+use Rattle.spec.specs.Query.{Line, lineSize, linesBytes, isQuery, queryOutcome, queryBuffer}
 use Rattle.spec.specs.Scan.{scanCode}
 use Rattle.spec.specs.Search.{chunkNamed, restored, directSearch, occurrencesInAll, searchJoinCode}
 use Rattle.spec.proofs.Tests.{bool-cases, and-left, and-right}
@@ -25,8 +26,10 @@ use Rattle.spec.proofs.Tabulated.{map-match}
 use Rattle.spec.proofs.FileLaws.{every-at, file-accepted, files-cons}
 use Rattle.spec.proofs.StoreLaws.{StoreGood, length-storeKeys, chunk-length}
 use Rattle.theory.specs.Demand3.{scanned}
-use Rattle.theory.specs.SameChunks.{JoinsAlike}
+use Rattle.theory.specs.Queries.{linesIn, searchLines, searchQueryCode}
+use Rattle.theory.specs.SameChunks.{JoinsAlike, QueriesAlike}
 use Rattle.theory.proofs.ScanThenJoin.{position-in, answer-same, buffer-same}
+use Rattle.theory.proofs.QuerySearch.{query-outcome, query-buffer}
 use Rattle.theory.proofs.Demand3.{code-of-answer, join-outcome, join-buffer, scanned-is, join-of-scan}
 
 -- A store has the fingerprint; the entry that does.
@@ -50,6 +53,11 @@ filesTest store m files = filesCode (storeKeys store) (sizeAt storeLayout store)
 last-test : (r c d n : ℕ) (p q : Bool) → c ≡ d → (c ≡ 0 → p ≡ q) → firstOf (whole r ∷ whole c ∷ (p, n) ∷ []) ≡ firstOf (whole r ∷ whole d ∷ (q, n) ∷ [])
 last-test r zero d n p q e h = rw (← e, h refl)
 last-test r (suc c) d n p q e h = rw (← e, lt-ltb 0 (suc c) (omega arith))
+
+last-two : (r c d m n : ℕ) (o p q : Bool) → c ≡ d → (c ≡ 0 → p ≡ q)
+    → firstOf (whole r ∷ whole c ∷ (o, m) ∷ (p, n) ∷ []) ≡ firstOf (whole r ∷ whole d ∷ (o, m) ∷ (q, n) ∷ [])
+last-two r zero d m n o p q e h = rw (← e, h refl)
+last-two r (suc c) d m n o p q e h = rw (← e, lt-ltb 0 (suc c) (omega arith))
 
 -- a join that is refused leaves its buffer
 pub join-kept : (index recipes out : List ℕ) → codeOf (joinOutcome (formOf index) index recipes (length out)) ≢ 0
@@ -131,6 +139,30 @@ module _ (store other : List ℕ) (P : List ℕ → Bool) (a : Agree store other
     unfolding directSearch
     same-search list recipes p e = ap (occurrencesInAll 0 (foldedKeywords list)) (same-texts (flagOf list) (filesOf recipes) p e)
 
+    -- and so are the lines of a query
+    same-lines : (list recipes query : List ℕ) → every (every P) (filesOf recipes) ≡ true → filesTest store m (filesOf recipes) ≡ 0
+        → searchLines list store recipes query ≡ searchLines list other recipes query
+    unfolding searchLines
+    same-lines list recipes query p e =
+        ap (linesIn (map length (keywordsOf list)) query 0 (foldedKeywords list)) (same-texts (flagOf list) (filesOf recipes) p e)
+
+  -- ---- a query's part
+
+  module _ (list recipes query : List ℕ) (room : ℕ) (p : every (every P) (filesOf recipes) ≡ true) where
+    same-query-code : searchQueryCode list store recipes query room ≡ searchQueryCode list other recipes query room
+    unfolding searchQueryCode
+    same-query-code =
+        last-two (recipesCode recipes) (filesTest store 0 (filesOf recipes)) (filesTest other 0 (filesOf recipes)) 21 18
+        (not (isQuery (length (keywordsOf list)) query)) _ _
+        (same-files 0 (filesOf recipes) p)
+        (λ z. ap (λ (l : List Line). ltb room (lineSize query * length l)) (same-lines 0 list recipes query p z))
+
+    same-query-lines : searchQueryCode list store recipes query room ≡ 0 → searchLines list store recipes query ≡ searchLines list other recipes query
+    unfolding searchQueryCode
+    same-query-lines e =
+        let c = passed-whole (recipesCode recipes) _ e in
+        same-lines 0 list recipes query p (passed-whole (filesTest store 0 (filesOf recipes)) _ (c .1) .0)
+
   -- ---- the join's part of a search
 
   module _ (f : Form) (list recipes : List ℕ) (room : ℕ) (p : every (every P) (filesOf recipes) ≡ true) where
@@ -183,7 +215,28 @@ module _ (store other : List ℕ) (P : List ℕ → Bool) (a : Agree store other
         agreed-outcome (length out) ∙ ap (joinOutcome (formOf otherIndex) otherIndex recipes) l in
         s .listed z ∙ same-search 0 list recipes p (s .done .0 z .1) ∙ sym (t .listed (ap codeOf (sym o) ∙ z))
 
-    -- all of it, into list buffers of equal length
+    -- queries of these indexes
+    agreed-query : (query : List ℕ) (room : ℕ)
+        → queryOutcome (formOf index) index recipes query room ≡ queryOutcome (formOf otherIndex) otherIndex recipes query room
+    agreed-query query room =
+        query-outcome list store (length buffer) e index (scanned-is list store buffer e) recipes query room
+        ∙ answer-same _ _ _ _ (same-query-code list recipes query room p)
+        (λ z. ap length (same-query-lines list recipes query room p (same-query-code list recipes query room p ∙ z)))
+        ∙ sym (query-outcome list other (length buffer₂) e₂ otherIndex (scanned-is list other buffer₂ e₂) recipes query room)
+
+    agreed-query-buffer : (query out : List ℕ)
+        → queryBuffer (formOf index) index recipes query out ≡ queryBuffer (formOf otherIndex) otherIndex recipes query out
+    agreed-query-buffer query out =
+        query-buffer list store (length buffer) e index (scanned-is list store buffer e) recipes query out
+        ∙ buffer-same _ _ _ _ out (same-query-code list recipes query (length out) p)
+        (λ z. ap (λ (l : List Line). written out (linesBytes l))
+        (same-query-lines list recipes query (length out) p (same-query-code list recipes query (length out) p ∙ z)))
+        ∙ sym (query-buffer list other (length buffer₂) e₂ otherIndex (scanned-is list other buffer₂ e₂) recipes query out)
+
+    pub agreed-queries : QueriesAlike index otherIndex recipes
+    agreed-queries = record { outcome = agreed-query; bytes = agreed-query-buffer }
+
+    -- all of a join, into list buffers of equal length
     pub agreed-joins : (out out₂ : List ℕ) → length out ≡ length out₂
         → JoinsAlike out out₂
         (joinOutcome (formOf index) index recipes (length out)) (joinOutcome (formOf otherIndex) otherIndex recipes (length out₂))

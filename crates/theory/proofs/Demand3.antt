@@ -55,7 +55,7 @@ unfolding splice
 written-front buffer bytes = take-at bytes (drop (0 + length bytes) buffer) (length bytes) refl
 
 -- a buffer after work was done
-worked-buffer : (code : ℕ) (out bytes : List ℕ) → code ≡ 0 → unlessRefused code (written out bytes) out ≡ bytes ++ drop (0 + length bytes) out
+pub worked-buffer : (code : ℕ) (out bytes : List ℕ) → code ≡ 0 → unlessRefused code (written out bytes) out ≡ bytes ++ drop (0 + length bytes) out
 unfolding unlessRefused splice
 worked-buffer code out bytes e = rw e
 
@@ -102,10 +102,10 @@ module _ (list store : List ℕ) where
   -- ---- a join of what it wrote
 
   module _ (room : ℕ) (e : scanCode newest list store room ≡ 0) where
-    scan-is-read : ScanReads newest list store (scanIndex newest list store)
+    pub scan-is-read : ScanReads newest list store (scanIndex newest list store)
     scan-is-read = let n : NoScanRefusal list store room = scan-done room .0 e in scan-reads newest newest-scans list store (n .0) (n .1) (n .3)
 
-    accepts : keywordCode list ≡ 0
+    pub accepts : keywordCode list ≡ 0
     accepts = scan-done room .0 e .0
 
     pub join-outcome : (index recipes : List ℕ) (room₂ : ℕ) → index ≡ scanIndex newest list store

@@ -21,6 +21,7 @@ use Rattle.spec.specs.Form.{newest, formOf}
 use Rattle.spec.specs.Recipes.{filesOf}
 use Rattle.spec.specs.Index.{indexLayout, indexKeys, indexCode}
 use Rattle.spec.specs.Join.{Occurrence, keywordAt, joinList, listBytes, readList, joinCode, joinOutcome, joinBuffer}
+use Rattle.spec.specs.Query.{queryLines, linesBytes, queryCode, queryOutcome, queryBuffer}
 use Rattle.spec.specs.Lookup.{lookupCode, lookupStart, lookupLength, findChunk, chunkStart, chunkLength, chunkOf, findBody, bodyStart, bodyLength, bodyOf}
 use Rattle.spec.specs.Trie.{scanMoves}
 use Rattle.spec.specs.Scan.{scanIndex, scanCode, scanOutcome, withMoves, scanAnswer, scanBuffer, scannedCode, scannedLength}
@@ -86,13 +87,16 @@ lookup-answered code layout bytes keys key =
     record { empty = λ d. (rw (ne-eqb (lookupCode code keys key) 0 d), rw (ne-eqb (lookupCode code keys key) 0 d)) }
 
 pub demand-1 : Demand1
-unfolding scanBuffer joinOutcome joinBuffer searchBuffer compactOutcome compactBuffer findChunk chunkStart chunkLength chunkOf findBody bodyStart bodyLength bodyOf
+unfolding scanBuffer joinOutcome joinBuffer queryOutcome queryBuffer searchBuffer compactOutcome compactBuffer findChunk chunkStart chunkLength chunkOf findBody bodyStart bodyLength bodyOf
 demand-1 =
     record {
       scan = scan-answered;
       join = λ index recipes buffer.
           answered (joinCode (formOf index) index recipes (length buffer)) (length (joinList (formOf index) index recipes))
           (written buffer (listBytes (joinList (formOf index) index recipes))) buffer;
+      query = λ index recipes query buffer.
+          answered (queryCode (formOf index) index recipes query (length buffer)) (length (queryLines (formOf index) index recipes query))
+          (written buffer (linesBytes (queryLines (formOf index) index recipes query))) buffer;
       search = λ list store recipes index out. record {
         number = searched-code list store recipes (length index) (length out);
         listKept = λ d.

@@ -1,5 +1,6 @@
 pub mod Cases
 pub mod SetCases
+pub mod QueryCases
 pub mod SearchList
 pub mod PlaceText
 pub mod IndexTheorems
@@ -7,6 +8,10 @@ pub mod ScanThenJoin
 pub mod Demand3
 pub mod RecordTheorems
 pub mod ListRead
+pub mod QueryLines
+pub mod QuerySearch
+pub mod QueryStands
+pub mod Queries
 pub mod WrittenBytes
 pub mod SearchLaws
 pub mod AnyOrder

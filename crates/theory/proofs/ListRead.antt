@@ -51,7 +51,7 @@ pub length-files : (n : ℕ) (bytes : List ℕ) → length (readFiles n bytes) �
 length-files zero bytes = refl
 length-files (suc n) bytes = ap suc (length-files n (drop (4 + 20 * fieldAt bytes 0 4) bytes))
 
-few-files : (recipes : List ℕ) → recipesCode recipes ≡ 0 → length (filesOf recipes) ≤ mostFiles
+pub few-files : (recipes : List ℕ) → recipesCode recipes ≡ 0 → length (filesOf recipes) ≤ mostFiles
 unfolding recipesCode filesOf
 few-files recipes e =
     let a = passed (ltb (length recipes) 4) 14 _ (omega arith) e in
@@ -60,7 +60,7 @@ few-files recipes e =
 
 module _ (f : Form) (list store index recipes : List ℕ) (accept : keywordCode list ≡ 0) (reads : ScanReads f list store index) (least : ℕ)
     (known : recipesCode recipes ≡ 0) (good : filesCode (storeKeys store) (sizeAt storeLayout store) least (filesOf recipes) ≡ 0) where
-  short-text : (n : ℕ) → n < length (filesOf recipes) → length (getD (restoredFiles list store recipes) n []) ≤ largest32
+  pub short-text : (n : ℕ) → n < length (filesOf recipes) → length (getD (restoredFiles list store recipes) n []) ≤ largest32
   unfolding restored
   short-text n l =
       let g : FileAccepted (storeKeys store) (sizeAt storeLayout store) least (getD (filesOf recipes) n []) =

@@ -13,9 +13,10 @@ use Rattle.spec.specs.Keywords.{countOf, listSize, foldedKeywords, readCode, he
 use Rattle.spec.specs.Directory.{Layout, directoryEnd, sizeAt, offsetAt, lengthAt, entriesCode}
 use Rattle.spec.specs.Store.{storeMark, storeLayout, chunkCount, mostChunks, storeKeys, storeCode, chunkEnd, chunksCode}
 use Rattle.spec.specs.Form.{Form, newest, formOf}
-use Rattle.spec.specs.Index.{listIn, indexLayout, indexKeys, allGood, headerCode, directoryCode, laidCode, indexCode}
+use Rattle.spec.specs.Index.{listIn, lengthsIn, indexLayout, indexKeys, allGood, headerCode, directoryCode, laidCode, indexCode}
 use Rattle.spec.specs.Recipes.{mostFiles, fileCount, filesWhole, innerLong, sizesIn, filesOf, recipesCode, fileCode, filesCode}
 use Rattle.spec.specs.Join.{joinList, innerLeast, joinableCode, joinCode}
+use Rattle.spec.specs.Query.{queryLines, lineSize, isQuery, queryableCode, queryCode}
 use Rattle.spec.specs.Lookup.{lookupCode, findChunk, findBody}
 use Rattle.spec.specs.Scan.{scanIndex, scannableCode, scanCode}
 use Rattle.spec.specs.Search.{directSearch, searchJoinCode, searchCode}
@@ -185,17 +186,38 @@ scan-number f list store room =
 
 -- the numbers of the files' tests are among those of the whole
 module _ (numbers : List ℕ) (has : every (λ x. member x numbers) (14 ∷ 18 ∷ ofIndex) ≡ true) where
+  joinable-number : (f : Form) (index recipes : List ℕ)
+      → member (filesCode (indexKeys index) (sizeAt (indexLayout index) index) (innerLeast f (listIn index)) (filesOf recipes)) numbers ≡ true
+      → member (joinableCode f index recipes) numbers ≡ true
+  unfolding joinableCode
+  joinable-number f index recipes files =
+      whole-in numbers (indexCode f index) _
+      (wider (indexCode f index) (14 ∷ 18 ∷ ofIndex) numbers has (wider (indexCode f index) ofIndex (14 ∷ 18 ∷ ofIndex) refl (index-number f index)))
+      (whole-in numbers (recipesCode recipes) _
+      (wider (recipesCode recipes) (14 ∷ 18 ∷ ofIndex) numbers has (wider (recipesCode recipes) ofRecipes (14 ∷ 18 ∷ ofIndex) refl (recipes-number recipes)))
+      (whole-in numbers (filesCode (indexKeys index) (sizeAt (indexLayout index) index) (innerLeast f (listIn index)) (filesOf recipes)) 0 files
+      (wider 0 (14 ∷ 18 ∷ ofIndex) numbers has refl)))
+
   join-number : (f : Form) (index recipes : List ℕ) (room : ℕ)
       → member (filesCode (indexKeys index) (sizeAt (indexLayout index) index) (innerLeast f (listIn index)) (filesOf recipes)) numbers ≡ true
       → member (joinCode f index recipes room) numbers ≡ true
-  unfolding joinCode joinableCode
+  unfolding joinCode
   join-number f index recipes room files =
-      whole-in numbers (joinableCode f index recipes) _
-      (whole-in numbers (indexCode f index) _ (wider (indexCode f index) (14 ∷ 18 ∷ ofIndex) numbers has (wider (indexCode f index) ofIndex (14 ∷ 18 ∷ ofIndex) refl (index-number f index)))
-      (whole-in numbers (recipesCode recipes) _ (wider (recipesCode recipes) (14 ∷ 18 ∷ ofIndex) numbers has (wider (recipesCode recipes) ofRecipes (14 ∷ 18 ∷ ofIndex) refl (recipes-number recipes)))
-      (whole-in numbers (filesCode (indexKeys index) (sizeAt (indexLayout index) index) (innerLeast f (listIn index)) (filesOf recipes)) 0 files
-      (wider 0 (14 ∷ 18 ∷ ofIndex) numbers has refl))))
-      (test-in numbers (ltb room (9 * length (joinList f index recipes))) 18 0 (wider 18 (14 ∷ 18 ∷ ofIndex) numbers has refl) (wider 0 (14 ∷ 18 ∷ ofIndex) numbers has refl))
+      whole-in numbers (joinableCode f index recipes) _ (joinable-number f index recipes files)
+      (test-in numbers (ltb room (9 * length (joinList f index recipes))) 18 0 (wider 18 (14 ∷ 18 ∷ ofIndex) numbers has refl)
+      (wider 0 (14 ∷ 18 ∷ ofIndex) numbers has refl))
+
+  -- a query has 21 too
+  query-number : (f : Form) (index recipes query : List ℕ) (room : ℕ) → member 21 numbers ≡ true
+      → member (filesCode (indexKeys index) (sizeAt (indexLayout index) index) (innerLeast f (listIn index)) (filesOf recipes)) numbers ≡ true
+      → member (queryCode f index recipes query room) numbers ≡ true
+  unfolding queryCode queryableCode
+  query-number f index recipes query room more files =
+      let zeroIn : member 0 numbers ≡ true = wider 0 (14 ∷ 18 ∷ ofIndex) numbers has refl in
+      whole-in numbers (queryableCode f index recipes query) _
+      (whole-in numbers (joinableCode f index recipes) _ (joinable-number f index recipes files)
+      (test-in numbers (not (isQuery (length (lengthsIn index)) query)) 21 0 more zeroIn))
+      (test-in numbers (ltb room (lineSize query * length (queryLines f index recipes query))) 18 0 (wider 18 (14 ∷ 18 ∷ ofIndex) numbers has refl) zeroIn)
 
 abbrev ofJoin : List ℕ
 ofJoin = 0 ∷ 1 ∷ 2 ∷ 3 ∷ 4 ∷ 10 ∷ 11 ∷ 12 ∷ 13 ∷ 14 ∷ 15 ∷ 16 ∷ 17 ∷ 18 ∷ []
@@ -203,18 +225,37 @@ ofJoin = 0 ∷ 1 ∷ 2 ∷ 3 ∷ 4 ∷ 10 ∷ 11 ∷ 12 ∷ 13 ∷ 14 ∷ 15 ∷
 abbrev ofSetJoin : List ℕ
 ofSetJoin = 0 ∷ 1 ∷ 2 ∷ 3 ∷ 4 ∷ 10 ∷ 11 ∷ 12 ∷ 13 ∷ 14 ∷ 15 ∷ 16 ∷ 18 ∷ []
 
+abbrev ofQuery : List ℕ
+ofQuery = 0 ∷ 1 ∷ 2 ∷ 3 ∷ 4 ∷ 10 ∷ 11 ∷ 12 ∷ 13 ∷ 14 ∷ 15 ∷ 16 ∷ 17 ∷ 18 ∷ 21 ∷ []
+
+abbrev ofSetQuery : List ℕ
+ofSetQuery = 0 ∷ 1 ∷ 2 ∷ 3 ∷ 4 ∷ 10 ∷ 11 ∷ 12 ∷ 13 ∷ 14 ∷ 15 ∷ 16 ∷ 18 ∷ 21 ∷ []
+
+-- the files' tests of an index, among the numbers of the whole
+module _ (f : Form) (index recipes numbers : List ℕ) where
+  abbrev indexFiles : ℕ
+  indexFiles = filesCode (indexKeys index) (sizeAt (indexLayout index) index) (innerLeast f (listIn index)) (filesOf recipes)
+
+  any-index-files : every (λ x. member x numbers) ofFiles ≡ true → member indexFiles numbers ≡ true
+  any-index-files has =
+      wider indexFiles ofFiles numbers has (any-files (indexKeys index) (sizeAt (indexLayout index) index) (filesOf recipes) (innerLeast f (listIn index)))
+
+  set-index-files : every (λ x. member x numbers) ofSetFiles ≡ true → f .sets ≡ true → member indexFiles numbers ≡ true
+  set-index-files has q =
+      wider indexFiles ofSetFiles numbers has (set-files (indexKeys index) (sizeAt (indexLayout index) index) (filesOf recipes) f q (listIn index))
+
 any-join : (f : Form) (index recipes : List ℕ) (room : ℕ) → member (joinCode f index recipes room) ofJoin ≡ true
-any-join f index recipes room =
-    let least = innerLeast f (listIn index) in
-    join-number ofJoin refl f index recipes room
-    (wider (filesCode (indexKeys index) (sizeAt (indexLayout index) index) least (filesOf recipes)) ofFiles ofJoin refl
-    (any-files (indexKeys index) (sizeAt (indexLayout index) index) (filesOf recipes) least))
+any-join f index recipes room = join-number ofJoin refl f index recipes room (any-index-files f index recipes ofJoin refl)
 
 set-join : (f : Form) (index recipes : List ℕ) (room : ℕ) → f .sets ≡ true → member (joinCode f index recipes room) ofSetJoin ≡ true
-set-join f index recipes room q =
-    join-number ofSetJoin refl f index recipes room
-    (wider (filesCode (indexKeys index) (sizeAt (indexLayout index) index) (innerLeast f (listIn index)) (filesOf recipes)) ofSetFiles ofSetJoin refl
-    (set-files (indexKeys index) (sizeAt (indexLayout index) index) (filesOf recipes) f q (listIn index)))
+set-join f index recipes room q = join-number ofSetJoin refl f index recipes room (set-index-files f index recipes ofSetJoin refl q)
+
+any-query : (f : Form) (index recipes query : List ℕ) (room : ℕ) → member (queryCode f index recipes query room) ofQuery ≡ true
+any-query f index recipes query room = query-number ofQuery refl f index recipes query room refl (any-index-files f index recipes ofQuery refl)
+
+set-query : (f : Form) (index recipes query : List ℕ) (room : ℕ) → f .sets ≡ true → member (queryCode f index recipes query room) ofSetQuery ≡ true
+set-query f index recipes query room q =
+    query-number ofSetQuery refl f index recipes query room refl (set-index-files f index recipes ofSetQuery refl q)
 
 abbrev pub ofSearch : List ℕ
 ofSearch = 0 ∷ 1 ∷ 2 ∷ 3 ∷ 4 ∷ 5 ∷ 6 ∷ 7 ∷ 8 ∷ 9 ∷ 14 ∷ 15 ∷ 16 ∷ 18 ∷ 20 ∷ []
@@ -276,6 +317,8 @@ numbers = record {
   index = λ index. index-number (formOf index) index;
   join = λ index. any-join (formOf index) index;
   joinSets = λ index. set-join (formOf index) index;
+  query = λ index. any-query (formOf index) index;
+  querySets = λ index. set-query (formOf index) index;
   search = search-number newest refl;
   compact = compact-number;
   chunk = chunk-number;

@@ -83,10 +83,10 @@ module _ (f : Form) (list store index : List ℕ) (accept : keywordCode list ≡
   abbrev storeFileCode : List (List ℕ) → ℕ
   storeFileCode file = fileCode (storeKeys store) (sizeAt storeLayout store) (innerLeast f list) file
 
-  abbrev storeFilesCode : List (List (List ℕ)) → ℕ
+  abbrev pub storeFilesCode : List (List (List ℕ)) → ℕ
   storeFilesCode files = filesCode (storeKeys store) (sizeAt storeLayout store) (innerLeast f list) files
 
-  abbrev chunksNamed : List (List ℕ) → List (List ℕ)
+  abbrev pub chunksNamed : List (List ℕ) → List (List ℕ)
   chunksNamed file = map (chunkNamed store) file
 
   in-store : (key : List ℕ) → contains key (storeKeys store) ≡ true → positionOf key (storeKeys store) < chunkCount store
@@ -106,7 +106,7 @@ module _ (f : Form) (list store index : List ℕ) (accept : keywordCode list ≡
       map-map length (chunkNamed store) file
       ∙ map-same (λ key. contains key (storeKeys store)) _ _ [] file e (λ key c. reads .chunks (positionOf key (storeKeys store)) (in-store key c))
 
-  all-records : (files : List (List (List ℕ))) → storeFilesCode files ≡ 0
+  pub all-records : (files : List (List (List ℕ))) → storeFilesCode files ≡ 0
       → map (fileRecords f index) files ≡ map (map (scanRecords f list)) (map chunksNamed files)
   unfolding filesCode
   all-records [] e = refl
@@ -116,7 +116,7 @@ module _ (f : Form) (list store index : List ℕ) (accept : keywordCode list ≡
       file-accepted (storeKeys store) (sizeAt storeLayout store) (innerLeast f list) file (p .0) in
       rw (file-records file (g .known), all-records files (p .1))
 
-  all-roomy : (files : List (List (List ℕ))) → storeFilesCode files ≡ 0
+  pub all-roomy : (files : List (List (List ℕ))) → storeFilesCode files ≡ 0
       → every (λ cs. innerLong (innerLeast f list) (map length cs)) (map chunksNamed files) ≡ true
   unfolding filesCode
   all-roomy [] e = refl
@@ -126,7 +126,7 @@ module _ (f : Form) (list store index : List ℕ) (accept : keywordCode list ≡
       file-accepted (storeKeys store) (sizeAt storeLayout store) (innerLeast f list) file (p .0) in
       rw (file-lengths file (g .known), g .inner, all-roomy files (p .1))
 
-  texts : (files : List (List (List ℕ))) → map (λ cs. folded (flagOf list) (joined cs)) (map chunksNamed files)
+  pub texts : (files : List (List (List ℕ))) → map (λ cs. folded (flagOf list) (joined cs)) (map chunksNamed files)
       ≡ map (λ file. folded (flagOf list) (restored store file)) files
   unfolding restored
   texts files = map-map (λ cs. folded (flagOf list) (joined cs)) chunksNamed files
@@ -144,7 +144,7 @@ module _ (f : Form) (list store index : List ℕ) (accept : keywordCode list ≡
   unfolding innerLeast
   innerLeast-same = rw (reads .listed .keywords)
 
-  index-files : (files : List (List (List ℕ))) → filesCode (indexKeys index) (sizeAt (indexLayout index) index) (innerLeast f (listIn index)) files
+  pub index-files : (files : List (List (List ℕ))) → filesCode (indexKeys index) (sizeAt (indexLayout index) index) (innerLeast f (listIn index)) files
       ≡ storeFilesCode files
   index-files files =
       rw (reads .keys, innerLeast-same)

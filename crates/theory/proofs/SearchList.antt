@@ -216,7 +216,7 @@ module _ (file count : ℕ) (test : ℕ → Bool) (offset : ℕ) where
 
 module _ (keywords : List (List ℕ)) where
   -- the tests of an occurrence in a text, but for its file
-  abbrev inText : List ℕ → Occurrence → Bool
+  abbrev pub inText : List ℕ → Occurrence → Bool
   inText text o = ltb (o .offset) (length text) && (ltb (o .keyword) (length keywords) && occursAt (keywordAt keywords (o .keyword)) text (o .offset))
 
   module _ (file : ℕ) (text : List ℕ) where
@@ -233,7 +233,7 @@ module _ (keywords : List (List ℕ)) where
     swap a true c = refl
     swap a false c = and-false a
 
-    in-text : (o : Occurrence) → isIn o (occurrencesIn file keywords text) ≡ (eqb (o .file) file && inText text o)
+    pub in-text : (o : Occurrence) → isIn o (occurrencesIn file keywords text) ≡ (eqb (o .file) file && inText text o)
     unfolding occurrencesIn
     in-text o =
         in-each hitsAt (λ x. x .offset) at-offset o 0 (length text)

@@ -19,6 +19,7 @@ use Rattle.spec.specs.Records.{recordAt}
 use Rattle.spec.specs.Index.{indexRecords, indexCode}
 use Rattle.spec.specs.Recipes.{filesOf}
 use Rattle.spec.specs.Join.{Occurrence, keywordAt, joinList, listBytes, readList, joinCode, joinOutcome, joinBuffer}
+use Rattle.spec.specs.Query.{queryLines, linesBytes, queryCode, queryOutcome, queryBuffer}
 use Rattle.spec.specs.Lookup.{findChunk, chunkStart, chunkOf, findBody, bodyStart, bodyOf}
 use Rattle.spec.specs.Trie.{scanMoves}
 use Rattle.spec.specs.Scan.{scanIndex, scanCode, scanAnswer, scanBuffer, scannedCode, scannedLength}
@@ -69,6 +70,11 @@ pub record Numbers : Type 0 where
   -- 17 under the two older marks alone (request #108)
   pub joinSets : (index recipes : List ℕ) (room : ℕ) → formOf index .sets ≡ true
       → member (joinCode (formOf index) index recipes room) (0 ∷ 1 ∷ 2 ∷ 3 ∷ 4 ∷ 10 ∷ 11 ∷ 12 ∷ 13 ∷ 14 ∷ 15 ∷ 16 ∷ 18 ∷ []) ≡ true
+  -- request #109: 21 too; 17 as in a join
+  pub query : (index recipes query : List ℕ) (room : ℕ)
+      → member (queryCode (formOf index) index recipes query room) (0 ∷ 1 ∷ 2 ∷ 3 ∷ 4 ∷ 10 ∷ 11 ∷ 12 ∷ 13 ∷ 14 ∷ 15 ∷ 16 ∷ 17 ∷ 18 ∷ 21 ∷ []) ≡ true
+  pub querySets : (index recipes query : List ℕ) (room : ℕ) → formOf index .sets ≡ true
+      → member (queryCode (formOf index) index recipes query room) (0 ∷ 1 ∷ 2 ∷ 3 ∷ 4 ∷ 10 ∷ 11 ∷ 12 ∷ 13 ∷ 14 ∷ 15 ∷ 16 ∷ 18 ∷ 21 ∷ []) ≡ true
   pub search : (list store recipes : List ℕ) (indexRoom room : ℕ)
       → member (searchCode newest list store recipes indexRoom room) (0 ∷ 1 ∷ 2 ∷ 3 ∷ 4 ∷ 5 ∷ 6 ∷ 7 ∷ 8 ∷ 9 ∷ 14 ∷ 15 ∷ 16 ∷ 18 ∷ 20 ∷ []) ≡ true
   pub compact : (store recipes : List ℕ) (room : ℕ) → member (compactCode store recipes room) (0 ∷ 5 ∷ 6 ∷ 7 ∷ 8 ∷ 9 ∷ 14 ∷ 15 ∷ 20 ∷ []) ≡ true
@@ -82,6 +88,10 @@ pub record Demand1 : Type 0 where
       → Answered (joinCode (formOf index) index recipes (length buffer)) (length (joinList (formOf index) index recipes))
       (written buffer (listBytes (joinList (formOf index) index recipes))) buffer
       (joinOutcome (formOf index) index recipes (length buffer)) (joinBuffer (formOf index) index recipes buffer)
+  pub query : (index recipes query buffer : List ℕ)
+      → Answered (queryCode (formOf index) index recipes query (length buffer)) (length (queryLines (formOf index) index recipes query))
+      (written buffer (linesBytes (queryLines (formOf index) index recipes query))) buffer
+      (queryOutcome (formOf index) index recipes query (length buffer)) (queryBuffer (formOf index) index recipes query buffer)
   pub search : (list store recipes index out : List ℕ) → SearchAnswered list store recipes index out
   pub compact : (store recipes buffer : List ℕ)
       → Answered (compactCode store recipes (length buffer)) (length (compacted store recipes)) (written buffer (compacted store recipes)) buffer

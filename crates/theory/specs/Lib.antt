@@ -1,5 +1,6 @@
 pub mod Cases
 pub mod SetCases
+pub mod QueryCases
 pub mod Spans
 pub mod SearchList
 pub mod PlaceText
@@ -8,6 +9,7 @@ pub mod WrittenInputs
 pub mod Published
 pub mod RecordSets
 pub mod Demands
+pub mod Queries
 pub mod SameChunks
 pub mod Holes
 pub mod Compaction

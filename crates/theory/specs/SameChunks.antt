@@ -17,6 +17,7 @@ use Rattle.spec.specs.Form.{form1, newest, formOf}
 use Rattle.spec.specs.Index.{indexKeys}
 use Rattle.spec.specs.Lookup.{findChunk, chunkStart, chunkOf, findBody, bodyOf}
 use Rattle.spec.specs.Join.{joinOutcome, joinBuffer, readList}
+use Rattle.spec.specs.Query.{queryOutcome, queryBuffer}
 use Rattle.spec.specs.Scan.{scanIndex, scanAnswer, scannedCode}
 use Rattle.spec.specs.Search.{searchCode, searchOutcome, searchBuffer, searchedCount}
 use Rattle.theory.specs.Cases.{store, keywords, recipes, fingerprint, oneChunk, nine, chunkXAB, chunkABAX, chunkA}
@@ -48,6 +49,12 @@ pub record Reordered (here there : List ℕ) : Type 0 where
 
 -- ---- what is then the same, of the definitions that the contracts cite
 
+-- Queries of two index files with the same recipes (request #109): the same refusal or the same number of lines, and the same buffer after it.
+pub record QueriesAlike (index other recipes : List ℕ) : Type 0 where
+  pub outcome : (query : List ℕ) (room : ℕ)
+      → queryOutcome (formOf index) index recipes query room ≡ queryOutcome (formOf other) other recipes query room
+  pub bytes : (query out : List ℕ) → queryBuffer (formOf index) index recipes query out ≡ queryBuffer (formOf other) other recipes query out
+
 -- Two index files answer the same, each read by the form that its mark names. They have the same length; their entries may stand in another order.
 pub record AnswerAlike (index other : List ℕ) : Type 0 where
   pub size : length index ≡ length other
@@ -61,6 +68,8 @@ pub record AnswerAlike (index other : List ℕ) : Type 0 where
   pub listed : (recipes out out₂ : List ℕ) → length out ≡ length out₂ → codeOf (joinOutcome (formOf index) index recipes (length out)) ≡ 0
       → readList (valueOf (joinOutcome (formOf index) index recipes (length out))) (joinBuffer (formOf index) index recipes out)
       ≡ readList (valueOf (joinOutcome (formOf other) other recipes (length out₂))) (joinBuffer (formOf other) other recipes out₂)
+  -- a query (request #109)
+  pub queries : (recipes : List ℕ) → QueriesAlike index other recipes
 
 -- Two searches answer the same, with index buffers of these two lengths.
 pub record SearchAlike (list here there : List ℕ) (indexRoom indexRoom₂ : ℕ) : Type 0 where

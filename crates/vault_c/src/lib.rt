@@ -11,6 +11,7 @@ ghost use Rattle.spec.specs.Lookup.{findChunk, chunkStart, chunkLength, findBod
 ghost use Rattle.spec.specs.Outcome.{codeOf, toldValue};
 ghost use Rattle.spec.specs.Scan.{sizeOutcome, scanAnswer, scanBuffer, scannedCode, toldLength, toldMoves};
 ghost use Rattle.spec.specs.Join.{countOutcome, joinOutcome, joinBuffer};
+ghost use Rattle.spec.specs.Query.{queryCount, queryOutcome, queryBuffer};
 ghost use Rattle.spec.specs.Compact.{compactSize, compactOutcome, compactBuffer};
 ghost use Rattle.spec.specs.Search.{searchOutcome, searchBuffer, searchedCode, toldSize, toldCount};
 
@@ -99,6 +100,48 @@ pub extern "C" fn vault_join(index: &[u8], recipes: &[u8], out: &mut [u8], count
     match join::join(index, recipes, out) {
         spec::Outcome::Done(listed) => {
             *count = listed as u64;
+            0
+        }
+        spec::Outcome::Refused(code) => code,
+    }
+}
+
+// ---- queries
+
+#[no_mangle]
+pub extern "C" fn vault_query_count(
+    index: &[u8],
+    recipes: &[u8],
+    query: &[u8],
+    lines: &mut u64,
+) -> u8
+    ensures { λ r. ⌜ (r ≡ codeOf (queryCount (formOf (now (index .entry))) (now (index .entry)) (now (recipes .entry)) (now (query .entry))))
+        × (now (lines .exit) ≡ toldValue (queryCount (formOf (now (index .entry))) (now (index .entry)) (now (recipes .entry)) (now (query .entry))) (now (lines .entry))) ⌝ }
+{
+    match query::count(index, recipes, query) {
+        spec::Outcome::Done(qualifying) => {
+            *lines = qualifying as u64;
+            0
+        }
+        spec::Outcome::Refused(code) => code,
+    }
+}
+
+#[no_mangle]
+pub extern "C" fn vault_query(
+    index: &[u8],
+    recipes: &[u8],
+    query: &[u8],
+    out: &mut [u8],
+    lines: &mut u64,
+) -> u8
+    ensures { λ r. ⌜ (r ≡ codeOf (queryOutcome (formOf (now (index .entry))) (now (index .entry)) (now (recipes .entry)) (now (query .entry)) (length (now (out .entry)))))
+        × (now (lines .exit) ≡ toldValue (queryOutcome (formOf (now (index .entry))) (now (index .entry)) (now (recipes .entry)) (now (query .entry)) (length (now (out .entry)))) (now (lines .entry)))
+        × (now (out .exit) ≡ queryBuffer (formOf (now (index .entry))) (now (index .entry)) (now (recipes .entry)) (now (query .entry)) (now (out .entry))) ⌝ }
+{
+    match query::query(index, recipes, query, out) {
+        spec::Outcome::Done(put) => {
+            *lines = put as u64;
             0
         }
         spec::Outcome::Refused(code) => code,

@@ -7,6 +7,7 @@ use tests_cases::wide;
 use tests_compact::cases;
 use tests_outputs::printed;
 use tests_pairs::orders;
+use tests_query::cases as queries;
 use tests_report::report;
 use tests_report::tally;
 use tests_sets::cases as sets;
@@ -20,5 +21,6 @@ fn main() {
     wide::all_wide(&mut counts);
     printed::all_outputs(&mut counts);
     cases::all_compactions(&mut counts);
+    queries::all_queries(&mut counts);
     report::totals(&counts);
 }

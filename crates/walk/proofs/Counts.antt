@@ -134,6 +134,12 @@ pub record ListingFile (index : List ℕ) (number : ℕ) (chunks : List ChunkRec
   pub small : base + sizeOf (drop n chunks) < 2 ^ 32
   pub going : Going out₀ out place p (listBytes (joinFrom number (wordsIn index) 0 chunks)) (listBytes (joinFrom number (wordsIn index) base (drop n chunks)))
 
+-- the bytes from a place on are its chunk's and those behind
+pub place-sizes : (index : List ℕ) (opened : Opened) (chunks : List ChunkRecords) (n : ℕ) (rows rows′ : List (List ℕ)) (size size′ : ℕ)
+    → LoadedPair index opened chunks n rows rows′ size size′ → sizeOf (drop n chunks) ≡ size + sizeOf (drop (n + 1) chunks)
+place-sizes index opened chunks n rows rows′ size size′ pair =
+    rw (drop-cons chunks n noChunk (pair .inside), add-one) (ap (λ (z : ℕ). z + sizeOf (drop (suc n) chunks)) (sym (pair .first .sized (pair .inside))))
+
 module _ (index : List ℕ) (opened : Opened) (chunks : List ChunkRecords) (d : Checked index opened)
     (good : AllGood (foldedKeywords (listIn index)) chunks) (n : ℕ) (rows rows′ : List (List ℕ)) (size size′ : ℕ)
     (pair : LoadedPair index opened chunks n rows rows′ size size′)
@@ -163,8 +169,8 @@ module _ (index : List ℕ) (opened : Opened) (chunks : List ChunkRecords) (d : 
       )
 
   module _ (number : ℕ) (out₀ out : List ℕ) (place p base : ℕ) (at : ListingFile index number chunks out₀ out place p n base) where
-    sizes : sizeOf (drop n chunks) ≡ size + sizeOf (drop (n + 1) chunks)
-    sizes = rw (drop-cons chunks n noChunk (pair .inside), add-one) (ap (λ (z : ℕ). z + sizeOf (drop (suc n) chunks)) (sym (pair .first .sized (pair .inside))))
+    abbrev sizes : sizeOf (drop n chunks) ≡ size + sizeOf (drop (n + 1) chunks)
+    sizes = place-sizes index opened chunks n rows rows′ size size′ pair
 
     pub listing-fits : base + size < 2 ^ 32
     listing-fits = omega (arith, at .small, sizes)
@@ -202,7 +208,7 @@ module _ (index : List ℕ) (opened : Opened) (chunks : List ChunkRecords) (d : 
 -- ---- before the first place and behind the last
 
 module _ (index file : List ℕ) where
-  past : (number base n : ℕ) → length (chunksIn index file) ≤ n → joinFrom number (wordsIn index) base (drop n (chunksIn index file)) ≡ []
+  pub past : (number base n : ℕ) → length (chunksIn index file) ≤ n → joinFrom number (wordsIn index) base (drop n (chunksIn index file)) ≡ []
   unfolding joinFrom
   past number base n h = ap (joinFrom number (wordsIn index) base) (drop-of-length-le (chunksIn index file) h)
 

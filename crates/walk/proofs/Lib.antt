@@ -1,5 +1,6 @@
 pub mod Entries
 pub mod Places
 pub mod Counts
+pub mod FileChoices
 pub mod CellText
 pub mod Crossings

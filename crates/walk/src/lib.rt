@@ -2,8 +2,8 @@
 // looked up in the index where it has none, when the place before it is counted or listed.
 ghost use mathlib.Core.Path.{_≡_};
 ghost use mathlib.Core.List.{[]};
-ghost use Prim.Native.Nat.{_+_, _*_, _^_, _≤_, _<_};
-ghost use lib.ListN.{length, drop};
+ghost use Prim.Native.Nat.{ℕ, _+_, _*_, _/_, _^_, _≤_, _<_};
+ghost use lib.ListN.{length, drop, getD};
 ghost use Rattle.spec.specs.Bytes.{splice};
 ghost use Rattle.spec.specs.Keywords.{foldedKeywords};
 ghost use Rattle.spec.specs.Form.{formOf};
@@ -13,7 +13,8 @@ ghost use Rattle.spec.specs.Join.{keywordAt, listBytes};
 ghost use Rattle.tables.specs.Tabled.{tablesOf};
 ghost use Rattle.spans.specs.Spans.{crossingSet};
 ghost use Rattle.walk.specs.Walking.{chunksIn, fileList, Checked, Directory, File, EntryAt, SetsBehind, LoadedEntry, Crossable, Filled, cells};
-ghost use Rattle.walk.specs.Walking.{crossings, Startable, Prefixed, LoadedPair};
+ghost use Rattle.walk.specs.Walking.{crossings, Startable, Prefixed, LoadedAt, LoadedPair};
+ghost use Rattle.listing.specs.Choosing.{chosenFrom, noChoice};
 
 // A row is prefix, suffix, the place of the list of offsets, and how many there are.
 const PREFIX: usize = 0;
@@ -210,6 +211,49 @@ fn cross_over(
     many
 }
 
+// A place whose streams are filled: the size of the place behind it, and how many occurrences it has.
+struct Ahead {
+    size: usize,
+    many: usize,
+}
+
+// Fills the streams of a place from its rows, and loads the rows of the place behind it.
+fn fill(
+    index: &[u8],
+    spot: Here,
+    chains: &[u32],
+    tables: &[[[u32; 32]; 32]; 16],
+    file: &[u8],
+    slots: &[u32],
+    rows: &mut [[usize; 4]; 16],
+    streams: &mut [[usize; 5]; 16],
+) -> Ahead
+    requires { ⌜ Directory (now index) (spot .opened) (now chains) × (now tables ≡ tablesOf (foldedKeywords (listIn (now index)))) ⌝ }
+    requires { ⌜ File (now index) (now file) (now slots) × (spot .place < length (now file) / 20) × (spot .opened .keywords ≤ length (now streams)) ⌝ }
+    requires { ⌜ LoadedAt (now index) (spot .opened) (chunksIn (now index) (now file)) (spot .place) (now rows) (spot .size) ⌝ }
+    ensures { λ r. ⌜ LoadedAt (now (index .entry)) (spot .opened) (chunksIn (now (index .entry)) (now (file .entry))) (spot .place + 1)
+        (now (rows .exit)) (r .size) × Filled (spot .size) (spot .opened .keywords) (crossings (foldedKeywords (listIn (now (index .entry)))) (now (rows .entry))
+        (drop (spot .place + 1) (chunksIn (now (index .entry)) (now (file .entry))))) (now (rows .entry)) (now (streams .exit)) (r .many) ⌝ }
+{
+    let opened = spot.opened;
+    let size = spot.size;
+    let first = *rows;
+    let e = entry_at(index, opened, chains, file, slots, spot.place + 1);
+    let behind = load(index, opened, e, rows);
+    if opened.longest <= behind + 1 {
+        let near = cross(size, opened.keywords, tables, &first, rows, streams);
+        return Ahead {
+            size: behind,
+            many: near,
+        };
+    }
+    let many = cross_over(index, spot, chains, tables, file, slots, &first, streams);
+    Ahead {
+        size: behind,
+        many: many,
+    }
+}
+
 // How many occurrences a file has.
 pub fn count_file(
     index: &[u8],
@@ -337,4 +381,72 @@ pub fn list_file(
         n += 1;
     }
     p
+}
+
+// What a query's choice in a file goes by: the opened index, the file's number, and the keywords' lengths.
+pub struct Choosing {
+    pub opened: spec::Opened,
+    pub number: usize,
+    pub lengths: [usize; 16],
+}
+
+// The earliest choice of a file's occurrences for a query (request #109), as far as there is one. No place is looked at behind the one that
+// completes it.
+pub fn choose_file(
+    index: &[u8],
+    choosing: Choosing,
+    chains: &[u32],
+    tables: &[[[u32; 32]; 32]; 16],
+    file: &[u8],
+    slots: &[u32],
+    query: &[u8],
+) -> listing::Choice
+    requires { ⌜ Directory (now index) (choosing .opened) (now chains) × (now tables ≡ tablesOf (foldedKeywords (listIn (now index)))) ⌝ }
+    requires { ⌜ File (now index) (now file) (now slots) ⌝ }
+    requires { ⌜ (length (now query) ≤ 8) × (length (choosing .lengths) ≡ 16) × ((k : ℕ) → k < 16 → getD (choosing .lengths) k 0 ≤ 32) ⌝ }
+    ensures { λ r. ⌜ r ≡ chosenFrom (choosing .lengths) (now (query .entry)) (fileList (choosing .number) (now (index .entry)) (now (file .entry))) noChoice ⌝ }
+{
+    let opened = choosing.opened;
+    let lengths = choosing.lengths;
+    let mut rows = [[0usize; 4]; 16];
+    let mut streams = [[0usize; 5]; 16];
+    let start = entry_at(index, opened, chains, file, slots, 0);
+    let mut size = load(index, opened, start, &mut rows);
+    let mut choice = listing::nothing_chosen();
+    let mut passed: usize = 0;
+    let mut n: usize = 0;
+    while n < file.len() / 20 {
+        if query.len() <= choice.step {
+            return choice;
+        }
+        let spot = Here {
+            opened: opened,
+            place: n,
+            size: size,
+        };
+        let ahead = fill(
+            index,
+            spot,
+            chains,
+            tables,
+            file,
+            slots,
+            &mut rows,
+            &mut streams,
+        );
+        let place = listing::Place {
+            file: choosing.number,
+            base: passed,
+            size: size,
+            width: opened.format.width,
+            count: opened.keywords,
+            many: ahead.many,
+            at: 0,
+        };
+        choice = listing::choose_place(index, place, &streams, &lengths, query, choice);
+        passed += size;
+        size = ahead.size;
+        n += 1;
+    }
+    choice
 }

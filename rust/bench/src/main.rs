@@ -4,6 +4,7 @@
 //!     bench --scan [MEGABYTES] [ROUNDS] [FOLDER..]
 //!     bench --compact [ROUNDS]
 //!     bench --places [ROUNDS] [--few]
+//!     bench --query [ROUNDS] [--few]
 //!
 //! Every row's methods run one after the other in each round, so that a row's ratios are of one run; times are medians of
 //! the rounds, in processor time of the thread. With each row stands the time of a fixed loop: rows whose loop took longer
@@ -12,7 +13,7 @@
 use bench::clock::{self, calibration, median, timed};
 use bench::generate::{self, index_of, key, recipes, recipes_of, store_of, vault, Vault};
 use bench::peers::{plain, restore_each, Automaton, Chunks};
-use bench::{compaction, places, scan};
+use bench::{compaction, places, queries, scan};
 use std::hint::black_box;
 
 struct Options {
@@ -47,15 +48,17 @@ fn main() {
         Some("--scan") => return scan::main(words.collect(), &[scan::OWN]),
         Some("--compact") => return compaction::main(words.collect()),
         Some("--places") => return places::main(words.collect()),
+        Some("--query") => return queries::main(words.collect()),
         _ => (),
     }
     let Some(options) = options() else {
         eprintln!(
             "usage: bench [MEGABYTES] [ROUNDS] [--fresh] [--no-plain] [--directories]\n       bench --scan {}\n       bench --compact {}\n       \
-             bench --places {}",
+             bench --places {}\n       bench --query {}",
             scan::USAGE,
             compaction::USAGE,
-            places::USAGE
+            places::USAGE,
+            queries::USAGE
         );
         std::process::exit(64);
     };

@@ -3,19 +3,19 @@
 //! over two libraries can be compared row by row. What a library refuses is told in its row.
 
 use crate::clock::measured;
-use crate::generate::{recipes_of, store_of, vault, Rng};
+use crate::generate::{recipes_of, store_of, vault, Rng, Vault};
 use std::hint::black_box;
 use vault::forms::Form;
 
 pub const USAGE: &str = "[ROUNDS] [--few]";
 
-struct Options {
-    rounds: usize,
+pub struct Options {
+    pub rounds: usize,
     /// A hundredth of the places.
-    few: bool,
+    pub few: bool,
 }
 
-fn options(words: &[String]) -> Option<Options> {
+pub fn options(words: &[String]) -> Option<Options> {
     let mut options = Options { rounds: 5, few: false };
     for word in words {
         match word.as_str() {
@@ -50,8 +50,8 @@ fn run(options: &Options) {
     chains(options);
 }
 
-/// 65,000 chunks of text of 31 to 93 bytes, any of them in 1,000 files of 10,000 places.
-fn ordinary(options: &Options) {
+/// 65,000 chunks of text of 31 to 93 bytes, any of them in 1,000 files of 10,000 places: the text with its words, the store, the recipes.
+pub fn ten_million_places(options: &Options) -> (Vault, Vec<u8>, Vec<u8>) {
     let text = vault(5 << 20);
     let mut rest = &text.store[8 + 28 * text.chunks..];
     let mut chunks = Vec::new();
@@ -63,6 +63,11 @@ fn ordinary(options: &Options) {
     let store = store_of(&chunks);
     let mut rng = Rng(13);
     let recipes = recipes_of(&files(1_000, if options.few { 100 } else { 10_000 }, |_| rng.below(65_000)));
+    (text, store, recipes)
+}
+
+fn ordinary(options: &Options) {
+    let (text, store, recipes) = ten_million_places(options);
     for (name, words) in [("rare", &text.rare), ("common", &text.common)] {
         for count in [1, 16] {
             let keywords: Vec<&[u8]> = words[..count].iter().map(|word| &word[..]).collect();
@@ -93,12 +98,17 @@ fn chains(options: &Options) {
     }
 }
 
+/// The places of good recipes.
+pub fn places_of(recipes: &[u8]) -> usize {
+    let files = u32::from_le_bytes([recipes[0], recipes[1], recipes[2], recipes[3]]) as usize;
+    (recipes.len() - 4 - 4 * files) / 20
+}
+
 /// One row: what the store's chunks and the keywords are, and the join of these recipes.
 fn row(options: &Options, [chunks, words]: [&str; 2], store: &[u8], keywords: &[&[u8]], recipes: &[u8]) {
     let list = vault::keyword_list(false, keywords).expect("different keywords");
     let index = vault::scan(&list, store).expect("a good store").index;
-    let files = u32::from_le_bytes([recipes[0], recipes[1], recipes[2], recipes[3]]) as usize;
-    let places = (recipes.len() - 4 - 4 * files) / 20;
+    let places = places_of(recipes);
     print!("{chunks:<29} {words:<25} {:<4} {places:>10}", Form::of(&index).name());
     let mut out = match vault::join_bytes(&index, recipes) {
         Ok(out) => out,

@@ -147,6 +147,7 @@ impl Vault {
             index: None,
             recipes: recipes::encode(&self.files),
             keys: inputs::lookups(rng, &keys),
+            queries: vec![],
         }
     }
 

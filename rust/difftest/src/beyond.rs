@@ -48,7 +48,15 @@ fn put(store: &mut [u8], entry: usize, at: usize, number: u64) {
 
 fn case(kind: &'static str, store: Vec<u8>) -> Case {
     let keys = vec![key(0).to_vec(), key(WITHIN).to_vec(), vec![0x77; 20], vec![1; 19]];
-    Case { kind, list: list(false, &[b"A"]), store, index: None, recipes: recipes::encode(&[vec![key(0)]]), keys }
+    Case {
+        kind,
+        list: list(false, &[b"A"]),
+        store,
+        index: None,
+        recipes: recipes::encode(&[vec![key(0)]]),
+        keys,
+        queries: vec![],
+    }
 }
 
 /// Where an entry's length and its offset are.

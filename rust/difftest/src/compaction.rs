@@ -123,7 +123,7 @@ impl Comparison<'_> {
             self.pair_lists(pair, indexes, room)?;
             self.pair_searches(pair, length, room)?;
         }
-        Ok(())
+        self.pair_queries(pair, indexes)
     }
 }
 

@@ -33,9 +33,12 @@ pub struct Tally {
     pub pairs: BTreeMap<Change, u64>,
     /// Stores that are good, with a hole before the first chunk, between two, and behind the last.
     pub holes: [u64; 3],
-    /// What compactions came upon, and joins of chunks that keywords cross.
+    /// What compactions came upon, joins of chunks that keywords cross, and queries.
     pub compactions: Reached,
     pub crossings: Reached,
+    pub queries: Reached,
+    /// Lines of queries, each query's once.
+    pub lines: u64,
     /// Bytes at the fold's borders.
     pub meetings: Meetings,
     /// Indexes that are good, by mark; stores that are good with a chunk longer than 65,535 bytes.
@@ -98,7 +101,7 @@ impl Comparison<'_> {
             self.lookup("find_chunk", raw::chunk(stored.get(), key), calls::chunk_in(&chunks, key))?;
         }
         if let Some(index) = own.as_ref().map(Input::get).or(scanned.as_deref().ok()) {
-            self.joins(index, recipes.get())?;
+            self.joins(index, recipes.get(), &case.queries)?;
             let read = index::read(index);
             let entry = 8 + case.list.len();
             for key in case.keys.iter().map(|key| &key[..]).chain(index.get(entry..entry + 20)) {
@@ -237,8 +240,8 @@ impl Comparison<'_> {
         Ok(want)
     }
 
-    /// Index check, the count, and joins.
-    fn joins(&mut self, bytes: &[u8], recipes: &[u8]) -> Verdict {
+    /// Index check, the count, joins, and queries.
+    fn joins(&mut self, bytes: &[u8], recipes: &[u8], queries: &[Vec<u8>]) -> Verdict {
         let index = index::read(bytes);
         self.code("check_index", raw::check_index(bytes), index.as_ref().err().copied().unwrap_or(0))?;
         self.listed(vault::keywords_in_index(bytes), index.as_ref().err().copied().unwrap_or(0));
@@ -254,11 +257,12 @@ impl Comparison<'_> {
         self.told("count", "count", &counted, count.ok())?;
         let exact = 9 * count.unwrap_or(0);
         // Beyond the limit no list is made: every buffer that is tried is too short.
-        let list = match &joined {
-            Ok(joined) if exact <= self.limits.buffer => Ok(join::encode(&joined.list())),
+        let found = match &joined {
+            Ok(joined) if exact <= self.limits.buffer => Ok(joined.list()),
             Ok(_) => Err(18),
             Err(code) => Err(*code),
         };
+        let list = found.as_ref().map(|found| join::encode(found)).map_err(|code| *code);
         let mut lengths = if list.is_ok() { self.lengths(exact) } else { vec![0, self.rng.below(300)] };
         if exact > self.limits.buffer {
             // 9 x count modulo 2^32, and a little more.
@@ -275,7 +279,7 @@ impl Comparison<'_> {
             self.told("join", "count", &counted, (want_code == 0).then_some(front.len() as u64 / 9))?;
             self.buffer("join", &out, salt, front)?;
         }
-        Ok(())
+        self.queries(bytes, recipes, &joined, &found.unwrap_or_default(), queries)
     }
 
     fn lookup(
@@ -380,17 +384,17 @@ impl Number {
 }
 
 /// An input that starts at any address and ends where its memory does, so that valgrind sees one byte too far.
-struct Input {
+pub struct Input {
     memory: Box<[u8]>,
     start: usize,
 }
 
 impl Input {
-    fn new(bytes: &[u8], start: usize) -> Input {
+    pub fn new(bytes: &[u8], start: usize) -> Input {
         Input { memory: [&[0; 4][..start], bytes].concat().into_boxed_slice(), start }
     }
 
-    fn get(&self) -> &[u8] {
+    pub fn get(&self) -> &[u8] {
         &self.memory[self.start..]
     }
 }

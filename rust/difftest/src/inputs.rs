@@ -19,6 +19,8 @@ pub struct Case {
     pub recipes: Vec<u8>,
     /// Fingerprints to look up.
     pub keys: Vec<Vec<u8>>,
+    /// Queries to ask beside random ones.
+    pub queries: Vec<Vec<u8>>,
 }
 
 impl Case {
@@ -309,6 +311,7 @@ pub fn vault_of(rng: &mut Rng, kind: &'static str, words: Words) -> (Case, Words
         index: None,
         recipes: recipes::encode(&files),
         keys: lookups(rng, &keys),
+        queries: vec![],
     };
     (case, words, keys)
 }

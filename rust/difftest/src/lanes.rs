@@ -174,5 +174,6 @@ pub fn vault(rng: &mut Rng) -> Case {
         index: None,
         recipes: recipes::encode(&inputs::files(rng, &keys)),
         keys: inputs::lookups(rng, &keys),
+        queries: vec![],
     }
 }

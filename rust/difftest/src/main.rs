@@ -19,6 +19,7 @@ mod huge;
 mod inputs;
 mod lanes;
 mod pairs;
+mod queries;
 mod reached;
 mod rng;
 mod windows;
@@ -176,6 +177,7 @@ fn noise(rng: &mut Rng) -> Case {
         index: Some(bytes(&[&mark[..], &[1, 0, 0, 0, 1, 0, 1, 65]].concat())),
         recipes: bytes(&[2, 0, 0, 0, 1, 0, 0, 0]),
         keys: vec![bytes(&[]), vec![1; 20]],
+        queries: vec![],
     }
 }
 
@@ -225,6 +227,7 @@ fn keep(folder: &str, case: &Case, other: Option<(Change, &[u8])>) -> std::io::R
     write("recipes.bin", &case.recipes)?;
     case.index.as_ref().map_or(Ok(()), |index| write("index.bin", index))?;
     other.map_or(Ok(()), |(_, other)| write("other-store.bin", other))?;
+    case.queries.iter().enumerate().try_for_each(|(k, query)| write(&format!("query{k}.bin"), query))?;
     case.keys.iter().enumerate().try_for_each(|(k, key)| write(&format!("key{k}.bin"), key))
 }
 
@@ -253,6 +256,7 @@ fn run(arguments: &Arguments) -> ExitCode {
         ("holes that no good store had", run.tally.missing_holes()),
         ("what no compaction came upon", run.tally.compactions.missing(&compaction::ALL)),
         ("what no join came upon", run.tally.crossings.missing(&across::ALL)),
+        ("what no query came upon", run.tally.queries.missing(&queries::ALL)),
     ];
     for (what, which) in lacking.iter().filter(|(_, which)| !which.is_empty()) {
         println!("FAILED: {what}: {}", which.join(", "));
@@ -302,7 +306,7 @@ fn all(arguments: &Arguments, run: &mut Run, started: Instant) -> bool {
 }
 
 /// The codes that each operation can give.
-const REACHABLE: [(&str, &[u8]); 12] = [
+const REACHABLE: [(&str, &[u8]); 14] = [
     ("check_keywords", &[0, 1, 2, 3, 4]),
     ("check_store", &[0, 5, 6, 7, 8, 20]),
     ("check_index", &[0, 1, 2, 3, 4, 10, 11, 12, 13]),
@@ -310,6 +314,8 @@ const REACHABLE: [(&str, &[u8]); 12] = [
     ("scan", &[0, 1, 2, 3, 4, 5, 6, 7, 8, 9, 20]),
     ("count", &[0, 1, 2, 3, 4, 10, 11, 12, 13, 14, 15, 16, 17]),
     ("join", &[0, 1, 2, 3, 4, 10, 11, 12, 13, 14, 15, 16, 17, 18]),
+    ("query_count", &[0, 1, 2, 3, 4, 10, 11, 12, 13, 14, 15, 16, 17, 21]),
+    ("query", &[0, 1, 2, 3, 4, 10, 11, 12, 13, 14, 15, 16, 17, 18, 21]),
     ("find_chunk", &[0, 5, 6, 7, 8, 15, 19, 20]),
     ("find_body", &[0, 1, 2, 3, 4, 10, 11, 12, 13, 15, 19]),
     ("search", &[0, 1, 2, 3, 4, 5, 6, 7, 8, 9, 14, 15, 16, 18, 20]),
@@ -343,12 +349,14 @@ fn report(tally: &Tally, time: Duration) {
     println!("holes in good stores: {}", tally.holes_by_place().map(|(place, count)| format!("{place} {count}")).join(", "));
     println!("compactions: {}", tally.compactions.report(&compaction::ALL));
     println!("keywords across chunks: {}", tally.crossings.report(&across::ALL));
+    println!("queries: {}", tally.queries.report(&queries::ALL));
     let calls: u64 = tally.codes.values().sum();
     println!(
-        "\n{} cases, {calls} answers compared, {} bytes of buffers, {} occurrences listed,",
+        "\n{} cases, {calls} answers compared, {} bytes of buffers, {} occurrences listed, {} lines of queries,",
         tally.kinds.values().sum::<u64>(),
         tally.bytes,
-        tally.occurrences
+        tally.occurrences,
+        tally.lines
     );
     println!("{} lists the same as the direct search of the restored files,", tally.direct);
     println!(

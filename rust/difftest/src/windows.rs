@@ -244,6 +244,7 @@ fn random(rng: &mut Rng) -> Case {
         index: None,
         recipes: recipes::encode(&[keys.clone(), vec![*rng.pick(&keys); 2]]),
         keys: inputs::lookups(rng, &keys),
+        queries: vec![],
     }
 }
 

@@ -5,7 +5,7 @@ use crate::form::NEWEST;
 use crate::index::Index;
 use crate::join::Joined;
 use crate::store::Chunk;
-use crate::{compact, index, join, keywords, moves, store, Code, U32};
+use crate::{compact, index, join, keywords, moves, query, store, Code, U32};
 use std::ops::Range;
 
 /// A call's code; its length or count goes to the lent number where the call is done.
@@ -102,6 +102,28 @@ pub fn join(bytes: &[u8], recipes: &[u8], out: &mut [u8], count: &mut u64) -> Co
         Ok(found)
     };
     told(run(), count)
+}
+
+/// The lines of a query, whatever their length: refusals of the index check, 14 to 17, 21.
+fn lines_of(bytes: &[u8], recipes: &[u8], asked: &[u8]) -> Result<Vec<query::Line>, Code> {
+    let index = index::read(bytes)?;
+    let joined = Joined::new(&index, recipes)?;
+    query::test(asked, &index.keywords)?;
+    Ok(query::lines(&index.keywords, &joined.list(), asked))
+}
+
+pub fn query_count(bytes: &[u8], recipes: &[u8], asked: &[u8], lines: &mut u64) -> Code {
+    told(lines_of(bytes, recipes, asked).map(|lines| lines.len() as u64), lines)
+}
+
+/// 18 is the last test: all lines together.
+pub fn query(bytes: &[u8], recipes: &[u8], asked: &[u8], out: &mut [u8], lines: &mut u64) -> Code {
+    let mut run = || {
+        let lines = lines_of(bytes, recipes, asked)?;
+        put(out, &query::encode(&lines), 18)?;
+        Ok(lines.len() as u64)
+    };
+    told(run(), lines)
 }
 
 /// Where a fingerprint's chunk lies in the store.

@@ -11,6 +11,7 @@
 //! * [`index`]: "Notes file", with the notes check;
 //! * [`recipes`]: "Recipes", with refusals 14 to 17;
 //! * [`join`]: "Joining two notes", request 108's crossings over any number of chunks, and the join;
+//! * [`query`]: request 109, the files that have several words in order;
 //! * [`compact`]: request 107, a store's chunks that some recipe names, without holes;
 //! * [`direct`]: the restored files searched byte by byte, which knows no records at all;
 //! * [`calls`]: the operations in the shape of the C interface (a code, a number, lent buffers).
@@ -23,11 +24,12 @@ pub mod index;
 pub mod join;
 pub mod keywords;
 pub mod moves;
+pub mod query;
 pub mod recipes;
 pub mod records;
 pub mod store;
 
-/// The number of a refusal, 1 to 20.
+/// The number of a refusal, 1 to 21.
 pub type Code = u8;
 
 /// A fingerprint: 20 opaque bytes.

@@ -10,7 +10,7 @@ pub struct Error {
 }
 
 /// The refusals, by number from 1.
-const MEANINGS: [&str; 20] = [
+const MEANINGS: [&str; 21] = [
     "the keyword list is cut short, or has bytes left over",
     "the keyword list's count is not 1 to 16, or its fold flag is neither 0 nor 1",
     "a keyword's length is not 1 to 32",
@@ -28,16 +28,17 @@ const MEANINGS: [&str; 20] = [
     "a fingerprint is not there",
     "a file of the recipes has more than 4,294,967,295 bytes",
     "a chunk inside a file is shorter than the longest keyword less one byte, for which the index is of too old a mark (DM1 or DM2): scan the store anew",
-    "the list of occurrences is longer than the buffer",
+    "the list of occurrences, or all lines of a query together, are longer than the buffer",
     "a fingerprint is not 20 bytes",
     "a store entry says that its chunk ends beyond 4,294,967,295 bytes, where no chunk of a store may end: part the backup into several stores",
+    "the query is not 2 to 8 keyword numbers, or one of them is not below the index's keyword count",
 ];
 
 impl Error {
-    /// The refusal of that number; numbers outside 1 to 20 are not the papers', and say so.
+    /// The refusal of that number; numbers outside 1 to 21 are not the papers', and say so.
     pub fn new(code: u8) -> Error {
         let meaning = match code {
-            1..=20 => MEANINGS[usize::from(code) - 1],
+            1..=21 => MEANINGS[usize::from(code) - 1],
             _ => "a number that the papers don't name",
         };
         Error { code, meaning }

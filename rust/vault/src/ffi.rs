@@ -30,6 +30,26 @@ extern "C" {
         out_length: usize,
         count: *mut u64,
     ) -> u8;
+    pub fn vault_query_count(
+        index: *const u8,
+        index_length: usize,
+        recipes: *const u8,
+        recipes_length: usize,
+        query: *const u8,
+        query_length: usize,
+        lines: *mut u64,
+    ) -> u8;
+    pub fn vault_query(
+        index: *const u8,
+        index_length: usize,
+        recipes: *const u8,
+        recipes_length: usize,
+        query: *const u8,
+        query_length: usize,
+        out: *mut u8,
+        out_length: usize,
+        lines: *mut u64,
+    ) -> u8;
     pub fn vault_find_chunk(store: *const u8, store_length: usize, key: *const u8, key_length: usize) -> u8;
     pub fn vault_chunk_start(store: *const u8, store_length: usize, key: *const u8, key_length: usize) -> u64;
     pub fn vault_chunk_length(store: *const u8, store_length: usize, key: *const u8, key_length: usize) -> u64;

@@ -6,6 +6,7 @@
 //! * [`scan`] scans each chunk for up to 16 **keywords** at once, writes a **match index** and counts its **moves**.
 //! * [`join`] takes the index and recipes, and no chunk, and lists every [`Occurrence`] in the restored files: by file,
 //!   then offset, then keyword, each exactly once, also those that go over two chunks or more.
+//! * [`query`] takes the index, recipes and several keyword numbers, and gives a [`Line`] for each file that has these keywords in that order.
 //! * [`compact`] writes the store anew, without holes and with the chunks alone that recipes name: a search of these recipes lists the same.
 //!
 //! Bytes compare by the keyword list's **fold flag**. With 0 they compare as they are. With 1, capitals compare as small letters: 41 to
@@ -63,6 +64,13 @@ pub struct Occurrence {
     pub file: u32,
     pub offset: u32,
     pub keyword: u8,
+}
+
+/// A file that a query is about, and the offset of each keyword of the query in the restored file, in the query's order.
+#[derive(Clone, Debug, PartialEq, Eq, PartialOrd, Ord, Hash)]
+pub struct Line {
+    pub file: u32,
+    pub offsets: Vec<u32>,
 }
 
 /// Who refused in a search.
@@ -291,6 +299,46 @@ pub fn occurrences(list: &[u8]) -> impl ExactSizeIterator<Item = Occurrence> + '
     })
 }
 
+/// The number of lines of a query. Refusals of the index check, 14 to 17 (17 as [`count`]), and then 21: the query is not 2 to 8 numbers, each below
+/// the index's keyword count.
+pub fn query_count(index: &[u8], recipes: &[u8], query: &[u8]) -> Result<u64, Error> {
+    valued(|lines| raw::query_count(index, recipes, query, lines))
+}
+
+/// Bytes that a line of this query takes: file (4), and an offset (4) for each number.
+pub fn line_size(query: &[u8]) -> usize {
+    4 + 4 * query.len()
+}
+
+/// Writes the lines to the buffer's front, [`line_size`] bytes each, and gives their number; what follows stays as it was. Refusals as [`query_count`]'s,
+/// and then 18 where all lines together exceed the buffer. No lines fit one of 0 bytes.
+pub fn query_into(index: &[u8], recipes: &[u8], query: &[u8], out: &mut [u8]) -> Result<usize, Error> {
+    valued(|lines| raw::query(index, recipes, query, out, lines)).map(|lines| lines as usize)
+}
+
+/// The lines' bytes. Refusals as [`query_count`]'s, which is asked first, so that the buffer is as long as they are.
+pub fn query_bytes(index: &[u8], recipes: &[u8], query: &[u8]) -> Result<Vec<u8>, Failure> {
+    let mut bytes = buffer(query_count(index, recipes, query)?.saturating_mul(line_size(query) as u64))?;
+    let written = query_into(index, recipes, query, &mut bytes)?;
+    bytes.truncate(line_size(query) * written);
+    Ok(bytes)
+}
+
+/// A line for each file that has occurrences of the query's keywords in that order, each starting at or after the end of the one before, by rising
+/// number. Its offsets are of the choice whose first occurrence starts earliest, then the second, and so on. Keyword numbers may repeat. Refusals as
+/// [`query_count`]'s.
+pub fn query(index: &[u8], recipes: &[u8], query: &[u8]) -> Result<Vec<Line>, Failure> {
+    Ok(lines(query, &query_bytes(index, recipes, query)?).collect())
+}
+
+/// The lines of the bytes that this query has written.
+pub fn lines<'a>(query: &[u8], bytes: &'a [u8]) -> impl ExactSizeIterator<Item = Line> + 'a {
+    bytes.chunks_exact(line_size(query)).map(|line| {
+        let mut fields = line.chunks_exact(4).map(|field| u32::from_le_bytes([field[0], field[1], field[2], field[3]]));
+        Line { file: fields.next().unwrap_or(0), offsets: fields.collect() }
+    })
+}
+
 /// A fingerprint's chunk, a part of the store and of no hole. Refusals of the store check, 19, 15.
 pub fn find_chunk<'a>(store: &'a [u8], fingerprint: &[u8]) -> Result<&'a [u8], Error> {
     part(store, raw::chunk(store, fingerprint))
@@ -505,6 +553,111 @@ mod tests {
                 let found = |offset| Occurrence { file: 0, offset, keyword: 1 };
                 assert_eq!(search(&list, store, &short), Ok(vec![found(0), found(1)]));
             }
+        });
+    }
+
+    /// An index of these chunks for these keywords.
+    fn index_for(keywords: &[&[u8]], chunks: &[&[u8]]) -> Vec<u8> {
+        scan(&keyword_list(false, keywords).unwrap(), &store_of(chunks)).unwrap().index
+    }
+
+    fn line(file: u32, offsets: &[u32]) -> Line {
+        Line { file, offsets: offsets.to_vec() }
+    }
+
+    /// Adjacent occurrences do, overlapping ones don't, and one that crosses chunks counts like any other.
+    #[test]
+    fn keywords_in_order() {
+        with_stack(|| {
+            let index = index_for(&[b"ab", b"ba", b"b"], &[b"ab", b"a", b"ba", b"-"]);
+            // aba, abba, ab-ba, baab, abab-a, -
+            let recipes = recipes_of(&[&[0, 1], &[0, 2], &[0, 3, 2], &[2, 0], &[0, 0, 3, 1], &[3]]);
+            for (asked, want) in [
+                (&[0, 1][..], vec![line(1, &[0, 2]), line(2, &[0, 3])]),
+                (&[1, 0], vec![line(3, &[0, 2])]),
+                (&[0, 0], vec![line(4, &[0, 2])]),
+                (&[0, 2], vec![line(1, &[0, 2]), line(2, &[0, 3]), line(4, &[0, 3])]),
+                (&[2, 2], vec![line(1, &[1, 2]), line(2, &[1, 3]), line(3, &[0, 3]), line(4, &[1, 3])]),
+                (&[1, 2], vec![line(3, &[0, 3]), line(4, &[1, 3])]),
+                (&[2, 2, 2], vec![]),
+                (&[0, 0, 0], vec![]),
+            ] {
+                assert_eq!(query(&index, &recipes, asked), Ok(want.clone()), "{asked:?}");
+                assert_eq!(query_count(&index, &recipes, asked), Ok(want.len() as u64));
+                let mut out = vec![7; want.len() * line_size(asked) + 3];
+                assert_eq!(query_into(&index, &recipes, asked, &mut out), Ok(want.len()));
+                let (front, behind) = out.split_at(out.len() - 3);
+                assert_eq!((lines(asked, front).collect::<Vec<_>>(), behind), (want, &[7; 3][..]));
+            }
+        });
+    }
+
+    /// Byte by byte: offsets that take two bytes, least significant first, in two lines.
+    #[test]
+    fn the_bytes_of_lines() {
+        with_stack(|| {
+            let index = index_for(&[b"A", b"B"], &[&[b'.'; 0x123], b"AB", b"."]);
+            let recipes = recipes_of(&[&[2], &[0, 1], &[1]]);
+            let want = [1, 0, 0, 0, 0x23, 1, 0, 0, 0x24, 1, 0, 0, 2, 0, 0, 0, 0, 0, 0, 0, 1, 0, 0, 0];
+            assert_eq!(query_bytes(&index, &recipes, &[0, 1]), Ok(want.to_vec()));
+        });
+    }
+
+    /// A keyword that overlaps itself: twice it needs twice its length, over any number of chunks.
+    #[test]
+    fn a_repeated_keyword() {
+        with_stack(|| {
+            let index = index_for(&[b"AAAA"], &[b"A", b"AAAAA", b"AAAAAAAA"]);
+            let (seven, eight) = (vec![0; 7], vec![0; 8]);
+            let recipes = recipes_of(&[&seven, &eight, &[1], &[1, 0, 0], &[2], &[0, 2, 1]]);
+            let want = vec![line(1, &[0, 4]), line(4, &[0, 4]), line(5, &[0, 4])];
+            assert_eq!(query(&index, &recipes, &[0, 0]), Ok(want));
+            assert_eq!(query(&index, &recipes, &[0, 0, 0]), Ok(vec![line(5, &[0, 4, 8])]));
+        });
+    }
+
+    /// The tests in their order, each with every later one failing too; what a refusal and the bytes behind keep.
+    #[test]
+    fn what_a_query_refuses() {
+        with_stack(|| {
+            let (list, store, all) = small();
+            let index = scan(&list, &store).unwrap().index;
+            let older = |mark: &[u8]| [mark, &index[4..]].concat();
+            let (absent, short) = (recipes_of(&[&[1], &[9]]), recipes_of(&[&[1, 3, 2]]));
+            let files = recipes_of(&[&[1, 2], &[3, 3], &[2, 2, 2]]);
+            for (index, recipes, asked, room, want) in [
+                (&index[..7], &all[1..], &[0][..], 0, 10),
+                (&index[..8], &all[1..], &[0], 0, 1),
+                (&index[..137], &all[1..], &[0], 0, 11),
+                (&older(b"DM1\n"), &all[1..], &[0], 0, 13),
+                (&index, &all[1..], &[0], 0, 14),
+                (&index, &absent, &[0], 0, 15),
+                (&older(b"DM2\n"), &short, &[0], 0, 17),
+                (&index, &short, &[0], 0, 21),
+                (&index, &files, &[], 0, 21),
+                (&index, &files, &[0], 0, 21),
+                (&index, &files, &[0; 9], 0, 21),
+                (&index, &files, &[0, 2], 0, 21),
+                (&index, &files, &[255, 0], 0, 21),
+                (&index, &files, &[0, 0], 0, 18),
+                (&index, &files, &[0, 0], 11, 18),
+                (&index, &files, &[0, 0], 12, 0),
+                (&index, &files, &[0, 0], 20, 0),
+                (&index, &files, &[1, 0], 0, 0),
+                (&index, &files, &[0; 8], 0, 0),
+            ] {
+                let (mut lines, mut out) = (1 << 40, vec![7; room]);
+                assert_eq!(raw::query(index, recipes, asked, &mut out, &mut lines), want, "{asked:?} {room}");
+                let count = if asked == [0, 0] { 1 } else { 0 };
+                let (told, written) = if want == 0 { (count, 12 * count as usize) } else { (1 << 40, 0) };
+                assert_eq!((lines, &out[written..]), (told, &vec![7; room - written][..]));
+                assert_eq!(out[..written], [2, 0, 0, 0, 0, 0, 0, 0, 4, 0, 0, 0][..written]);
+                let (mut lines, without_a_buffer) = (1 << 40, if want == 18 { 0 } else { want });
+                assert_eq!(raw::query_count(index, recipes, asked, &mut lines), without_a_buffer);
+                assert_eq!(lines, if without_a_buffer == 0 { count } else { 1 << 40 });
+            }
+            assert_eq!(query(&index, &files, &[0; 9]), Err(Error::new(21).into()));
+            assert!(Error::new(21).to_string().starts_with("refused 21: the query is not 2 to 8 keyword numbers"));
         });
     }
 
@@ -851,7 +1004,8 @@ mod tests {
             let mut index_buffer = [7; 140];
             let refused = search_into(&list, &store, &recipes, &mut index_buffer, &mut [0; 26]);
             assert_eq!(refused, Err(SearchError::Join { index_length: 138, error: Error::new(18) }));
-            assert_eq!(refused.unwrap_err().to_string(), "join: refused 18: the list of occurrences is longer than the buffer");
+            let said = "join: refused 18: the list of occurrences, or all lines of a query together, are longer than the buffer";
+            assert_eq!(refused.unwrap_err().to_string(), said);
             let refused = search_into(&list, &store[..8], &recipes, &mut index_buffer, &mut []);
             assert_eq!(refused, Err(SearchError::Scan(Error::new(6))));
         });
@@ -885,7 +1039,7 @@ mod tests {
         let header = std::fs::read_to_string(concat!(env!("CARGO_MANIFEST_DIR"), "/../../include/vault.h")).unwrap();
         let header = header.replace("uint8_t vault_", "fn vault_").replace("uint64_t vault_", "fn vault_");
         let names = declared(&header, "fn vault_");
-        assert_eq!(names.len(), 16);
+        assert_eq!(names.len(), 18);
         assert_eq!(names, declared(include_str!("ffi.rs"), "fn vault_"));
     }
 
@@ -909,9 +1063,9 @@ mod tests {
 
     #[test]
     fn every_refusal_has_its_sentence() {
-        for code in 1..=20 {
+        for code in 1..=21 {
             assert!(!Error::new(code).meaning.contains("don't name"));
         }
-        assert!(Error::new(21).meaning.contains("don't name"));
+        assert!(Error::new(22).meaning.contains("don't name"));
     }
 }

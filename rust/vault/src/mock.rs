@@ -63,6 +63,35 @@ pub unsafe fn vault_join(
     calls::join(from_raw_parts(index, index_length), from_raw_parts(recipes, recipes_length), out, &mut *count)
 }
 
+pub unsafe fn vault_query_count(
+    index: *const u8,
+    index_length: usize,
+    recipes: *const u8,
+    recipes_length: usize,
+    query: *const u8,
+    query_length: usize,
+    lines: *mut u64,
+) -> u8 {
+    let (index, recipes) = (from_raw_parts(index, index_length), from_raw_parts(recipes, recipes_length));
+    calls::query_count(index, recipes, from_raw_parts(query, query_length), &mut *lines)
+}
+
+#[allow(clippy::too_many_arguments)]
+pub unsafe fn vault_query(
+    index: *const u8,
+    index_length: usize,
+    recipes: *const u8,
+    recipes_length: usize,
+    query: *const u8,
+    query_length: usize,
+    out: *mut u8,
+    out_length: usize,
+    lines: *mut u64,
+) -> u8 {
+    let (index, recipes) = (from_raw_parts(index, index_length), from_raw_parts(recipes, recipes_length));
+    calls::query(index, recipes, from_raw_parts(query, query_length), from_raw_parts_mut(out, out_length), &mut *lines)
+}
+
 pub unsafe fn vault_find_chunk(store: *const u8, store_length: usize, key: *const u8, key_length: usize) -> u8 {
     calls::chunk(from_raw_parts(store, store_length), from_raw_parts(key, key_length)).err().unwrap_or(0)
 }

@@ -34,6 +34,16 @@ pub fn join(index: &[u8], recipes: &[u8], out: &mut [u8], count: &mut u64) -> u8
     unsafe { ffi::vault_join(index.as_ptr(), index.len(), recipes.as_ptr(), recipes.len(), out.as_mut_ptr(), out.len(), count) }
 }
 
+pub fn query_count(index: &[u8], recipes: &[u8], query: &[u8], lines: &mut u64) -> u8 {
+    let (i, n, r, m) = (index.as_ptr(), index.len(), recipes.as_ptr(), recipes.len());
+    unsafe { ffi::vault_query_count(i, n, r, m, query.as_ptr(), query.len(), lines) }
+}
+
+pub fn query(index: &[u8], recipes: &[u8], query: &[u8], out: &mut [u8], lines: &mut u64) -> u8 {
+    let (i, n, r, m) = (index.as_ptr(), index.len(), recipes.as_ptr(), recipes.len());
+    unsafe { ffi::vault_query(i, n, r, m, query.as_ptr(), query.len(), out.as_mut_ptr(), out.len(), lines) }
+}
+
 /// Code, start and length.
 pub fn chunk(store: &[u8], key: &[u8]) -> (u8, u64, u64) {
     let (s, n, k, m) = (store.as_ptr(), store.len(), key.as_ptr(), key.len());

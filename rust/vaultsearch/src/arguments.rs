@@ -17,6 +17,9 @@ pub struct Arguments {
     pub index: Option<PathBuf>,
     pub recipes: Option<PathBuf>,
     pub names: Option<PathBuf>,
+    /// A query by keyword numbers, or by keywords.
+    pub order: Option<Vec<u8>>,
+    pub then: Vec<Vec<u8>>,
     pub output: Option<PathBuf>,
     pub format: Option<String>,
     pub cut: Option<String>,
@@ -30,10 +33,11 @@ pub struct Arguments {
 }
 
 /// The options that each command uses.
-const USED: [(&str, &[&str]); 7] = [
+const USED: [(&str, &[&str]); 8] = [
     ("search", &["--word", "--list", "--words", "--fold", "--format", "--names", "--count", "-o", "--quiet"]),
     ("scan", &["--word", "--list", "--words", "--fold", "-o", "--quiet"]),
     ("join", &["--format", "--names", "--count", "-o", "--quiet"]),
+    ("query", &["--order", "--then", "--format", "--names", "--count", "-o", "--quiet"]),
     ("check", &["--store", "--index", "--recipes", "--word", "--list", "--words", "--fold", "--entries", "--quiet"]),
     ("lookup", &["--store", "--index", "-o", "--quiet"]),
     ("compact", &["-o", "--quiet"]),
@@ -70,7 +74,7 @@ impl Arguments {
 
     fn option(&mut self, option: &str, words: &mut impl Iterator<Item = OsString>) -> Result<(), Failure> {
         let name = first_name(option).ok_or_else(|| Failure::Usage(format!("no such option: {option}")))?;
-        if self.given.contains(&name) && name != "--word" {
+        if self.given.contains(&name) && !["--word", "--then"].contains(&name) {
             return Err(Failure::Usage(format!("{option} is given twice")));
         }
         self.given.push(name);
@@ -83,6 +87,8 @@ impl Arguments {
             "--index" => self.index = Some(value()?.into()),
             "--recipes" => self.recipes = Some(value()?.into()),
             "--names" => self.names = Some(value()?.into()),
+            "--order" => self.order = Some(numbers(option, &value()?)?),
+            "--then" => self.then.push(value()?.into_encoded_bytes()),
             "-o" => self.output = Some(value()?.into()),
             "--format" => self.format = Some(shown(&value()?)),
             "--cut" => self.cut = Some(shown(&value()?)),
@@ -129,6 +135,9 @@ impl Arguments {
         if self.names.is_some() && matches!(self.format.as_deref(), Some("plain" | "raw")) {
             return wrong("the formats plain and raw have no names: leave --names out");
         }
+        if self.order.is_some() && !self.then.is_empty() {
+            return wrong("give the order by one of --order and --then");
+        }
         if self.entries && self.store.is_none() && self.index.is_none() {
             return wrong("--entries lists the chunks of --store FILE or --index FILE");
         }
@@ -148,4 +157,12 @@ fn first_name(option: &str) -> Option<&'static str> {
 fn number(option: &str, value: &OsString) -> Result<usize, Failure> {
     let value = shown(value);
     value.parse().map_err(|_| Failure::Usage(format!("{option} wants a number, not {value}")))
+}
+
+/// Keyword numbers with commas between; none at all in an empty word. How many and which there may be, the library tells.
+fn numbers(option: &str, value: &OsString) -> Result<Vec<u8>, Failure> {
+    let value = shown(value);
+    let wrong = |_| Failure::Usage(format!("{option} wants keyword numbers with commas between, as 0,3,1, not {value}"));
+    let parts = if value.is_empty() { vec![] } else { value.split(',').collect() };
+    parts.into_iter().map(str::parse).collect::<Result<_, _>>().map_err(wrong)
 }

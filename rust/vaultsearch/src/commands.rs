@@ -1,8 +1,9 @@
-//! The commands search, scan, join, compact and make-vault; `inspect.rs` has check and lookup.
+//! The commands search, scan, join, query, compact and make-vault; `inspect.rs` has check and lookup.
 
 use crate::arguments::{self, Arguments};
 use crate::failure::Failure;
 use crate::input::{self, Kind};
+use crate::lines::{self, Answer};
 use crate::progress::{size, Progress};
 use crate::rows::{self, Format, Labels};
 use crate::{identity, inspect, make_vault, names, output, text};
@@ -25,6 +26,7 @@ pub fn run(words: Vec<OsString>) -> Done {
         "search" => session.search(),
         "scan" => session.scan(),
         "join" => session.join(),
+        "query" => session.query(),
         "check" => session.check(),
         "lookup" => session.lookup(),
         "compact" => session.compact(),
@@ -50,12 +52,13 @@ fn unmade(what: &str, told: impl FnOnce(vault::Error) -> Failure) -> impl FnOnce
     }
 }
 
-/// The input that a refusal of a join or a compaction is about: the recipes, or the index or store that they are for.
+/// The input that a refusal of a join, a query or a compaction is about: the recipes, or the index or store that they are for.
 fn recipes_refused(whole: &str, recipes: &Path) -> impl FnOnce(vault::Error) -> Failure {
     let (whole, recipes) = (whole.to_string(), text::path(recipes));
     move |error| match error.code {
         14..=17 => Failure::Refused(recipes, error),
         18 => Failure::Refused("the list".into(), error),
+        21 => Failure::Refused("the query".into(), error),
         _ => Failure::Refused(whole, error),
     }
 }
@@ -82,6 +85,30 @@ struct Recipes {
     path: PathBuf,
     bytes: Vec<u8>,
     names: Vec<Vec<u8>>,
+}
+
+impl Recipes {
+    /// What a list or lines are written with: keywords of a good index, names of files.
+    fn labels(self, index: &[u8]) -> Labels {
+        let keywords = vault::keywords_of(vault::keywords_in_index(index)).into_iter().map(text::ascii).collect();
+        let files = input::file_count(&self.bytes).unwrap_or(0) as usize;
+        Labels { keywords, names: self.names, files }
+    }
+}
+
+/// The numbers of these keywords in an index, by which they compare as the index's fold flag says.
+fn numbers_of(words: &[Vec<u8>], index: &[u8], path: &Path) -> Result<Vec<u8>, Failure> {
+    vault::check_index(index).map_err(refused(text::path(path)))?;
+    let list = vault::keywords_in_index(index);
+    let keywords = vault::keywords_of(list);
+    // Two keywords are one if a list of both is refused for it.
+    let same = |a: &[u8], b: &[u8]| vault::keyword_list(list[1] == 1, &[a, b]).is_err_and(|error| error.code == 4);
+    let number = |word: &Vec<u8>| {
+        let known = keywords.iter().map(|keyword| text::ascii(keyword)).collect::<Vec<_>>().join(", ");
+        let unknown = || Failure::Usage(format!("--then {}: no keyword of {} ({known})", text::ascii(word), text::path(path)));
+        keywords.iter().position(|keyword| same(keyword, word)).map(|k| k as u8).ok_or_else(unknown)
+    };
+    words.iter().map(number).collect()
 }
 
 impl Session<'_> {
@@ -161,9 +188,7 @@ impl Session<'_> {
         }
         let joined = self.progress.step(&step, 0, || vault::join_bytes(index, bytes));
         let list = joined.map_err(unmade("the list", told))?;
-        let keywords = vault::keywords_of(vault::keywords_in_index(index)).into_iter().map(text::ascii).collect();
-        let files = input::file_count(bytes).unwrap_or(0) as usize;
-        let labels = Labels { keywords, names: recipes.names, files };
+        let labels = recipes.labels(index);
         let step = format!("writing {} occurrences", list.len() / vault::ROW);
         self.progress.step(&step, 0, || output::write(output, |out| rows::write(out, format, &list, &labels)))
     }
@@ -211,6 +236,33 @@ impl Session<'_> {
         let recipes = self.recipes(recipes_path)?;
         let index = self.read(index_path, &input::INDEX)?;
         self.joined(&index, &text::path(index_path), recipes, format)
+    }
+
+    fn query(&self) -> Done {
+        let [index_path, recipes_path] = self.plain(["INDEX", "RECIPES"])?;
+        let format = self.format()?;
+        let a = self.arguments;
+        if a.order.is_none() && a.then.is_empty() {
+            return Err(Failure::Usage("give the order: --order NUMBERS, or --then TEXT for each keyword".into()));
+        }
+        self.keep_apart(&[index_path, recipes_path])?;
+        let recipes = self.recipes(recipes_path)?;
+        let index = self.read(index_path, &input::INDEX)?;
+        let query = match &a.order {
+            Some(numbers) => numbers.clone(),
+            None => numbers_of(&a.then, &index, index_path)?,
+        };
+        let (bytes, told) = (&recipes.bytes, recipes_refused(&text::path(index_path), &recipes.path));
+        let step = format!("querying {} of index with {} of recipes", size(index.len() as u64), size(bytes.len() as u64));
+        if a.count {
+            let count = self.progress.step(&step, 0, || vault::query_count(&index, bytes, &query)).map_err(told)?;
+            return output::write(a.output.as_deref(), |out| writeln!(out, "{count}"));
+        }
+        let lines = self.progress.step(&step, 0, || vault::query_bytes(&index, bytes, &query));
+        let lines = lines.map_err(unmade("the lines", told))?;
+        let labels = recipes.labels(&index);
+        let answer = Answer { query: &query, bytes: &lines };
+        output::write(a.output.as_deref(), |out| lines::write(out, format, &answer, &labels))
     }
 
     fn compact(&self) -> Done {

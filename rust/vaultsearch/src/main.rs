@@ -7,6 +7,7 @@ mod failure;
 mod identity;
 mod input;
 mod inspect;
+mod lines;
 mod make_vault;
 mod names;
 mod output;

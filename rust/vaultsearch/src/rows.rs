@@ -1,4 +1,4 @@
-//! A list of occurrences, written in each format.
+//! A list of occurrences, written in each format; `lines.rs` has the lines of a query.
 
 use crate::text;
 use std::io::{Result, Write};
@@ -36,7 +36,7 @@ pub struct Labels {
 }
 
 /// A JSON string.
-fn json(text: &str) -> String {
+pub fn json(text: &str) -> String {
     let mut string = String::from("\"");
     for c in text.chars() {
         match c {
@@ -51,7 +51,7 @@ fn json(text: &str) -> String {
 }
 
 /// A name's fields in JSON: the name itself, or its escaped form where it isn't UTF-8.
-fn json_name(name: &[u8]) -> String {
+pub fn json_name(name: &[u8]) -> String {
     match std::str::from_utf8(name) {
         Ok(name) => format!(",\"name\":{}", json(name)),
         Err(_) => format!(",\"name\":{},\"escaped\":true", json(&text::line(name))),
@@ -59,8 +59,14 @@ fn json_name(name: &[u8]) -> String {
 }
 
 impl Labels {
-    fn keyword(&self, found: &Occurrence) -> &str {
-        self.keywords.get(usize::from(found.keyword)).map_or("?", |text| text)
+    /// A keyword's text, by its number.
+    pub fn keyword(&self, keyword: u8) -> &str {
+        self.keywords.get(usize::from(keyword)).map_or("?", |text| text)
+    }
+
+    /// A file's name, by its number, if it is known.
+    pub fn name(&self, file: u32) -> Option<&[u8]> {
+        self.names.get(file as usize).map(|name| &name[..])
     }
 
     /// The occurrences, each with its file's name in some form ("" if it isn't known), which is made once a file.
@@ -75,7 +81,7 @@ impl Labels {
             let first = file != Some(found.file);
             if first {
                 file = Some(found.file);
-                name = self.names.get(found.file as usize).map_or(String::new(), |name| form(name));
+                name = self.name(found.file).map_or(String::new(), &form);
             }
             write(&found, &name, first)?;
         }
@@ -102,7 +108,7 @@ fn human(out: &mut dyn Write, list: &[u8], labels: &Labels) -> Result<()> {
             let gap = if labels.names.is_empty() { "" } else { "  " };
             writeln!(out, "file {}{gap}{name}", found.file)?;
         }
-        writeln!(out, "  {:>10}  {}", found.offset, labels.keyword(found))
+        writeln!(out, "  {:>10}  {}", found.offset, labels.keyword(found.keyword))
     })?;
     let count = list.len() / vault::ROW;
     let s = |n: usize| if n == 1 { "" } else { "s" };
@@ -112,7 +118,7 @@ fn human(out: &mut dyn Write, list: &[u8], labels: &Labels) -> Result<()> {
 fn tsv(out: &mut dyn Write, list: &[u8], labels: &Labels) -> Result<()> {
     writeln!(out, "file\toffset\tkeyword\ttext\tname")?;
     labels.each(list, text::line, |found, name, _| {
-        writeln!(out, "{}\t{}\t{}\t{}\t{name}", found.file, found.offset, found.keyword, labels.keyword(found))
+        writeln!(out, "{}\t{}\t{}\t{}\t{name}", found.file, found.offset, found.keyword, labels.keyword(found.keyword))
     })
 }
 

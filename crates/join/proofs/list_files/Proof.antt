@@ -6,12 +6,14 @@ use native.Mathlib.Omega.{arith}
 use lib.ListN.{length}
 use denote.Ref.{now}
 use Rattle.spec.specs.Bytes.{fieldAt}
-use Rattle.spec.specs.Index.{indexKeys}
+use Rattle.spec.specs.Index.{lengthsIn, indexKeys}
 use Rattle.spec.specs.Recipes.{named, fileCount}
 use Rattle.recipes.proofs.Files.{walk-file, accepted}
 use Rattle.files.proofs.Places.{no-slots}
 use Rattle.recipes.proofs.Slices.{file-next}
+use Rattle.plan.specs.Plans.{listOf}
 use Rattle.plan.proofs.FileLaws.{list-is, file-walks, file-passes}
+use Rattle.plan.proofs.RowLaws.{no-occurrence}
 use Rattle.join.proofs.Turns.{Listing, listing-start, listing-room, listing-on, listing-end}
 use Rattle.join.proofs.list_files.Statement.{statement}
 use Rattle.join.proofs.list_files.Tie as tie
@@ -76,7 +78,8 @@ list-file-requires c κs =
     let passes = file-passes index recipes k (l .at) w turn file f (made .passed) in
     let walks = file-walks index recipes k (l .at) w turn file f [] passes (no-slots (indexKeys index) (named file)) in
     let room = listing-room index recipes k (l .at) turn file f (now (s .args .out)) (l .out) (l .place) (l .inv .1) (s .pre .1) in
-    (λ z. sym listed ∙ made .marked .none k turn z, (made .joinable .looked, (made .joinable .tabled, (walks, room))))
+    let none = no-occurrence (lengthsIn index) k (listOf index recipes k) in
+    (λ z. sym listed ∙ none (made .marked .none k turn z), (made .joinable .looked, (made .joinable .tabled, (walks, room))))
 
 add-at : tie.Need-add-at Inv-loop μ-loop
 add-at c = let f = c .before .before .before .before .before .before in omega (arith, room f, outset (f .before .before))

@@ -3,7 +3,8 @@ use Prim.Native.Nat.{_+_, _≤_}
 use native.Mathlib.Omega.{arith}
 use lib.ListN.{length}
 use Rattle.listing.specs.Streams.{placeList}
-use Rattle.listing.proofs.Listed.{ListingPlace, listing-none, listing-start, listing-more, listing-room, listing-on, listing-end}
+use Rattle.listing.proofs.Coming.{coming-more}
+use Rattle.listing.proofs.Listed.{ListingPlace, listing-none, listing-start, listing-room, listing-on, listing-end}
 use Rattle.listing.proofs.list_place.Statement.{statement}
 use Rattle.listing.proofs.list_place.Tie as tie
 use Rattle.listing.proofs.list_place.Reads as reads
@@ -50,10 +51,8 @@ next-requires c κs =
     let s = start (c .before .before) in
     let a = s .args in
     let l = c .before .before .loop in
-    let whole = placeList (a .place) (a .index .now) (a .streams .now) in
-    let more = listing-more (a .index .now) (a .place) (a .out .now) (l .out) whole (l .opened) (l .p) (l .left) (l .inv)
-    (c .before .loop-test .taken) in
-    ((s .pre .0 .0, s .pre .0 .1, s .pre .0 .2), (l .inv .held, more))
+    let more = coming-more (a .index .now) (a .place) (l .opened) (l .left) (l .inv .coming) (c .before .loop-test .taken) in
+    ((s .pre .0 .0, s .pre .0 .1, s .pre .0 .2), (l .inv .coming .held, more))
 
 add-offset : tie.Need-add-offset Inv-loop μ-loop
 add-offset c = omega (arith, c .before .before .next .ensures .bound, start (c .before .before .before .before .before) .pre .0 .3)

@@ -7,31 +7,32 @@ use lib.ListN.{length, length-replicate}
 use denote.Ref.{now}
 use Rattle.spec.specs.Bytes.{fieldAt}
 use Rattle.spec.specs.Directory.{sizeAt}
-use Rattle.spec.specs.Index.{indexLayout, indexKeys}
+use Rattle.spec.specs.Index.{lengthsIn, indexLayout, indexKeys}
 use Rattle.spec.specs.Recipes.{named, fileCount, fileCode}
 use Rattle.recipes.proofs.Files.{walk-file, accepted}
 use Rattle.files.specs.Measures.{leastIn}
 use Rattle.files.proofs.OfIndex.{index-code, index-slotted}
-use Rattle.walk.specs.Walking.{File}
+use Rattle.walk.specs.Walking.{fileList, File}
 use Rattle.walk.proofs.Entries.{lies, starts, counts}
-use Rattle.walk.proofs.Counts.{count-few}
+use Rattle.walk.proofs.Counts.{count-any, count-few}
 use Rattle.recipes.proofs.Slices.{file-next}
 use Rattle.plan.proofs.FileLaws.{codeOf, file-walks}
+use Rattle.plan.proofs.RowLaws.{rows-few}
 use Rattle.plan.proofs.Surveys.{Surveying, survey-start, survey-refused, survey-on, survey-passed, survey-total, survey-marks}
 use Rattle.plan.proofs.Stages.{inner-least, files-number, refused-plan, done-plan}
 use Rattle.plan.proofs.survey_files.Statement.{statement}
 use Rattle.plan.proofs.survey_files.Tie as tie
 
 abbrev Inv-loop : tie.InvT-loop
-Inv-loop index recipes opened chains tables slots₀ marks₀ files total₀ at₀ k₀ slots marks total at k =
-    (files ≡ fileCount recipes) × (length slots ≡ 65536) × Surveying index recipes marks k at total
+Inv-loop index recipes chains tables query opened lengths slots₀ marks₀ files total₀ at₀ k₀ slots marks total at k =
+    (files ≡ fileCount recipes) × (length slots ≡ 65536) × Surveying index recipes query marks k at total
 
 abbrev μ-loop : tie.MeasureT-loop
-μ-loop index recipes opened chains tables slots₀ marks₀ files total₀ at₀ k₀ slots marks total at k = files - k
+μ-loop index recipes chains tables query opened lengths slots₀ marks₀ files total₀ at₀ k₀ slots marks total at k = files - k
 
 -- the start, seen from the loop, and from where a file is tested
 abbrev outset : tie.At-loop Inv-loop μ-loop → tie.Start Inv-loop μ-loop
-outset p = p .before .before .before .before .before
+outset p = p .before .before .before .before .before .before .before .before
 
 abbrev turn : tie.After-file-code Inv-loop μ-loop → tie.At-loop Inv-loop μ-loop
 turn c = c .before .before .before .before
@@ -55,13 +56,14 @@ test : (c : tie.After-file-code Inv-loop μ-loop)
 test c =
     let s = outset (turn c) in
     let a = s .args in
-    let d = s .pre .looked .checked in
+    let d = s .pre .0 .looked .checked in
     let f = c .before .before .file-at in
     let t = c .file-code in
-    index-code (now (a .index)) (a .opened .directory) (a .opened .entries) (starts (now (a .index)) (a .opened) d) (counts (now (a .index)) (a .opened) d)
-    (leastIn (a .opened)) (named (now (f .result))) (turn c .loop .slots) (slots₁ c) (t .result) (t .ensures)
+    let o = a .survey .opened in
+    index-code (now (a .index)) (o .directory) (o .entries) (starts (now (a .index)) o d) (counts (now (a .index)) o d)
+    (leastIn o) (named (now (f .result))) (turn c .loop .slots) (slots₁ c) (t .result) (t .ensures)
     ∙ ap (λ (n : ℕ). fileCode (indexKeys (now (a .index))) (sizeAt (indexLayout (now (a .index))) (now (a .index))) n (named (now (f .result))))
-    (inner-least (now (a .index)) (a .opened) (d .read))
+    (inner-least (now (a .index)) o (d .read))
 
 -- the file that passed can be walked
 walks : (c : tie.After-file-code Inv-loop μ-loop) → c .file-code .result ≡ 0
@@ -70,37 +72,43 @@ walks c z =
     let p = turn c in
     let s = outset p in
     let a = s .args in
-    let d = s .pre .looked .checked in
+    let d = s .pre .0 .looked .checked in
     let f = c .before .before .file-at in
     let l = p .loop in
     let t = c .file-code in
+    let o = a .survey .opened in
     file-walks (now (a .index)) (now (a .recipes)) (l .k) (l .at) (l .inv .2 .walk) (omega arith) (now (f .result)) (f .ensures)
     (slots₁ c) (sym (test c) ∙ z)
-    (index-slotted (now (a .index)) (a .opened .directory) (a .opened .entries) (starts (now (a .index)) (a .opened) d) (counts (now (a .index)) (a .opened) d)
-    (leastIn (a .opened)) (named (now (f .result))) (l .slots) (slots₁ c) (t .result) (t .ensures) z)
+    (index-slotted (now (a .index)) (o .directory) (o .entries) (starts (now (a .index)) o d) (counts (now (a .index)) o d)
+    (leastIn o) (named (now (f .result))) (l .slots) (slots₁ c) (t .result) (t .ensures) z)
 
--- the file's count is small
-small : (c : tie.After-count-file Inv-loop μ-loop) → c .count-file .result < 2 ^ 36
+-- the file's rows are few
+small : (c : tie.After-rows-in Inv-loop μ-loop) → c .rows-in .result < 2 ^ 36
 small c =
     let t = c .before .before .before .before in
     let s = outset (turn t) in
     let a = s .args in
+    let index = now (a .index) in
+    let file = now (t .before .before .file-at .result) in
+    let k = turn t .loop .k in
+    let few : length (fileList k index file) < 2 ^ 36 =
     omega (
       arith,
-      c .count-file .ensures,
-      count-few (now (a .index)) (a .opened) (now (t .before .before .file-at .result)) (slots₁ t) (s .pre .looked .checked)
-          (walks t (c .before .before .if1 .left)),
-    )
+      count-any index file k,
+      count-few index (a .survey .opened) file (slots₁ t) (s .pre .0 .looked .checked) (walks t (c .before .before .if1 .left)),
+    ) in
+    omega (arith, c .rows-in .ensures, rows-few (lengthsIn index) (now (a .query)) k (fileList k index file) few)
 
 count-at-requires : tie.Need-count-at-requires Inv-loop μ-loop
 count-at-requires c κs =
-    let s = c .before .before .before in
-    omega (arith, accepted (now (s .args .recipes)) (s .pre .named) .header)
+    let s = c .before .before .before .before .before .before in
+    omega (arith, accepted (now (s .args .recipes)) (s .pre .0 .named) .header)
 
 loop-holds : tie.Need-loop-holds Inv-loop μ-loop
 loop-holds c =
-    let s = c .before .before .before .before in
-    (c .count-at .ensures, length-replicate {A = ℕ} 65536 0, survey-start (now (s .args .index)) (now (s .args .recipes)) (s .pre .named))
+    let s = c .before .before .before .before .before .before .before in
+    let a = s .args in
+    (c .count-at .ensures, length-replicate {A = ℕ} 65536 0, survey-start (now (a .index)) (now (a .recipes)) (now (a .query)) (s .pre .0 .named))
 
 file-at-requires : tie.Need-file-at-requires Inv-loop μ-loop
 file-at-requires c κs =
@@ -114,7 +122,7 @@ slice-aggregate-file-code c = sym (c .before .before .before .loop .inv .1)
 file-code-requires : tie.Need-file-code-requires Inv-loop μ-loop
 file-code-requires c κs =
     let s = outset (c .before .before .before) in
-    (lies (now (s .args .index)) (s .args .opened) (s .pre .looked .checked), s .pre .looked .chained)
+    (lies (now (s .args .index)) (s .args .survey .opened) (s .pre .0 .looked .checked), s .pre .0 .looked .chained)
 
 refused-requires : tie.Need-refused-requires Inv-loop μ-loop
 refused-requires c κs = tt
@@ -129,19 +137,19 @@ returns c =
     let f = t .before .before .file-at in
     let code = t .file-code .result in
     let taken = c .before .if1 .taken in
-    let all = survey-refused (now (a .index)) (now (a .recipes)) (l .k) (l .at) (omega arith) (now (f .result)) (f .ensures)
+    let all = survey-refused (now (a .index)) (now (a .recipes)) (now (a .query)) (l .k) (l .at) (omega arith) (now (f .result)) (f .ensures)
     (l .marks) (l .total) (l .inv .2) code (test t) taken in
-    refused-plan (now (a .index)) (now (a .recipes)) code (c .refused .result)
-    (all ∙ files-number (now (a .index)) (now (a .recipes)) (s .pre .looked .checked .good) (s .pre .named)) taken (c .refused .ensures)
+    refused-plan (now (a .index)) (now (a .recipes)) (now (a .query)) code (c .refused .result)
+    (all ∙ files-number (now (a .index)) (now (a .recipes)) (s .pre .0 .looked .checked .good) (s .pre .0 .named)) taken (c .refused .ensures)
 
-slice-aggregate-count-file : tie.Need-slice-aggregate-count-file Inv-loop μ-loop
-slice-aggregate-count-file c = let t = c .before .before .before in sym (t .file-code .kept .1 .1 .1 .1 .0 ∙ turn t .loop .inv .1)
+slice-aggregate-rows-in : tie.Need-slice-aggregate-rows-in Inv-loop μ-loop
+slice-aggregate-rows-in c = let t = c .before .before .before in sym (t .file-code .kept .1 .1 .1 .1 .0 ∙ turn t .loop .inv .1)
 
-count-file-requires : tie.Need-count-file-requires Inv-loop μ-loop
-count-file-requires c κs =
+rows-in-requires : tie.Need-rows-in-requires Inv-loop μ-loop
+rows-in-requires c κs =
     let t = c .before .before .before in
     let s = outset (turn t) in
-    (s .pre .looked, (s .pre .tabled, walks t (c .before .if1 .left)))
+    ((s .pre .0 .looked, s .pre .0 .tabled), (walks t (c .before .if1 .left), s .pre .1))
 
 mark-of-requires : tie.Need-mark-of-requires Inv-loop μ-loop
 mark-of-requires c κs = tt
@@ -170,7 +178,7 @@ loop-less c = omega arith
 
 loop-again : tie.Need-loop-again Inv-loop μ-loop
 loop-again c =
-    let n = c .before .count-file in
+    let n = c .before .rows-in in
     let t = c .before .before .before .before .before in
     let f = t .before .before .file-at in
     let p = turn t in
@@ -178,7 +186,7 @@ loop-again c =
     let l = p .loop in (
       l .inv .0,
       t .file-code .kept .1 .1 .1 .1 .0 ∙ l .inv .1,
-      survey-on (now (a .index)) (now (a .recipes)) (l .k) (l .at) (omega arith) (now (f .result)) (f .ensures)
+      survey-on (now (a .index)) (now (a .recipes)) (now (a .query)) (l .k) (l .at) (omega arith) (now (f .result)) (f .ensures)
           (l .marks) (l .total) (l .inv .2) (t .file-code .result) (test t) (c .before .before .before .if1 .left)
           (n .result) (c .mark-of .result) (n .ensures) (small (c .before)) (c .mark-of .ensures),
     )
@@ -189,14 +197,15 @@ returns-2 c =
     let s = outset p in
     let index = now (s .args .index) in
     let recipes = now (s .args .recipes) in
+    let query = now (s .args .query) in
     let l = p .loop in
     let done : fileCount recipes ≤ l .k = omega arith in
-    done-plan index recipes (l .total) (s .args .opened) (l .marks)
-    (sym (files-number index recipes (s .pre .looked .checked .good) (s .pre .named))
-    ∙ survey-passed index recipes (l .marks) (l .k) (l .at) (l .total) (l .inv .2) done)
-    (survey-total index recipes (l .marks) (l .k) (l .at) (l .total) (l .inv .2) done)
-    (s .pre .looked .checked .read)
-    (survey-marks index recipes (l .marks) (l .k) (l .at) (l .total) (l .inv .2) done)
+    done-plan index recipes query (l .total) (s .args .survey .opened) (l .marks)
+    (sym (files-number index recipes (s .pre .0 .looked .checked .good) (s .pre .0 .named))
+    ∙ survey-passed index recipes query (l .marks) (l .k) (l .at) (l .total) (l .inv .2) done)
+    (survey-total index recipes query (l .marks) (l .k) (l .at) (l .total) (l .inv .2) done)
+    (s .pre .0 .looked .checked .read)
+    (survey-marks index recipes query (l .marks) (l .k) (l .at) (l .total) (l .inv .2) done)
 
 pub survey-files-spec : {M : Type 1} → statement M
 survey-files-spec =
@@ -211,8 +220,8 @@ survey-files-spec =
     file-code-requires
     refused-requires
     returns
-    slice-aggregate-count-file
-    count-file-requires
+    slice-aggregate-rows-in
+    rows-in-requires
     mark-of-requires
     array-write-marks
     add-total

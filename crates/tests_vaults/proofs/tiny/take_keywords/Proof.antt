@@ -4,8 +4,8 @@ use mathlib.Core.Path.{_≡_}
 use mathlib.Core.Logic.{_⊎_}
 use Prim.Native.Nat.{_≤_, _-_}
 use lib.ListN.{length}
-use Rattle.tests_sets.proofs.make.take_keywords.Statement.{statement}
-use Rattle.tests_sets.proofs.make.take_keywords.Tie as tie
+use Rattle.tests_vaults.proofs.tiny.take_keywords.Statement.{statement}
+use Rattle.tests_vaults.proofs.tiny.take_keywords.Tie as tie
 
 abbrev Inv-loop : tie.InvT-loop
 Inv-loop m₀ n text end seed s₀ size₀ k₀ m s size k =

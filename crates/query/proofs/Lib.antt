@@ -1,0 +1,5 @@
+pub mod Queries
+pub mod LineBytes
+pub mod Turns
+pub mod AskedPlans
+pub mod Answers
