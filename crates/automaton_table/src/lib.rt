@@ -227,7 +227,7 @@ fn child_byte(list: &[u8], flag: u8, a: usize, m: usize, b: usize, n: usize) -> 
         return 256;
     }
     if alike_at(list, flag, a, m, b, m) {
-        return keywords::fold(flag, list[b + m]) as usize;
+        return folding::fold(flag, list[b + m]) as usize;
     }
     256
 }
@@ -279,7 +279,7 @@ fn cell_of(
     requires { ⌜ CanFill (now list) (now table) (now sets) (now children) flag s linked ⌝ }
     ensures { λ r. ⌜ r ≡ cellOf (flagOf (now (list .entry))) (foldedKeywords (now (list .entry))) s b ⌝ }
 {
-    let c = keywords::fold(flag, b) as usize;
+    let c = folding::fold(flag, b) as usize;
     let t = children[c];
     if t != 0 {
         return pack(t, sets[t as usize]);

@@ -2,5 +2,4 @@ pub mod StepLaws
 pub mod RecordChecks
 pub mod Orders
 pub mod KindChecks
-pub mod SetChecks
 pub mod Turns

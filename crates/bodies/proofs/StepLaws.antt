@@ -17,7 +17,8 @@ use Rattle.spec.proofs.Begins.{begins-split}
 use Rattle.spec.proofs.Same.{same-eq, same-refl}
 use Rattle.spec.proofs.Fields.{length-leBytes}
 use Rattle.spec.proofs.RecordLaws.{FormGood, bool-ext, and-intro, written-empty, size-written, body-begins, set-empty, set-some, zero-in}
-use Rattle.bodies.specs.Steps.{goodFrom, recordGood, setGood, recordGoodNext, setGoodNext}
+use Rattle.body_sets.specs.Sets.{setGood}
+use Rattle.bodies.specs.Steps.{goodFrom, recordGood, recordGoodNext, setGoodNext}
 
 pub good-is-from : (f : Form) (lengths : List ℕ) (size : ℕ) (body : List ℕ) → goodBody f lengths size body ≡ goodFrom f 0 lengths size body
 unfolding goodBody goodFrom

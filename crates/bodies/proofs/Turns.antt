@@ -13,14 +13,15 @@ use Rattle.spec.specs.Bytes.{begins}
 use Rattle.spec.specs.declared.Format.{Format}
 use Rattle.spec.specs.Form.{Form, formIn}
 use Rattle.spec.specs.Records.{recordSize, setIsNext, recordIsNext, recordTaken, setTaken, behindKeyword, goodBody}
-use Rattle.bodies.specs.Steps.{goodFrom, recordGood, setGood, recordGoodNext, setGoodNext}
+use Rattle.body_sets.specs.Sets.{setGood}
+use Rattle.bodies.specs.Steps.{goodFrom, recordGood, recordGoodNext, setGoodNext}
 use Rattle.spec.proofs.Tests.{le-or-lt, bool-cases, and-left, and-right, eqb-same, eqb-ne}
 use Rattle.spec.proofs.RecordLaws.{eq-of}
 use Rattle.bodies.specs.Check.{goodSize, recordPart, setPart, Lengths, KeywordLengths}
 use Rattle.bodies.proofs.StepLaws.{good-is-from, good-end, taken-here, taken-none, set-here, set-none, good-step, good-absent}
 use Rattle.bodies.proofs.KindChecks.{fields-good}
 use Rattle.bodies.proofs.RecordChecks.{tiny-of, full-of, size-zero, size-least}
-use Rattle.bodies.proofs.SetChecks.{set-head, six}
+use Rattle.body_sets.proofs.SetChecks.{set-head, six}
 
 -- the part that starts at `at` is all behind it
 pub behind : (body : List ℕ) (at : ℕ) → take (length body - at) (drop at body) ≡ drop at body

@@ -3,9 +3,10 @@ use mathlib.Core.Bool.{Bool, true, _&&_, cond}
 use mathlib.Core.List.{List}
 use Prim.Native.Nat.{ℕ}
 use lib.ListN.{length, take}
-use Rattle.spec.specs.Bytes.{fieldAt, same}
-use Rattle.spec.specs.Form.{Form, form3}
-use Rattle.spec.specs.Records.{inRange, setInRange, recordBytes, setBytes, bodyFrom, readRecord, recordSize, setIsNext, recordIsNext, readFrom, allInRange}
+use Rattle.spec.specs.Bytes.{same}
+use Rattle.spec.specs.Form.{Form}
+use Rattle.spec.specs.Records.{inRange, recordBytes, bodyFrom, readRecord, recordSize, setIsNext, recordIsNext, readFrom, allInRange}
+use Rattle.body_sets.specs.Sets.{setGood}
 
 -- From keyword k on: the bytes are the writing of the records that they say, and those keep the ranges.
 unfoldable pub goodFrom : Form → ℕ → List ℕ → ℕ → List ℕ → Bool
@@ -18,10 +19,6 @@ unfoldable pub recordGood : Form → ℕ → ℕ → ℕ → List ℕ → Bool
 recordGood f n k size bytes =
     same (recordBytes f n k (readRecord f bytes)) (take (recordSize f bytes) bytes)
     && inRange n size (readRecord f bytes)
-
--- Bytes start with the writing of the set that they say, and it keeps the range that a form with sets gives it.
-unfoldable pub setGood : ℕ → ℕ → ℕ → List ℕ → Bool
-setGood n k size bytes = same (setBytes k (fieldAt bytes 2 4)) (take 6 bytes) && setInRange form3 n size (fieldAt bytes 2 4)
 
 -- The same where they are keyword k's: where its record is not next there is nothing to ask of it, nor where its set is not next.
 unfoldable pub recordGoodNext : Form → ℕ → ℕ → ℕ → List ℕ → Bool

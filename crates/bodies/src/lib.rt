@@ -6,8 +6,7 @@ ghost use Prim.Native.Nat.{ℕ, _+_, _*_, _≤_, _<_};
 ghost use lib.ListN.{length, getD, take, drop};
 ghost use Rattle.spec.specs.Bytes.{fieldsOf, begins};
 ghost use Rattle.spec.specs.Form.{formIn};
-ghost use Rattle.spec.specs.Records.{reach, setIsNext, goodBody};
-ghost use Rattle.bodies.specs.Steps.{setGood};
+ghost use Rattle.spec.specs.Records.{reach, goodBody};
 ghost use Rattle.bodies.specs.Check.{goodSize, recordPart, setPart, offsetsInRange, offsetsGood, Lengths, Head, KeywordLengths};
 use spec::Format;
 
@@ -212,51 +211,12 @@ fn is_next(body: &[u8], at: usize, k: usize) -> bool
     k == body[at] as usize
 }
 
-// Keyword k's set is next, at `at`.
-fn is_set(body: &[u8], at: usize, format: Format, k: usize) -> bool
-    requires { ⌜ at ≤ length (now body) ⌝ }
-    ensures { λ r. ⌜ r ≡ setIsNext (formIn format) k (drop at (now (body .entry))) ⌝ }
-{
-    if !format.sets {
-        return false;
-    }
-    if body.len() - at < 2 {
-        return false;
-    }
-    if k != body[at] as usize {
-        return false;
-    }
-    body[at + 1] == 4
-}
-
-// The bytes, which start with a set's number and kind, start with a good set for a keyword of length n and a chunk of length `size`: all there, not
-// empty, and with no other bits than those of the starts 1 to n - 1 - size.
-fn set_good(bytes: &[u8], n: usize, size: usize) -> bool
-    requires { ⌜ (2 ≤ length (now bytes)) × (getD (now bytes) 1 0 ≡ 4) × (n ≤ 32) ⌝ }
-    ensures { λ r. ⌜ r ≡ setGood n (getD (now (bytes .entry)) 0 0) size (now (bytes .entry)) ⌝ }
-{
-    if bytes.len() < 6 {
-        return false;
-    }
-    let set = field::read(bytes, 2, 4);
-    if set == 0 {
-        return false;
-    }
-    if set % 2 == 1 {
-        return false;
-    }
-    if n <= size {
-        return false;
-    }
-    set >> (n - size) == 0
-}
-
 // One more than the size of keyword k's record at `at`, where the body's next number is k: 1 where its set is next, 0 where the record is not good.
 fn record_part(body: &[u8], at: usize, format: Format, k: usize, n: usize, size: usize) -> usize
     requires { ⌜ (at ≤ length (now body)) × (begins (k ∷ []) (drop at (now body)) ≡ true) × Lengths format n size ⌝ }
     ensures { λ r. ⌜ r ≡ recordPart format n k size (drop at (now (body .entry))) ⌝ }
 {
-    if is_set(body, at, format, k) {
+    if body_sets::is_set(body, at, format, k) {
         return 1;
     }
     let taken = record_good(&body[at..], format, n, size);
@@ -271,10 +231,10 @@ fn set_part(body: &[u8], at: usize, format: Format, k: usize, n: usize, size: us
     requires { ⌜ (at ≤ length (now body)) × (n ≤ 32) ⌝ }
     ensures { λ r. ⌜ r ≡ setPart format n k size (drop at (now (body .entry))) ⌝ }
 {
-    if !is_set(body, at, format, k) {
+    if !body_sets::is_set(body, at, format, k) {
         return 1;
     }
-    if set_good(&body[at..], n, size) {
+    if body_sets::set_good(&body[at..], n, size) {
         return 7;
     }
     0

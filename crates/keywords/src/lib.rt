@@ -1,44 +1,12 @@
-// Keyword lists: the fold of a byte, the keyword check, and where an accepted list has its keywords (document 01, "Words").
+// Keyword lists: the keyword check, and where an accepted list has its keywords (document 01, "Words").
 ghost use mathlib.Core.Path.{_≡_};
 ghost use mathlib.Core.List.{[], _∷_};
 ghost use Prim.Native.Nat.{_+_, _≤_, _<_, max};
 ghost use lib.ListN.{length, drop, getD};
 ghost use Rattle.spec.specs.Bytes.{same, contains, twice};
 ghost use Rattle.spec.specs.Outcome.{firstOf};
-ghost use Rattle.spec.specs.Keywords.{isUpper, foldByte, folded, foldedKeywords, readCode, frontTests, keywordCode, keywordFrontCode};
+ghost use Rattle.spec.specs.Keywords.{folded, foldedKeywords, readCode, frontTests, keywordCode, keywordFrontCode};
 ghost use Rattle.keywords.specs.Parsed.{ReadableList, Places, parsedOf};
-
-// Whether the byte is a capital: A to Z, or in Latin-1 an accented one, which the multiplication sign between them is not.
-fn is_upper(b: u8) -> bool
-    ensures { λ r. ⌜ r ≡ isUpper b ⌝ }
-{
-    if b < 0x41 {
-        return false;
-    }
-    if b <= 0x5A {
-        return true;
-    }
-    if b < 0xC0 {
-        return false;
-    }
-    if 0xDE < b {
-        return false;
-    }
-    b != 0xD7
-}
-
-// The byte as it compares.
-pub fn fold(flag: u8, b: u8) -> u8
-    ensures { λ r. ⌜ r ≡ foldByte flag b ⌝ }
-{
-    if flag != 1 {
-        return b;
-    }
-    if is_upper(b) {
-        return b + 0x20;
-    }
-    b
-}
 
 // A list that was read: how many keywords, the fold flag, the list's length, the longest keyword's length; for each keyword its first
 // byte's place in the list and its length.
@@ -153,8 +121,8 @@ fn alike(flag: u8, a: &[u8], b: &[u8]) -> bool
     }
     let mut i: usize = 0;
     while i < a.len() {
-        let x = fold(flag, a[i]);
-        let y = fold(flag, b[i]);
+        let x = folding::fold(flag, a[i]);
+        let y = folding::fold(flag, b[i]);
         if x != y {
             return false;
         }

@@ -22,8 +22,8 @@ pub fn occurs_at(keyword: &[u8], chunk: &[u8], at: usize, flag: u8) -> bool
     }
     let mut k = 0;
     while k < keyword.len() {
-        let x = keywords::fold(flag, keyword[k]);
-        let y = keywords::fold(flag, chunk[at + k]);
+        let x = folding::fold(flag, keyword[k]);
+        let y = folding::fold(flag, chunk[at + k]);
         if x != y {
             return false;
         }

@@ -21,7 +21,7 @@ use Rattle.spec.proofs.Codes.{refused-whole}
 use Rattle.plan.specs.declared.Plan.{Plan}
 use Rattle.plan.specs.Plans.{planOf}
 use Rattle.plan.proofs.Stages.{plan-number, plan-total}
-use Rattle.query.proofs.Queries.{asked, asked-few, query-asked, query-two, query-eight, code-passed}
+use Rattle.asking.proofs.Queries.{asked, asked-few, query-asked, query-two, query-eight, code-passed}
 use Rattle.query.proofs.Turns.{rows-lines}
 
 pub few-asked : (query taken : List ℕ) → taken ≡ asked query → length taken ≤ 8

@@ -1,4 +1,3 @@
-pub mod Queries
 pub mod LineBytes
 pub mod Turns
 pub mod AskedPlans

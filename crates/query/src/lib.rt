@@ -1,72 +1,18 @@
 // Queries of several keywords in order (request #109), over a match index and recipes alone. The plan tests each file and walks it until its choice
 // is complete, so that the lines are counted before a byte is written; files without a line are not walked again.
 ghost use mathlib.Core.Path.{_≡_};
-ghost use mathlib.Core.List.{[], _∷_};
-ghost use mathlib.Core.Bool.{not, cond, _&&_};
+ghost use mathlib.Core.List.{[]};
 ghost use Prim.Native.Nat.{_+_, _*_, _≤_};
 ghost use lib.ListN.{length, take, replicate};
-ghost use lib.Dec.{leb};
 ghost use Rattle.spec.specs.Bytes.{splice, fieldsBytes, written};
-ghost use Rattle.spec.specs.Outcome.{firstOf, whole, queryWrong};
 ghost use Rattle.spec.specs.Form.{formOf};
 ghost use Rattle.spec.specs.Index.{listIn, lengthsIn};
 ghost use Rattle.spec.specs.Keywords.{foldedKeywords};
-ghost use Rattle.spec.specs.Query.{linesBytes, lineSize, isQuery, queryLines, queryOutcome, queryBuffer, queryCount};
+ghost use Rattle.spec.specs.Query.{linesBytes, lineSize, queryLines, queryOutcome, queryBuffer, queryCount};
 ghost use Rattle.tables.specs.Tabled.{tablesOf};
 ghost use Rattle.walk.specs.Walking.{Directory, File};
 ghost use Rattle.plan.specs.Plans.{Planned};
 ghost use Rattle.query.specs.FileLines.{fileLine};
-
-// Whether a query may have that many numbers.
-fn may_number(n: usize) -> bool
-    ensures { λ r. ⌜ r ≡ (leb 2 n && leb n 8) ⌝ }
-{
-    if n < 2 {
-        return false;
-    }
-    n <= 8
-}
-
-// Whether a query has 2 to 8 numbers, each below the keyword count.
-fn is_query(query: &[u8], count: usize) -> bool
-    ensures { λ r. ⌜ r ≡ isQuery count (now (query .entry)) ⌝ }
-{
-    if !may_number(query.len()) {
-        return false;
-    }
-    let mut k: usize = 0;
-    while k < query.len() {
-        let asked = query[k] as usize;
-        if count <= asked {
-            return false;
-        }
-        k += 1;
-    }
-    true
-}
-
-// The query, or nothing where it has another length than 2 to 8: who is refused with 21 has the files tested first.
-fn askable<'a>(query: &'a [u8]) -> &'a [u8]
-    ensures { λ r. ⌜ now r ≡ cond (leb 2 (length (now (query .entry))) && leb (length (now (query .entry))) 8) (now (query .entry)) [] ⌝ }
-{
-    if !may_number(query.len()) {
-        return &query[..0];
-    }
-    query
-}
-
-// The refusals before 18: the plan's, then 21.
-fn query_code(planned: u8, query: &[u8], keywords: usize) -> u8
-    ensures { λ r. ⌜ r ≡ firstOf (whole planned ∷ (not (isQuery keywords (now (query .entry))), queryWrong) ∷ []) ⌝ }
-{
-    if planned != 0 {
-        return planned;
-    }
-    if is_query(query, keywords) {
-        return 0;
-    }
-    21
-}
 
 // Writes n offsets, 4 bytes each.
 fn put_offsets(out: &mut [u8], at: usize, offsets: &[usize], n: usize)
@@ -176,8 +122,14 @@ pub fn count(index: &[u8], recipes: &[u8], query: &[u8]) -> spec::Outcome
 {
     let mut chains = [0u32; 130536];
     let mut tables = [[[0u32; 32]; 32]; 16];
-    let counted = plan::make(index, recipes, askable(query), &mut chains, &mut tables);
-    let refusal = query_code(counted.code, query, counted.opened.keywords);
+    let counted = plan::make(
+        index,
+        recipes,
+        asking::askable(query),
+        &mut chains,
+        &mut tables,
+    );
+    let refusal = asking::query_code(counted.code, query, counted.opened.keywords);
     if refusal != 0 {
         return spec::Outcome::Refused(refusal);
     }
@@ -192,8 +144,14 @@ pub fn query(index: &[u8], recipes: &[u8], query: &[u8], out: &mut [u8]) -> spec
 {
     let mut chains = [0u32; 130536];
     let mut tables = [[[0u32; 32]; 32]; 16];
-    let p = plan::make(index, recipes, askable(query), &mut chains, &mut tables);
-    let code = query_code(p.code, query, p.opened.keywords);
+    let p = plan::make(
+        index,
+        recipes,
+        asking::askable(query),
+        &mut chains,
+        &mut tables,
+    );
+    let code = asking::query_code(p.code, query, p.opened.keywords);
     if code != 0 {
         return spec::Outcome::Refused(code);
     }

@@ -1,4 +1,4 @@
-// Stores: their check, the lookup of a chunk by its fingerprint, and their entries one by one. Document 01, "Store" and "The two lookups".
+// Stores: their check (of the entries: store_entries), the lookup of a chunk by its fingerprint, and their entries one by one. Document 01, "Store" and "The two lookups".
 ghost use mathlib.Core.Path.{_≡_};
 ghost use Prim.Native.Nat.{_+_, _*_, _≤_};
 ghost use mathlib.Core.List.{[]};
@@ -6,7 +6,7 @@ ghost use lib.ListN.{length, getD, take};
 ghost use Rattle.spec.specs.Bytes.{same, positionOf};
 ghost use Rattle.spec.specs.Outcome.{answer};
 ghost use Rattle.spec.specs.Directory.{entryField, offsetAt};
-ghost use Rattle.spec.specs.Store.{storeMark, storeLayout, storeKeys, chunksCode, storeCode, chunkCount, chunkAt};
+ghost use Rattle.spec.specs.Store.{storeMark, storeLayout, storeKeys, storeCode, chunkCount, chunkAt};
 ghost use Rattle.spec.specs.Lookup.{findChunk, chunkStart, chunkLength, chunkOf};
 ghost use Rattle.directory.specs.Chains.{Empty};
 ghost use Rattle.store.specs.Examined.{examinedChains, StoreEntry, Findable};
@@ -30,45 +30,6 @@ pub fn chunk_count(store: &[u8]) -> usize
     field::read(store, 4, 4) as usize
 }
 
-// The longest chunk, and the largest number of 32 bits.
-const LONGEST: usize = 1048576;
-
-const LARGEST: usize = 4294967295;
-
-// The entries: each one's length, offset (at or after the end before) and end; then the last end, which may lie before the store's. The number of the
-// first that is wrong.
-fn entries(store: &[u8], count: usize) -> u8
-    requires { ⌜ 8 + 28 * count ≤ length (now store) ⌝ }
-    ensures { λ r. ⌜ r ≡ chunksCode (now (store .entry)) count 0 (8 + 28 * count) ⌝ }
-{
-    let mut at = 8 + 28 * count;
-    let mut k: usize = 0;
-    while k < count {
-        let offset = field::read(store, 8 + 28 * k + 20, 4) as usize;
-        let size = field::read(store, 8 + 28 * k + 24, 4) as usize;
-        let end = offset + size;
-        let next = k + 1;
-        if size == 0 {
-            return 7;
-        }
-        if LONGEST < size {
-            return 7;
-        }
-        if offset < at {
-            return 7;
-        }
-        if LARGEST < end {
-            return 20;
-        }
-        at = end;
-        k = next;
-    }
-    if store.len() < at {
-        return 7;
-    }
-    0
-}
-
 // The store check, with the papers' numbers; it leaves the chains of the store's fingerprints in the array, once the directory is seen to be
 // whole.
 pub fn examine(store: &[u8], chains: &mut [u32]) -> u8
@@ -89,7 +50,7 @@ pub fn examine(store: &[u8], chains: &mut [u32]) -> u8
     if store.len() < 8 + 28 * c {
         return 6;
     }
-    let code = entries(store, c);
+    let code = store_entries::entries(store, c);
     if code != 0 {
         return code;
     }

@@ -11,6 +11,14 @@ use Rattle.spec.specs.Form.{newest}
 use Rattle.spec.specs.Scan.{scanBuffer, scannedCode, toldLength, toldMoves}
 use Rattle.spec.specs.Search.{searchOutcome, searchBuffer, searchedCode, toldSize, toldCount}
 
+-- what `told` is told of the answer o, which is the definition's e; `before` is what the number held at entry
+module _ (o : Outcome) {e : Outcome} (d : o ≡ e) (before : ℕ) {r number : ℕ} (t : (r ≡ codeOf o) × (number ≡ toldValue o before)) where
+  pub passed : (r ≡ codeOf e) × (number ≡ toldValue e before)
+  passed = (t .0 ∙ ap codeOf d, t .1 ∙ ap (λ (x : Outcome). toldValue x before) d)
+
+  pub passed-buffer : {out b : List ℕ} → out ≡ b → (r ≡ codeOf e) × (number ≡ toldValue e before) × (out ≡ b)
+  passed-buffer q = (passed .0, passed .1, q)
+
 -- `before` is what the number held at entry
 module _ (o r : Outcome) {e : Outcome} (k : r ≡ o) (d : r ≡ e) (before : ℕ) where
   pub told : (codeOf o ≡ codeOf e) × (toldValue o before ≡ toldValue e before)

@@ -15,6 +15,21 @@ ghost use Rattle.spec.specs.Query.{queryCount, queryOutcome, queryBuffer};
 ghost use Rattle.spec.specs.Compact.{compactSize, compactOutcome, compactBuffer};
 ghost use Rattle.spec.specs.Search.{searchOutcome, searchBuffer, searchedCode, toldSize, toldCount};
 
+// ---- what a call tells
+
+// The number of an answer; where the work is done, `number` is told the length or the count.
+fn told(answer: spec::Outcome, number: &mut u64) -> u8
+    ensures { λ r. ⌜ (r ≡ codeOf answer) × (now (number .exit) ≡ toldValue answer (now (number .entry))) ⌝ }
+{
+    match answer {
+        spec::Outcome::Done(done) => {
+            *number = done as u64;
+            0
+        }
+        spec::Outcome::Refused(code) => code,
+    }
+}
+
 // ---- checks
 
 #[no_mangle]
@@ -45,13 +60,7 @@ pub extern "C" fn vault_scan_size(list: &[u8], store: &[u8], size: &mut u64) -> 
     ensures { λ r. ⌜ (r ≡ codeOf (sizeOutcome newest (now (list .entry)) (now (store .entry))))
         × (now (size .exit) ≡ toldValue (sizeOutcome newest (now (list .entry)) (now (store .entry))) (now (size .entry))) ⌝ }
 {
-    match scan::size(list, store) {
-        spec::Outcome::Done(needed) => {
-            *size = needed as u64;
-            0
-        }
-        spec::Outcome::Refused(code) => code,
-    }
+    told(scan::size(list, store), size)
 }
 
 #[no_mangle]
@@ -82,13 +91,7 @@ pub extern "C" fn vault_count(index: &[u8], recipes: &[u8], count: &mut u64) -> 
     ensures { λ r. ⌜ (r ≡ codeOf (countOutcome (formOf (now (index .entry))) (now (index .entry)) (now (recipes .entry))))
         × (now (count .exit) ≡ toldValue (countOutcome (formOf (now (index .entry))) (now (index .entry)) (now (recipes .entry))) (now (count .entry))) ⌝ }
 {
-    match join::count(index, recipes) {
-        spec::Outcome::Done(counted) => {
-            *count = counted as u64;
-            0
-        }
-        spec::Outcome::Refused(code) => code,
-    }
+    told(join::count(index, recipes), count)
 }
 
 #[no_mangle]
@@ -118,13 +121,7 @@ pub extern "C" fn vault_query_count(
     ensures { λ r. ⌜ (r ≡ codeOf (queryCount (formOf (now (index .entry))) (now (index .entry)) (now (recipes .entry)) (now (query .entry))))
         × (now (lines .exit) ≡ toldValue (queryCount (formOf (now (index .entry))) (now (index .entry)) (now (recipes .entry)) (now (query .entry))) (now (lines .entry))) ⌝ }
 {
-    match query::count(index, recipes, query) {
-        spec::Outcome::Done(qualifying) => {
-            *lines = qualifying as u64;
-            0
-        }
-        spec::Outcome::Refused(code) => code,
-    }
+    told(query::count(index, recipes, query), lines)
 }
 
 #[no_mangle]
@@ -139,13 +136,7 @@ pub extern "C" fn vault_query(
         × (now (lines .exit) ≡ toldValue (queryOutcome (formOf (now (index .entry))) (now (index .entry)) (now (recipes .entry)) (now (query .entry)) (length (now (out .entry)))) (now (lines .entry)))
         × (now (out .exit) ≡ queryBuffer (formOf (now (index .entry))) (now (index .entry)) (now (recipes .entry)) (now (query .entry)) (now (out .entry))) ⌝ }
 {
-    match query::query(index, recipes, query, out) {
-        spec::Outcome::Done(put) => {
-            *lines = put as u64;
-            0
-        }
-        spec::Outcome::Refused(code) => code,
-    }
+    told(query::query(index, recipes, query, out), lines)
 }
 
 // ---- lookups: the number, where the slice starts, how long it is
@@ -199,13 +190,7 @@ pub extern "C" fn vault_compact_size(store: &[u8], recipes: &[u8], size: &mut u6
     ensures { λ r. ⌜ (r ≡ codeOf (compactSize (now (store .entry)) (now (recipes .entry))))
         × (now (size .exit) ≡ toldValue (compactSize (now (store .entry)) (now (recipes .entry))) (now (size .entry))) ⌝ }
 {
-    match compact::size(store, recipes) {
-        spec::Outcome::Done(compacted) => {
-            *size = compacted as u64;
-            0
-        }
-        spec::Outcome::Refused(code) => code,
-    }
+    told(compact::size(store, recipes), size)
 }
 
 #[no_mangle]
@@ -214,13 +199,7 @@ pub extern "C" fn vault_compact(store: &[u8], recipes: &[u8], out: &mut [u8], si
         × (now (size .exit) ≡ toldValue (compactOutcome (now (store .entry)) (now (recipes .entry)) (length (now (out .entry)))) (now (size .entry)))
         × (now (out .exit) ≡ compactBuffer (now (store .entry)) (now (recipes .entry)) (now (out .entry))) ⌝ }
 {
-    match compact::compact(store, recipes, out) {
-        spec::Outcome::Done(kept) => {
-            *size = kept as u64;
-            0
-        }
-        spec::Outcome::Refused(code) => code,
-    }
+    told(compact::compact(store, recipes, out), size)
 }
 
 // ---- the search whole

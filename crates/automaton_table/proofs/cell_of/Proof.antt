@@ -21,7 +21,7 @@ use Rattle.automaton_table.proofs.cell_of.Tie as tie
 use Rattle.automaton_table.proofs.cell_of.Reads as reads
 use Rattle.automaton_table.proofs.cell_of.Lts as lts
 use Rattle.automaton_table.proofs.pack.Reads as pack-reads
-use Rattle.keywords.proofs.fold.Reads as fold-reads
+use Rattle.folding.proofs.fold.Reads as fold-reads
 
 fold-requires : tie.Need-fold-requires
 fold-requires c κs = omega arith

@@ -8,7 +8,7 @@ use Rattle.automaton_table.proofs.child_byte.Tie as tie
 use Rattle.automaton_table.proofs.child_byte.Reads as reads
 use Rattle.automaton_table.proofs.child_byte.Lts as lts
 use Rattle.automaton_table.proofs.alike_at.Reads as alike-at-reads
-use Rattle.keywords.proofs.fold.Reads as fold-reads
+use Rattle.folding.proofs.fold.Reads as fold-reads
 
 returns : tie.Need-returns
 returns c = let s = c .before .before in

@@ -10,8 +10,8 @@ use borrow.Author.Needs.{needs}
 use borrow.Author.Tests.{not-true, not-false}
 use Rattle.spec.specs.Form.{formIn}
 use Rattle.spec.specs.Records.{setIsNext}
-use Rattle.bodies.specs.Steps.{setGood}
-use Rattle.bodies.proofs.SetChecks.{set-head}
+use Rattle.body_sets.specs.Sets.{setGood}
+use Rattle.body_sets.proofs.SetChecks.{set-head}
 use Rattle.bodies.proofs.Turns.{behind, set-absent, set-bad, set-taken}
 use Rattle.bodies.proofs.set_part.Statement.{statement}
 use Rattle.bodies.proofs.set_part.Tie as tie
