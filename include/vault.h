@@ -3,15 +3,16 @@
  * Build the library by `make lib` (it is proved first): target/staticlib/libvault_c.a, for x86-64 Linux.
  * Every function takes every input, ends, and answers 0 or the number of the refusal; README.md has the table of numbers. A refusal
  * changes no byte of a buffer and no number behind a pointer: these are told the length, the moves, the count or the lines where the work is
- * done, and stay as they were on a refusal. vault_search is two operations: where its join refuses, the index that its scan wrote stays in the index
- * buffer, and its length is told. A buffer or number must not overlap another argument. A null pointer may stand only where the length beside it is 0.
+ * done (the four counts of a tally are added to), and stay as they were on a refusal. vault_search is two operations: where its join refuses, the index
+ * that its scan wrote stays in the index buffer, and its length is told. A buffer or number must not overlap another argument. A null pointer may stand
+ * only where the length beside it is 0.
  * Bytes of keywords and data compare by the keyword list's fold flag, which is its second byte: with 0 as they are; with 1, 41 to 5A and
  * C0 to DE except D7 (hexadecimal) compare as the byte 20 (hexadecimal) higher, so that A to Z and the accented capitals of Latin-1 (ISO/IEC
  * 8859-1) meet their small letters; D7, DF, F7 and FF compare as themselves. An index that an earlier version, which folded 41 to 5A only, wrote with
  * flag 1 has to be scanned anew: no call can tell it from a new one or refuses it for its age, and a join of it may lack occurrences.
  * The chunks of a store lie behind its directory, in the directory's order, and do not overlap. Between these, and behind the last one, the store may have
- * holes: unused bytes, of any number and content. On two accepted stores that differ only there, with the same other arguments and buffers of equal
- * length, every call answers and writes the same. Chunks end within 4,294,967,295 bytes; the store itself may be longer.
+ * holes: unused bytes, of any number and content. On two accepted stores that differ only there, with the same other arguments, buffers of equal
+ * length and equal tallies, every call answers and writes the same. Chunks end within 4,294,967,295 bytes; the store itself may be longer.
  * A chunk has 1 to 1,048,576 bytes. An index begins with its mark: a scan writes 44 4D 33 0A (hexadecimal; DM3), with which each offset inside a chunk
  * and each exact count takes 3 bytes. Of a keyword of n bytes and a chunk of at most n - 2 it has, behind their other record, the set of inner starts (kind
  * 4): bit p of 4 bytes, least significant first, says that the chunk is the keyword's bytes from p on, for p from 1 to n - 1 - the chunk's length. By these a
@@ -74,14 +75,27 @@ uint8_t vault_scan(const uint8_t *list, size_t list_length, const uint8_t *store
 
 /* ---- join: the occurrences in the files of the recipes, from an index alone */
 
-/* How many occurrences a join would list: 0 with the count, or 10, 1 to 4, 11 to 16, and 17 of an index with an older mark. */
+/* The key and the tally. A join serves up to four clients, 0 to 3. The key says which client each keyword is of: 16 bytes, the k-th of them the client of
+ * keyword number k. Entries from the keyword count on are ignored and may be any bytes. The tally is a count of 64 bits for each client, client0 to client3,
+ * lent by four pointers: a join or a search that is accepted adds to each the number of occurrences in its list of that client's keywords; one that is
+ * refused, with whatever number, leaves all four. Set the four to 0 at the start of a bill and pass them to each join that belongs to it: then each is the
+ * number of occurrences of that client's keywords in the lists of the joins accepted. They are read too, so give them values before the first call. The four
+ * have to be four different numbers, and other than the count and the index's length; elements of one array do. Who bills nobody passes 16 zero bytes and
+ * four numbers of 0: neither 22 nor 23 comes then. The list does not depend on the key or the tally.
+ * Both are tested last:
+ *   22  the key is not 16 bytes, or has a client above 3 for one of the index's keywords, whether or not that keyword occurs; tested after 18;
+ *   23  a client's count and its occurrences in this join are together more than 18,446,744,073,709,551,615; tested after 22. Reaching that number is
+ *       accepted, and so is a full count of a client without occurrences in this join. All four are tested before any is changed. */
+
+/* How many occurrences a join would list, whatever its key and tally: 0 with the count, or 10, 1 to 4, 11 to 16, and 17 of an index with an older mark. */
 uint8_t vault_count(const uint8_t *index, size_t index_length, const uint8_t *recipes, size_t recipes_length, uint64_t *count);
 
 /* Writes the list to the start of the buffer, 9 bytes an occurrence: file (4), offset (4), keyword (1), least significant byte first,
- * rising by file, offset, keyword: 0 with the count, or 10, 1 to 4, 11 to 18 (17 of an index with an older mark only). Bytes behind the list are
- * unchanged. */
+ * rising by file, offset, keyword: 0 with the count, and the tally added to; or 10, 1 to 4, 11 to 18 (17 of an index with an older mark only), 22, 23, and
+ * the count and the tally stay. Bytes behind the list are unchanged. */
 uint8_t vault_join(const uint8_t *index, size_t index_length, const uint8_t *recipes, size_t recipes_length,
-                   uint8_t *out, size_t out_length, uint64_t *count);
+                   const uint8_t *key, size_t key_length, uint8_t *out, size_t out_length, uint64_t *count,
+                   uint64_t *client0, uint64_t *client1, uint64_t *client2, uint64_t *client3);
 
 /* ---- query: the files that have several keywords in order, from an index alone */
 
@@ -124,7 +138,8 @@ uint8_t vault_compact_size(const uint8_t *store, size_t store_length, const uint
  * a join would refuse so, of some index, are compacted for. A buffer as long as the store itself is always enough.
  *
  * The new store is accepted, and compacting it for the same recipes gives it again. A search of these recipes for the same keyword list, with both index
- * files written in full and list buffers of equal length, gives the list or the refusal that it gave with the old store. No other accepted store in which
+ * files written in full, list buffers of equal length, the same key and equal tallies, gives the list or the refusal that it gave with the old store, and
+ * leaves equal tallies. No other accepted store in which
  * each fingerprint that these recipes name has the same bytes is shorter. Chunks that these recipes do not name are gone: whoever has other recipes of this
  * store must give all of them, as one recipes file. */
 uint8_t vault_compact(const uint8_t *store, size_t store_length, const uint8_t *recipes, size_t recipes_length,
@@ -132,11 +147,12 @@ uint8_t vault_compact(const uint8_t *store, size_t store_length, const uint8_t *
 
 /* ---- the search whole: a scan into the index buffer, whose moves are not told, then a join of that index into the list buffer */
 
-/* 0 with the index's length and the count; or the scan's number, and both stay; or the join's number, which is never 17, with the index's length, and the
- * count stays. */
+/* 0 with the index's length and the count, and the tally added to; or the scan's number, and all of these stay; or the join's number, which is never 17,
+ * with the index's length, and the count and the tally stay. Key and tally are the join's. */
 uint8_t vault_search(const uint8_t *list, size_t list_length, const uint8_t *store, size_t store_length,
-                     const uint8_t *recipes, size_t recipes_length, uint8_t *index, size_t index_buffer_length,
-                     uint8_t *out, size_t out_length, uint64_t *index_length, uint64_t *count);
+                     const uint8_t *recipes, size_t recipes_length, const uint8_t *key, size_t key_length,
+                     uint8_t *index, size_t index_buffer_length, uint8_t *out, size_t out_length, uint64_t *index_length, uint64_t *count,
+                     uint64_t *client0, uint64_t *client1, uint64_t *client2, uint64_t *client3);
 
 #ifdef __cplusplus
 }

@@ -1,4 +1,4 @@
--- The answers of `count` and `join`, one for each way out. Assumes nothing.
+-- The answers of `count` and of the join, one for each way out. Assumes nothing.
 use mathlib.Core.Path.{_≡_, sym, ap, _∙_}
 use mathlib.Core.Logic.{_≢_}
 use mathlib.Core.List.{List}
@@ -10,8 +10,10 @@ use Rattle.spec.specs.declared.Outcome.{Outcome}
 use Rattle.spec.specs.declared.Outcome.the-variants.{Done, Refused}
 use Rattle.spec.specs.Bytes.{splice}
 use Rattle.spec.specs.Form.{formOf}
-use Rattle.spec.specs.Join.{joinList, listBytes, joinableCode, joinCode, joinOutcome, joinBuffer, countOutcome}
-use Rattle.spec.proofs.Codes.{refused-whole, next-whole, refused, next-test, answer-done, answer-refused, buffer-done, buffer-refused}
+use Rattle.spec.specs.Keywords.{keywordsOf}
+use Rattle.spec.specs.Index.{listIn}
+use Rattle.spec.specs.Join.{Occurrence, Clients, tallyWith, clientsCode, joinList, listBytes, joinableCode, joinCode, joinOutcome, joinBuffer, joinTally, countOutcome}
+use Rattle.spec.proofs.Codes.{refused-whole, next-whole, last-whole, refused, next-test, answer-done, answer-refused, buffer-done, buffer-refused}
 
 module _ (index recipes : List ℕ) (code : ℕ) (e : code ≡ joinableCode (formOf index) index recipes) where
   -- the number of occurrences
@@ -26,48 +28,69 @@ module _ (index recipes : List ℕ) (code : ℕ) (e : code ≡ joinableCode (for
   unfolding countOutcome
   count-done n z m = ap Done m ∙ answer-done (joinableCode (formOf index) index recipes) many (sym e ∙ z)
 
-  module _ (out : List ℕ) where
-    -- what a join promises: its answer, and every byte of its buffer
-    abbrev Joined : List ℕ → Outcome → Type 0
-    Joined after r = (r ≡ joinOutcome (formOf index) index recipes (length out)) × (after ≡ joinBuffer (formOf index) index recipes out)
+  module _ (clients : Clients) (out : List ℕ) where
+    -- the list, and the tests of key and tally against it
+    abbrev list : List Occurrence
+    list = joinList (formOf index) index recipes
+
+    abbrev keyed : ℕ
+    keyed = clientsCode (length (keywordsOf (listIn index))) clients list
+
+    abbrev whole : ℕ
+    whole = joinCode (formOf index) index recipes clients (length out)
+
+    -- what a join promises: its answer, every byte of its buffer, and the tally
+    abbrev Joined : List ℕ → Outcome → List ℕ → Type 0
+    Joined after r tally =
+        (r ≡ joinOutcome (formOf index) index recipes clients (length out))
+        × (after ≡ joinBuffer (formOf index) index recipes clients out)
+        × (tally ≡ joinTally (formOf index) index recipes clients (length out))
 
     -- the whole refusal, by the way taken
-    code-first : code ≢ 0 → code ≡ joinCode (formOf index) index recipes (length out)
+    code-first : code ≢ 0 → code ≡ whole
     unfolding joinCode
     code-first h = e ∙ refused-whole (joinableCode (formOf index) index recipes) _ (λ z. h (e ∙ z))
 
-    code-long : code ≡ 0 → length out < 9 * many → 18 ≡ joinCode (formOf index) index recipes (length out)
+    code-long : code ≡ 0 → length out < 9 * many → 18 ≡ whole
     unfolding joinCode
-    code-long z l = refused _ 18 0 (lt-ltb (length out) (9 * many) l) ∙ sym (next-whole (joinableCode (formOf index) index recipes) _ (sym e ∙ z))
+    code-long z l = refused _ 18 _ (lt-ltb (length out) (9 * many) l) ∙ sym (next-whole (joinableCode (formOf index) index recipes) _ (sym e ∙ z))
 
-    code-none : code ≡ 0 → 9 * many ≤ length out → joinCode (formOf index) index recipes (length out) ≡ 0
+    code-keyed : code ≡ 0 → 9 * many ≤ length out → whole ≡ keyed
     unfolding joinCode
-    code-none z l = next-whole (joinableCode (formOf index) index recipes) _ (sym e ∙ z) ∙ next-test _ 18 0 (le-ltb (length out) (9 * many) l)
+    code-keyed z l =
+        next-whole (joinableCode (formOf index) index recipes) _ (sym e ∙ z)
+        ∙ next-test _ 18 _ (le-ltb (length out) (9 * many) l)
+        ∙ last-whole keyed
 
-    refusal : (n : ℕ) → n ≡ joinCode (formOf index) index recipes (length out) → n ≢ 0 → Joined out (Refused n)
-    unfolding joinOutcome joinBuffer
+    refusal : (n : ℕ) → n ≡ whole → n ≢ 0 → Joined out (Refused n) (clients .tally)
+    unfolding joinOutcome joinBuffer joinTally
     refusal n p h = (
-      ap Refused p ∙ answer-refused (joinCode (formOf index) index recipes (length out)) many (λ z. h (p ∙ z)),
-      buffer-refused (joinCode (formOf index) index recipes (length out)) (splice out 0 (listBytes (joinList (formOf index) index recipes))) out
-          (λ z. h (p ∙ z)),
+      ap Refused p ∙ answer-refused whole many (λ z. h (p ∙ z)),
+      buffer-refused whole (splice out 0 (listBytes list)) out (λ z. h (p ∙ z)),
+      buffer-refused whole (tallyWith clients list) (clients .tally) (λ z. h (p ∙ z)),
     )
 
-    pub join-refused : code ≢ 0 → Joined out (Refused code)
+    pub join-refused : code ≢ 0 → Joined out (Refused code) (clients .tally)
     join-refused h = refusal code (code-first h) h
 
     -- the code divides, so that no product is taken
-    pub join-long : (n : ℕ) → code ≡ 0 → n ≡ many → length out / 9 < n → Joined out (Refused 18)
+    pub join-long : (n : ℕ) → code ≡ 0 → n ≡ many → length out / 9 < n → Joined out (Refused 18) (clients .tally)
     join-long n z m h = refusal 18 (code-long z (omega arith)) (omega arith)
 
     pub join-room : (n : ℕ) → n ≡ many → n ≤ length out / 9 → 9 * many ≤ length out
     join-room n m h = omega arith
 
-    pub join-done : (n : ℕ) (after : List ℕ) → code ≡ 0 → n ≡ many → n ≤ length out / 9
-        → after ≡ splice out 0 (listBytes (joinList (formOf index) index recipes))
-        → Joined after (Done n)
-    unfolding joinOutcome joinBuffer
-    join-done n after z m h w =
-        let c : joinCode (formOf index) index recipes (length out) ≡ 0 = code-none z (join-room n m h) in (
-          ap Done m ∙ answer-done (joinCode (formOf index) index recipes (length out)) many c,
-          w ∙ buffer-done (joinCode (formOf index) index recipes (length out)) (splice out 0 (listBytes (joinList (formOf index) index recipes))) out c,
-        )
+    -- the list has room
+    module _ (n : ℕ) (z : code ≡ 0) (m : n ≡ many) (h : n ≤ length out / 9) where
+      pub join-keyed : (c : ℕ) → c ≡ keyed → c ≢ 0 → Joined out (Refused c) (clients .tally)
+      join-keyed c q d = refusal c (q ∙ sym (code-keyed z (join-room n m h))) d
+
+      pub join-done : (after tally : List ℕ) → keyed ≡ 0 → after ≡ splice out 0 (listBytes list) → tally ≡ tallyWith clients list
+          → Joined after (Done n) tally
+      unfolding joinOutcome joinBuffer joinTally
+      join-done after tally k w t =
+          let c : whole ≡ 0 = code-keyed z (join-room n m h) ∙ k in (
+            ap Done m ∙ answer-done whole many c,
+            w ∙ buffer-done whole (splice out 0 (listBytes list)) out c,
+            t ∙ buffer-done whole (tallyWith clients list) (clients .tally) c,
+          )

@@ -3,6 +3,7 @@ pub mod Digits
 pub mod Pulling
 pub mod Stepping
 pub mod Totals
+pub mod Counted
 pub mod Writes
 pub mod Coming
 pub mod Listed

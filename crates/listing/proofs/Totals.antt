@@ -1,6 +1,7 @@
--- How many occurrences a place gives: as many as its streams have numbers. Assumes nothing.
+-- How many occurrences a place gives: as many as its streams have numbers, and each keyword as many as its stream has. Assumes nothing.
 use mathlib.Core.Path.{_≡_, refl, sym, ap, ap₂, _∙_}
-use mathlib.Core.Bool.{Bool, true, false, _&&_}
+use mathlib.Core.Logic.{⊎-elim}
+use mathlib.Core.Bool.{Bool, true, false, cond, _&&_}
 use mathlib.Core.List.{List, [], _∷_}
 use Prim.Native.Nat.{ℕ, zero, suc, _+_, _^_, _≤_, _<_}
 use native.Mathlib.Nat.{zero-add, add-zero}
@@ -8,52 +9,22 @@ use native.Mathlib.Numerals.{add-one}
 use native.Mathlib.Omega.{arith}
 use lib.ListN.{length, getD, set, drop, length-append}
 use lib.Seq.{getD-set-same, getD-set-other}
-use lib.Dec.{ltb}
+use lib.Dec.{eqb, ltb}
 use Rattle.spec.specs.Bytes.{fieldsOf, each, keep, member, rising, sum}
-use Rattle.spec.specs.Join.{occurrencesAt}
+use Rattle.spec.specs.Join.{Occurrence, occurrencesAt, countBy}
 use Rattle.spec.proofs.FieldLists.{length-fieldsOf}
 use Rattle.spec.proofs.Rising.{allBelow, passing-member}
-use Rattle.listing.specs.Streams.{below, unread, streamOf, unreadAt, streamAt, occurrences, given, numbers, total, ReadableStreams, Held}
+use Rattle.spec.proofs.Tests.{le-or-lt, eqb-ne}
+use Rattle.spec.proofs.Sums.{sumUp, sum-same, sum-none, sum-swap, sum-last, sum-single, length-each, length-keep}
+use Rattle.spec.proofs.Clients.{count-none, count-append}
+use Rattle.listing.specs.Streams.{below, unread, streamOf, unreadAt, streamAt, occurrences, given, numbers, numbersOf, total, ReadableStreams, Held}
+use Rattle.listing.proofs.Order.{eq-or-ne}
 use Rattle.listing.proofs.Digits.{bits-length}
+use Rattle.listing.proofs.Counted.{numbers-at, numbers-past}
 
 pub below-same : (n : ℕ) (xs : List ℕ) → allBelow n xs ≡ below n xs
 below-same n [] = refl
 below-same n (x ∷ xs) = ap (λ (b : Bool). ltb x n && b) (below-same n xs)
-
--- ---- sums over a range
-
-abbrev sumUp : (ℕ → ℕ) → ℕ → ℕ → ℕ
-sumUp g a n = sum (each (λ k. g k ∷ []) a n)
-
-sum-same : (f g : ℕ → ℕ) (a n : ℕ) → ((p : ℕ) → a ≤ p → p < a + n → f p ≡ g p) → sumUp f a n ≡ sumUp g a n
-sum-same f g a zero h = refl
-sum-same f g a (suc n) h = ap₂ (λ (x y : ℕ). x + y) (h a (omega arith) (omega arith)) (sum-same f g (suc a) n (λ p u v. h p (omega arith) (omega arith)))
-
-sum-none : (a n : ℕ) → sumUp (λ k. 0) a n ≡ 0
-sum-none a zero = refl
-sum-none a (suc n) = zero-add (sumUp (λ k. 0) (suc a) n) ∙ sum-none (suc a) n
-
-sum-add : (f g : ℕ → ℕ) (a n : ℕ) → sumUp (λ k. f k + g k) a n ≡ sumUp f a n + sumUp g a n
-sum-add f g a zero = refl
-sum-add f g a (suc n) = omega (arith, sum-add f g (suc a) n)
-
-sum-swap : (g : ℕ → ℕ → ℕ) (a n b m : ℕ) → sumUp (λ p. sumUp (g p) b m) a n ≡ sumUp (λ k. sumUp (λ p. g p k) a n) b m
-sum-swap g a zero b m = sym (sum-none b m)
-sum-swap g a (suc n) b m = ap (λ (x : ℕ). sumUp (g a) b m + x) (sum-swap g (suc a) n b m) ∙ sym (sum-add (g a) (λ k. sumUp (λ p. g p k) (suc a) n) b m)
-
-sum-last : (f : ℕ → ℕ) (a n : ℕ) → sumUp f a (suc n) ≡ sumUp f a n + f (a + n)
-sum-last f a zero = rw (add-zero, add-zero, zero-add)
-sum-last f a (suc n) =
-    let e : suc a + n ≡ a + suc n = omega arith in
-    omega (arith, sum-last f (suc a) n, ap f e)
-
-length-each {ℓ} : {A : Type ℓ} (f : ℕ → List A) (a n : ℕ) → length (each f a n) ≡ sumUp (λ p. length (f p)) a n
-length-each f a zero = refl
-length-each f a (suc n) = length-append (f a) (each f (suc a) n) ∙ ap (λ (x : ℕ). length (f a) + x) (length-each f (suc a) n)
-
-length-keep {ℓ m} : {A : Type ℓ} {B : Type m} (b : Bool) (x : A) (y : B) → length (keep b x) ≡ length (keep b y)
-length-keep true x y = refl
-length-keep false x y = refl
 
 -- ---- occurrences and numbers
 
@@ -90,6 +61,67 @@ module _ (index : List ℕ) (width size count : ℕ) (streams : List (List ℕ))
   total-is file base =
       sum-same _ _ 0 count (λ k u v. sym (unread-length index width (streamOf streams k) (ready .each k (omega arith) .set)))
       ∙ sym (sum-is size file count base (unreadAt index width streams) (λ k h. ready .each k h .up) (λ k h. ready .each k h .under))
+
+-- ---- a keyword's occurrences
+
+count-each : (k : ℕ) (f : ℕ → List Occurrence) (a n : ℕ) → countBy (λ j. j) k (each f a n) ≡ sumUp (λ p. countBy (λ j. j) k (f p)) a n
+count-each k f a zero = count-none (λ j. j) k
+count-each k f a (suc n) =
+    count-append (λ j. j) k (f a) (each f (suc a) n) ∙ ap (λ (x : ℕ). countBy (λ j. j) k (f a) + x) (count-each k f (suc a) n)
+
+eqb-swap : (i k : ℕ) → eqb i k ≡ eqb k i
+eqb-swap i k = ⊎-elim (λ e. rw e) (λ ne. eqb-ne i k ne ∙ sym (eqb-ne k i (λ q. ne (sym q)))) (eq-or-ne i k)
+
+cond-none : (b : Bool) → _≡_ {A = ℕ} (cond b 0 0) 0
+cond-none true = refl
+cond-none false = refl
+
+count-kept : (k i p : ℕ) (b : Bool) (o : Occurrence) → o .keyword ≡ i → countBy (λ j. j) k (keep b o) ≡ cond (eqb k i) (length (keep b p)) 0
+unfolding countBy
+count-kept k i p true o e = add-zero (cond (eqb (o .keyword) k) 1 0) ∙ ap (λ (j : ℕ). cond (eqb j k) 1 0) e ∙ ap (λ (t : Bool). cond t 1 0) (eqb-swap i k)
+count-kept k i p false o e = sym (cond-none (eqb k i))
+
+-- at one offset it has one, where its stream has the offset
+module _ (file count k p : ℕ) (t : ℕ → Bool) (offset : ℕ) where
+  count-offset : countBy (λ j. j) k (occurrencesAt file count t offset) ≡ sumUp (λ i. cond (eqb k i) (length (keep (t i) p)) 0) 0 count
+  unfolding occurrencesAt
+  count-offset = count-each k _ 0 count ∙ sum-same _ _ 0 count (λ i u v. count-kept k i p (t i) _ refl)
+
+  count-one : k < count → countBy (λ j. j) k (occurrencesAt file count t offset) ≡ length (keep (t k) p)
+  count-one h = count-offset ∙ sum-single (λ i. length (keep (t i) p)) k 0 count (omega arith) (omega arith)
+
+  count-past : count ≤ k → countBy (λ j. j) k (occurrencesAt file count t offset) ≡ 0
+  count-past h =
+      count-offset
+      ∙ sum-same _ (λ i. 0) 0 count (λ i u v. ap (λ (b : Bool). cond b (length (keep (t i) p)) 0) (eqb-ne k i (λ q. omega arith)))
+      ∙ sum-none 0 count
+
+module _ (index : List ℕ) (width size count : ℕ) (streams : List (List ℕ)) (ready : ReadableStreams index width size count streams) (file base k : ℕ) where
+  abbrev at-place : List Occurrence
+  at-place = occurrences file count base size (unreadAt index width streams)
+
+  -- at a place a keyword has as many as its stream has numbers
+  pub keyword-count : k < count → countBy (λ j. j) k at-place ≡ numbers (streamOf streams k)
+  unfolding occurrences
+  keyword-count h =
+      let s : ℕ → List ℕ = unreadAt index width streams in
+      let r = ready .each k h in
+      count-each k _ 0 size
+      ∙ sum-same _ (at-offset size (s k)) 0 size (λ p u v. count-one file count k p (λ i. member p (s i)) (base + p) h)
+      ∙ stream-length size (s k) (r .up) (r .under)
+      ∙ unread-length index width (streamOf streams k) (r .set)
+
+  -- and no other keyword has one
+  pub keyword-none : count ≤ k → countBy (λ j. j) k at-place ≡ 0
+  unfolding occurrences
+  keyword-none h =
+      count-each k _ 0 size
+      ∙ sum-same _ (λ p. 0) 0 size (λ p u v. count-past file count k p (λ i. member p (unreadAt index width streams i)) (base + p) h)
+      ∙ sum-none 0 size
+
+  pub keyword-counts : countBy (λ j. j) k at-place ≡ getD (numbersOf streams count) k 0
+  keyword-counts =
+      ⊎-elim (λ h. keyword-none h ∙ sym (numbers-past streams count k h)) (λ h. keyword-count h ∙ sym (numbers-at streams count k h)) (le-or-lt count k)
 
 -- what open streams give is as long whatever the file's number and wherever the place starts
 pub given-length : (index : List ℕ) (width size count : ℕ) (streams : List (List ℕ)) → Held index width size count streams → (file base : ℕ)

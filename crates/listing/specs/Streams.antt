@@ -80,9 +80,12 @@ pub record ReadableStreams (index : List ℕ) (width size count : ℕ) (streams 
   pub long : count ≤ length streams
   pub each : (k : ℕ) → k < count → ReadableStream index width size (streamOf streams k)
 
--- How many numbers are unread of the streams below `count`.
+-- How many numbers are unread of each stream below `count`, and of all of them.
+abbrev pub numbersOf : List (List ℕ) → ℕ → List ℕ
+numbersOf streams count = each (λ k. numbers (streamOf streams k) ∷ []) 0 count
+
 abbrev pub total : List (List ℕ) → ℕ → ℕ
-total streams count = sum (each (λ k. numbers (streamOf streams k) ∷ []) 0 count)
+total streams count = sum (numbersOf streams count)
 
 pub record Held (index : List ℕ) (width size count : ℕ) (streams : List (List ℕ)) : Type 0 where
   pub long : count ≤ length streams

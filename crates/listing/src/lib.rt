@@ -4,8 +4,8 @@ ghost use mathlib.Core.Path.{_≡_};
 ghost use Prim.Native.Nat.{ℕ, _+_, _*_, _^_, _≤_, _<_};
 ghost use lib.ListN.{length, getD};
 ghost use Rattle.spec.specs.Bytes.{splice};
-ghost use Rattle.spec.specs.Join.{occurrenceBytes, listBytes};
-ghost use Rattle.listing.specs.Streams.{small, numbers, ReadableStream, Pulled, ReadableStreams, total, Held, Least};
+ghost use Rattle.spec.specs.Join.{sums, occurrenceBytes, listBytes};
+ghost use Rattle.listing.specs.Streams.{small, numbers, ReadableStream, Pulled, streamOf, ReadableStreams, numbersOf, total, Held, Least};
 ghost use Rattle.listing.specs.Streams.{placeList, given, OpenedStreams, NextTaken};
 ghost use Rattle.listing.specs.Choosing.{advanced, chosenFrom, noChoice};
 
@@ -126,6 +126,22 @@ pub fn offsets_in(stream: [usize; 5]) -> usize
     let left = stream[LEFT];
     let set = stream[SET];
     left + u32::count_ones(set as u32) as usize
+}
+
+// Adds each keyword's number of occurrences at a place, of which there are `many`, to its count (request #110). The streams are not open yet.
+pub fn count_place(streams: &[[usize; 5]; 16], count: usize, many: usize, counts: &mut [usize])
+    requires { ⌜ (count ≤ 16) × (count ≤ length (now streams)) × (length (now counts) ≡ 16) × (many ≡ total (now streams) count) ⌝ }
+    requires { ⌜ ((k : ℕ) → k < count → small (streamOf (now streams) k) × (getD (now counts) k 0 < 2 ^ 63)) ⌝ }
+    ensures { λ _. ⌜ now (counts .exit) ≡ sums (now (counts .entry)) (numbersOf (now (streams .entry)) count) ⌝ }
+{
+    if many == 0 {
+        return;
+    }
+    let mut keyword: usize = 0;
+    while keyword < count {
+        counts[keyword] += offsets_in(streams[keyword]);
+        keyword += 1;
+    }
 }
 
 // What is listed at a place of a file: the file's number, where the place starts in the file, the chunk's size, bytes of an offset, how many

@@ -13,7 +13,7 @@ use Rattle.spec.specs.declared.Searched.the-variants.{ScanRefused, JoinRefused,
 use Rattle.spec.specs.Bytes.{splice}
 use Rattle.spec.specs.Outcome.{firstOf, whole, unlessRefused}
 use Rattle.spec.specs.Form.{newest}
-use Rattle.spec.specs.Join.{Occurrence, listBytes, readList}
+use Rattle.spec.specs.Join.{Occurrence, oneClient, listBytes, readList}
 use Rattle.spec.specs.Scan.{scanIndex, scanCode}
 use Rattle.spec.specs.Search.{directSearch, searchJoinCode, searchCode, searchOutcome, searchBuffer, searchedCode, searchedCount}
 use Rattle.spec.proofs.Codes.{passed-whole}
@@ -56,24 +56,24 @@ count-told s j size count a b = rw (a, b) refl
 
 module _ (store words recipes : List ℕ) where
   abbrev code : ℕ
-  code = searchCode newest words store recipes programRoom programRoom
+  code = searchCode newest words store recipes oneClient programRoom programRoom
 
   abbrev answered : Searched
-  answered = searchOutcome newest words store recipes programRoom programRoom
+  answered = searchOutcome newest words store recipes oneClient programRoom programRoom
 
   abbrev found : List Occurrence
   found = directSearch words store recipes
 
   -- the two buffers have 65,536 bytes each
   pub answered-as : (index list : List ℕ) (o r : Searched) → programRoom ≡ length index → programRoom ≡ length list → r ≡ o
-      → r ≡ searchOutcome newest words store recipes (length index) (length list) → o ≡ answered
-  answered-as index list o r a b k e = sym k ∙ e ∙ ap₂ (searchOutcome newest words store recipes) (sym a) (sym b)
+      → r ≡ searchOutcome newest words store recipes oneClient (length index) (length list) → o ≡ answered
+  answered-as index list o r a b k e = sym k ∙ e ∙ ap₂ (searchOutcome newest words store recipes oneClient) (sym a) (sym b)
 
   found-is : (o : Searched) → o ≡ answered → isFound o ≡ eqb code 0
   unfolding searchOutcome searchCode
   found-is o e =
       ap isFound e
-      ∙ found-told (scanCode newest words store programRoom) (searchJoinCode newest words store recipes programRoom)
+      ∙ found-told (scanCode newest words store programRoom) (searchJoinCode newest words store recipes oneClient programRoom)
       (length (scanIndex newest words store)) (length found)
 
   -- ---- a refusal
@@ -82,7 +82,7 @@ module _ (store words recipes : List ℕ) where
   unfolding searchOutcome searchCode
   code-is o e =
       ap searchedCode e
-      ∙ code-told (scanCode newest words store programRoom) (searchJoinCode newest words store recipes programRoom)
+      ∙ code-told (scanCode newest words store programRoom) (searchJoinCode newest words store recipes oneClient programRoom)
       (length (scanIndex newest words store)) (length found)
 
   pub refused-text : (o : Searched) → o ≡ answered → isFound o ≡ false → searchText store words recipes ≡ refusedText (searchedCode o)
@@ -92,14 +92,14 @@ module _ (store words recipes : List ℕ) where
   -- ---- a list
 
   module _ (z : code ≡ 0) where
-    parts : (scanCode newest words store programRoom ≡ 0) × (searchJoinCode newest words store recipes programRoom ≡ 0)
+    parts : (scanCode newest words store programRoom ≡ 0) × (searchJoinCode newest words store recipes oneClient programRoom ≡ 0)
     unfolding searchCode
     parts =
         let a = passed-whole (scanCode newest words store programRoom) _ z in
-        (a .0, passed-whole (searchJoinCode newest words store recipes programRoom) _ (a .1) .0)
+        (a .0, passed-whole (searchJoinCode newest words store recipes oneClient programRoom) _ (a .1) .0)
 
-    joins : NoJoinRefusal words store recipes programRoom
-    joins = search-done words store recipes programRoom .0 (parts .1)
+    joins : NoJoinRefusal words store recipes oneClient programRoom
+    joins = search-done words store recipes oneClient programRoom .0 (parts .1)
 
     pub fits : (o : Occurrence) → isIn o found ≡ true → Fits o
     fits =
@@ -114,20 +114,21 @@ module _ (store words recipes : List ℕ) where
     unfolding searchOutcome
     count-is o e =
         ap searchedCount e
-        ∙ count-told (scanCode newest words store programRoom) (searchJoinCode newest words store recipes programRoom)
+        ∙ count-told (scanCode newest words store programRoom) (searchJoinCode newest words store recipes oneClient programRoom)
         (length (scanIndex newest words store)) (length found)
         (parts .0) (parts .1)
 
     -- the list buffer begins with the list
     buffer-is : (list : List ℕ) → programRoom ≡ length list
-        → searchBuffer newest words store recipes programRoom list ≡ listBytes found ++ drop (0 + length (listBytes found)) list
+        → searchBuffer newest words store recipes oneClient programRoom list ≡ listBytes found ++ drop (0 + length (listBytes found)) list
     unfolding searchBuffer unlessRefused splice
     buffer-is list q =
-        let e : searchCode newest words store recipes programRoom (length list) ≡ 0 = ap (searchCode newest words store recipes programRoom) (sym q) ∙ z in
+        let e : searchCode newest words store recipes oneClient programRoom (length list) ≡ 0 =
+        ap (searchCode newest words store recipes oneClient programRoom) (sym q) ∙ z in
         rw e refl
 
   module _ (list list′ : List ℕ) (o : Searched) (e : o ≡ answered) (f : isFound o ≡ true) (q : programRoom ≡ length list)
-      (b : list′ ≡ searchBuffer newest words store recipes programRoom list) where
+      (b : list′ ≡ searchBuffer newest words store recipes oneClient programRoom list) where
     passed : code ≡ 0
     passed = eqb-true code 0 (sym (found-is o e) ∙ f)
 

@@ -10,7 +10,7 @@ use lib.Dec.{eqb, leb, ltb}
 use borrow.Author.Tests.{eqb-true, leb-true}
 use Rattle.spec.specs.Bytes.{every, member}
 use Rattle.spec.specs.Form.{newest}
-use Rattle.spec.specs.Join.{Occurrence}
+use Rattle.spec.specs.Join.{Occurrence, oneClient}
 use Rattle.spec.specs.Search.{directSearch, searchCode}
 use Rattle.spec.proofs.Tests.{bool-cases, and-left, and-right, cond-elim}
 use Rattle.theory.specs.SearchList.{isIn}
@@ -61,9 +61,9 @@ most x (y ∷ ys) e m = go (bool-cases (eqb x y)) (λ q. most x ys (and-right (l
     go (inr f) ih = ih (sym (ap (λ (b : Bool). b || member x ys) f) ∙ m)
 
 -- a search answers no number of more than two digits
-search-le : (words store recipes : List ℕ) (indexRoom room : ℕ) → searchCode newest words store recipes indexRoom room ≤ 99
+search-le : (words store recipes : List ℕ) (indexRoom room : ℕ) → searchCode newest words store recipes oneClient indexRoom room ≤ 99
 search-le words store recipes indexRoom room =
-    most (searchCode newest words store recipes indexRoom room) ofSearch refl (numbers .search words store recipes indexRoom room)
+    most (searchCode newest words store recipes oneClient indexRoom room) ofSearch refl (numbers .search words store recipes oneClient indexRoom room)
 
 -- ---- the whole text
 
@@ -84,7 +84,7 @@ module _ (store words recipes : List ℕ) where
   pub search-length : length (searchText store words recipes) ≤ longestText
   unfolding searchText
   search-length =
-      let code = searchCode newest words store recipes programRoom programRoom in
+      let code = searchCode newest words store recipes oneClient programRoom programRoom in
       cond-elim (λ (t : List ℕ). length t ≤ longestText) (eqb code 0) (listText (directSearch words store recipes)) (refusedText code)
       (λ e. let z : code ≡ 0 = eqb-true code 0 e in list-length (directSearch words store recipes) (fits store words recipes z) (few store words recipes z))
       (λ e. refused-length code (search-le words store recipes programRoom programRoom))

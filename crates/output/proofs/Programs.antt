@@ -12,7 +12,7 @@ use borrow.Author.Tests.{lt-ltb, le-ltb, ltb-false}
 use Rattle.spec.proofs.Tests.{le-or-lt, bool-cases, cond-elim}
 use Rattle.spec.specs.declared.Searched.{Searched}
 use Rattle.spec.specs.Form.{newest}
-use Rattle.spec.specs.Join.{readList}
+use Rattle.spec.specs.Join.{oneClient, readList}
 use Rattle.spec.specs.Search.{searchOutcome, searchBuffer, searchedCode, searchedCount}
 use Rattle.spec.specs.Program.{listText, refusedText, tooLongText, storeName, wordsName, recipesName, programRoom, searchText, programText}
 use Rattle.spec.specs.Program.{longestText, printedLength, printedBuffer}
@@ -25,8 +25,8 @@ use Rattle.output.proofs.Bounds.{search-length}
 
 -- a search with two buffers of 65,536 bytes, which answered r, known to be the case o
 module _ (store words recipes out index list : List ℕ) (a : programRoom ≡ length index) (b : programRoom ≡ length list) (big : longestText ≤ length out)
-    (o r : Searched) (k : r ≡ o) (e : r ≡ searchOutcome newest words store recipes (length index) (length list)) where
-  told : o ≡ searchOutcome newest words store recipes programRoom programRoom
+    (o r : Searched) (k : r ≡ o) (e : r ≡ searchOutcome newest words store recipes oneClient (length index) (length list)) where
+  told : o ≡ searchOutcome newest words store recipes oneClient programRoom programRoom
   told = answered-as store words recipes index list o r a b k e
 
   room : Room out 0 (searchText store words recipes)
@@ -40,9 +40,9 @@ module _ (store words recipes out index list : List ℕ) (a : programRoom ≡ le
     refused-puts out′ n =
         puts-same out out′ 0 (refusedText (searchedCode o)) (searchText store words recipes) n (sym (refused-text store words recipes o told f))
 
-  module _ (f : isFound o ≡ true) (list′ : List ℕ) (w : list′ ≡ searchBuffer newest words store recipes (length index) list) where
-    buffer : list′ ≡ searchBuffer newest words store recipes programRoom list
-    buffer = w ∙ ap (λ (n : ℕ). searchBuffer newest words store recipes n list) (sym a)
+  module _ (f : isFound o ≡ true) (list′ : List ℕ) (w : list′ ≡ searchBuffer newest words store recipes oneClient (length index) list) where
+    buffer : list′ ≡ searchBuffer newest words store recipes oneClient programRoom list
+    buffer = w ∙ ap (λ (n : ℕ). searchBuffer newest words store recipes oneClient n list) (sym a)
 
     text : searchText store words recipes ≡ listText (readList (searchedCount o) list′)
     text = list-text store words recipes list list′ o told f b buffer

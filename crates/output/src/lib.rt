@@ -103,7 +103,16 @@ fn put_search(out: &mut [u8], store: &[u8], words: &[u8], recipes: &[u8]) -> usi
 {
     let mut index = io::large_buffer();
     let mut list = io::large_buffer();
-    match search::search(words, store, recipes, &mut index, &mut list) {
+    let key = [0u8; 16];
+    let none = spec::Tally {
+        client0: 0,
+        client1: 0,
+        client2: 0,
+        client3: 0,
+    };
+    let answer = search::search(words, store, recipes, &key, &mut index, &mut list, none);
+    let searched = answer.searched;
+    match searched {
         Searched::ScanRefused(code) => put_refused(out, code),
         Searched::JoinRefused(_, code) => put_refused(out, code),
         Searched::Found(_, count) => put_list(out, &list, count),

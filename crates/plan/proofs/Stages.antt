@@ -17,7 +17,7 @@ use Rattle.spec.specs.Store.{chunkCount}
 use Rattle.spec.specs.Index.{listIn, indexKeys, indexCode}
 use Rattle.spec.specs.Opened.{openedOf}
 use Rattle.spec.specs.Recipes.{fileCount, recipesCode}
-use Rattle.spec.specs.Join.{joinableCode, innerLeast}
+use Rattle.spec.specs.Join.{joinList, joinableCode, innerLeast}
 use Rattle.spec.proofs.Codes.{passed-whole, refused-whole, next-whole, last-whole}
 use Rattle.spec.proofs.IndexChecks.{index-good}
 use Rattle.spec.proofs.Splices.{splice-read}
@@ -27,9 +27,10 @@ use Rattle.files.specs.Measures.{leastIn}
 use Rattle.files.proofs.OfIndex.{index-keys}
 use Rattle.tables.specs.Tabled.{tablesOf}
 use Rattle.index.specs.Stages.{examinedChains}
+use Rattle.walk.specs.Walking.{keywordCounts}
 use Rattle.index.proofs.CheckLaws.{list-is, index-chains}
 use Rattle.plan.specs.declared.Plan.{Plan}
-use Rattle.plan.specs.Plans.{allFilesCode, frontCode, rowsOf, allRows, markOf, marksOf, refusedPlan, planOf, plannedTables}
+use Rattle.plan.specs.Plans.{allFilesCode, frontCode, rowsOf, allRows, counted, markOf, marksOf, refusedPlan, planOf, plannedTables}
 use Rattle.plan.specs.Plans.{Prepared, Joinable, Marked, Planned}
 
 zero-or : (n : ℕ) → (n ≡ 0) ⊎ (n ≢ 0)
@@ -169,21 +170,26 @@ module _ (index recipes query : List ℕ) where
   pub refused-plan : (n : ℕ) (plan : Plan) → n ≡ code → n ≢ 0 → plan ≡ refusedPlan n → plan ≡ planOf index recipes query
   refused-plan n plan e h p = p ∙ ap refusedPlan e ∙ sym (plan-refused (λ z. h (e ∙ z)))
 
-  abbrev accepted-plan : ℕ → Opened → List ℕ → Plan
-  accepted-plan total opened marks = record { code = 0; total = total; opened = opened; marks = marks }
+  abbrev accepted-plan : ℕ → List ℕ → Opened → List ℕ → Plan
+  accepted-plan total counts opened marks = record { code = 0; total = total; counts = counts; opened = opened; marks = marks }
+
+  abbrev allCounts : List ℕ
+  allCounts = keywordCounts (counted query (joinList (formOf index) index recipes))
 
   plan-accepted : code ≡ 0
       → planOf index recipes query
-      ≡ accepted-plan (allRows index recipes query) (openedOf index) (written (replicate 65535 0) (marksOf index recipes query))
+      ≡ accepted-plan (allRows index recipes query) allCounts (openedOf index) (written (replicate 65535 0) (marksOf index recipes query))
   unfolding planOf
   plan-accepted z = rw (eq-eqb code 0 z)
 
-  pub done-plan : (total : ℕ) (opened : Opened) (marks : List ℕ) → code ≡ 0 → total ≡ allRows index recipes query → opened ≡ openedOf index
-      → marks ≡ written (replicate 65535 0) (marksOf index recipes query) → accepted-plan total opened marks ≡ planOf index recipes query
-  done-plan total opened marks z t o m =
-      ap {B = Plan} (λ (x : ℕ). accepted-plan x opened marks) t
-      ∙ ap {B = Plan} (λ (x : Opened). accepted-plan (allRows index recipes query) x marks) o
-      ∙ ap {B = Plan} (accepted-plan (allRows index recipes query) (openedOf index)) m
+  pub done-plan : (total : ℕ) (counts : List ℕ) (opened : Opened) (marks : List ℕ) → code ≡ 0 → total ≡ allRows index recipes query → counts ≡ allCounts
+      → opened ≡ openedOf index → marks ≡ written (replicate 65535 0) (marksOf index recipes query)
+      → accepted-plan total counts opened marks ≡ planOf index recipes query
+  done-plan total counts opened marks z t n o m =
+      ap {B = Plan} (λ (x : ℕ). accepted-plan x counts opened marks) t
+      ∙ ap {B = Plan} (λ (x : List ℕ). accepted-plan (allRows index recipes query) x opened marks) n
+      ∙ ap {B = Plan} (λ (x : Opened). accepted-plan (allRows index recipes query) allCounts x marks) o
+      ∙ ap {B = Plan} (accepted-plan (allRows index recipes query) allCounts (openedOf index)) m
       ∙ sym (plan-accepted z)
 
   refused-number : (n : ℕ) → refusedPlan n .code ≡ n
@@ -213,7 +219,8 @@ module _ (index recipes query : List ℕ) where
         record {
           accepted = a;
           passed = passed .2;
-          counted = plan-total z;
+          totalled = plan-total z;
+          counts = ap (λ (y : Plan). y .counts) q;
           marked = marks-mark (plan .marks) (ap (λ (y : Plan). y .marks) q);
           joinable = joinable index recipes (plan .opened) chains₀ chains tables (passed .0) (passed .1) (ap (λ (y : Plan). y .opened) q) e x
               (t ∙ tables-made index recipes tables₀ front);

@@ -18,7 +18,7 @@ use Rattle.spec.specs.Join.{Occurrence, joinFile, fileRecords, joinList, innerL
 use Rattle.spec.specs.Query.{lineOf, queryLines}
 use Rattle.tables.specs.Tabled.{tablesOf}
 use Rattle.index.specs.Stages.{examinedChains}
-use Rattle.walk.specs.Walking.{Directory}
+use Rattle.walk.specs.Walking.{keywordCounts, Directory}
 use Rattle.plan.specs.declared.Plan.{Plan}
 
 -- 15, 16 and 17, file by file.
@@ -49,6 +49,10 @@ unfoldable pub allRows : List ℕ → List ℕ → List ℕ → ℕ
 allRows index recipes query =
     cond (eqb (length query) 0) (length (joinList (formOf index) index recipes)) (length (queryLines (formOf index) index recipes query))
 
+-- What a plan counts by keyword, and of file k: the occurrences for an empty query; a query's lines have no counts by keyword.
+unfoldable pub counted : List ℕ → List Occurrence → List Occurrence
+counted query list = cond (eqb (length query) 0) list []
+
 -- A file's mark: 1 where it has a row, else 0.
 abbrev pub markOf : List ℕ → List ℕ → List ℕ → ℕ → ℕ
 markOf index recipes query k = min (rowsOf index recipes query k) 1
@@ -62,17 +66,19 @@ unfoldable pub refusedPlan : ℕ → Plan
 refusedPlan code = record {
   code = code;
   total = 0;
+  counts = replicate 16 0;
   opened = record { directory = 0; entries = 0; keywords = 0; longest = 0; format = record { number = 0; width = 0; longest = 0; sets = false } };
   marks = replicate 65535 0;
 }
 
--- The refusals before 18 (but a query's 21); where there is none the count, the opened index and the files' marks, 0 behind the last file.
+-- The refusals before 18 (but a query's 21); where there is none the count, the counts by keyword, the opened index and the files' marks, 0 behind the last file.
 unfoldable pub planOf : List ℕ → List ℕ → List ℕ → Plan
 planOf index recipes query =
     cond (eqb (joinableCode (formOf index) index recipes) 0)
     (record {
       code = 0;
       total = allRows index recipes query;
+      counts = keywordCounts (counted query (joinList (formOf index) index recipes));
       opened = openedOf index;
       marks = written (replicate 65535 0) (marksOf index recipes query);
     })
@@ -103,6 +109,7 @@ pub record Marked (index recipes query marks : List ℕ) : Type 0 where
 pub record Planned (index recipes query : List ℕ) (plan : Plan) (chains : List ℕ) (tables : List (List (List ℕ))) : Type 0 where
   pub accepted : joinableCode (formOf index) index recipes ≡ 0
   pub passed : allFilesCode index recipes ≡ 0
-  pub counted : plan .total ≡ allRows index recipes query
+  pub totalled : plan .total ≡ allRows index recipes query
+  pub counts : plan .counts ≡ keywordCounts (counted query (joinList (formOf index) index recipes))
   pub marked : Marked index recipes query (plan .marks)
   pub joinable : Joinable index recipes (plan .opened) chains tables

@@ -2,22 +2,24 @@
 // files, which tests each and counts its rows: its occurrences, or for a query its line. It writes no list: who lists goes by the plan, and a
 // refusal has changed no byte of a list's buffer.
 ghost use mathlib.Core.Path.{_≡_};
-ghost use Prim.Native.Nat.{min, _≤_};
-ghost use lib.ListN.{length, replicate};
+ghost use Prim.Native.Nat.{ℕ, min, _^_, _≤_, _<_};
+ghost use lib.ListN.{length, replicate, getD};
 ghost use Rattle.spec.specs.Bytes.{written};
 ghost use Rattle.spec.specs.Keywords.{foldedKeywords};
 ghost use Rattle.spec.specs.Index.{listIn, lengthsIn};
 ghost use Rattle.tables.specs.Tabled.{tablesOf};
-ghost use Rattle.walk.specs.Walking.{fileList, Directory, File};
+ghost use Rattle.spec.specs.Join.{sums};
+ghost use Rattle.walk.specs.Walking.{fileList, keywordCounts, Directory, File};
 ghost use Rattle.index.specs.Stages.{examinedChains};
 ghost use Rattle.directory.specs.Chains.{Empty};
-ghost use Rattle.plan.specs.Plans.{refusedPlan, rows, planOf, plannedTables, Prepared, Joinable};
+ghost use Rattle.plan.specs.Plans.{refusedPlan, rows, counted, planOf, plannedTables, Prepared, Joinable};
 
-// The refusals before 18 (but a query's 21) and, where there is none, the count of all rows, the opened index, and a mark for each file: 1 where
-// it has a row, so that who lists looks at no place of the others.
+// The refusals before 18 (but a query's 21) and, where there is none, the count of all rows, how many occurrences each keyword has (where there is no
+// query), the opened index, and a mark for each file: 1 where it has a row, so that who lists looks at no place of the others.
 pub struct Plan {
     pub code: u8,
     pub total: usize,
+    pub counts: [usize; 16],
     pub opened: spec::Opened,
     pub marks: [u8; 65535],
 }
@@ -40,9 +42,11 @@ fn refused(code: u8) -> Plan
         format: format,
     };
     let marks = [0u8; 65535];
+    let counts = [0usize; 16];
     Plan {
         code: code,
         total: 0,
+        counts: counts,
         opened: opened,
         marks: marks,
     }
@@ -70,7 +74,8 @@ fn mark_of(n: usize) -> u8
     1
 }
 
-// How many rows a file has in the answer: its occurrences, or for a query (request #109) its line, if it has one.
+// How many rows a file has in the answer: its occurrences, which are added to their keywords' counts (request #110), or for a query (request #109)
+// its line, if it has one.
 fn rows_in(
     index: &[u8],
     choosing: walk::Choosing,
@@ -79,15 +84,19 @@ fn rows_in(
     file: &[u8],
     slots: &[u32],
     query: &[u8],
+    counts: &mut [usize],
 ) -> usize
     requires { ⌜ Directory (now index) (choosing .opened) (now chains) × (now tables ≡ tablesOf (foldedKeywords (listIn (now index)))) ⌝ }
     requires { ⌜ File (now index) (now file) (now slots) ⌝ }
     requires { ⌜ (length (now query) ≤ 8) × (choosing .lengths ≡ written (replicate 16 0) (lengthsIn (now index))) ⌝ }
-    ensures { λ r. ⌜ r ≡ rows (lengthsIn (now (index .entry))) (now (query .entry)) (choosing .number)
-        (fileList (choosing .number) (now (index .entry)) (now (file .entry))) ⌝ }
+    requires { ⌜ (length (now counts) ≡ 16) × ((k : ℕ) → k < 16 → getD (now counts) k 0 < 2 ^ 62) ⌝ }
+    ensures { λ r. ⌜ (r ≡ rows (lengthsIn (now (index .entry))) (now (query .entry)) (choosing .number)
+        (fileList (choosing .number) (now (index .entry)) (now (file .entry))))
+        × (now (counts .exit) ≡ sums (now (counts .entry))
+        (keywordCounts (counted (now (query .entry)) (fileList (choosing .number) (now (index .entry)) (now (file .entry)))))) ⌝ }
 {
     if query.len() == 0 {
-        return walk::count_file(index, choosing.opened, chains, tables, file, slots);
+        return walk::count_file(index, choosing.opened, chains, tables, file, slots, counts);
     }
     let choice = walk::choose_file(index, choosing, chains, tables, file, slots, query);
     if choice.step == query.len() {
@@ -120,6 +129,7 @@ fn survey_files(
     let lengths = survey.lengths;
     let mut slots = [0u32; 65536];
     let mut marks = [0u8; 65535];
+    let mut counts = [0usize; 16];
     let files = recipes::count_at(recipes, 0);
     let mut total: usize = 0;
     let mut at: usize = 4;
@@ -135,7 +145,16 @@ fn survey_files(
             number: k,
             lengths: lengths,
         };
-        let n = rows_in(index, choosing, chains, tables, file, &slots, query);
+        let n = rows_in(
+            index,
+            choosing,
+            chains,
+            tables,
+            file,
+            &slots,
+            query,
+            &mut counts,
+        );
         marks[k] = mark_of(n);
         total += n;
         at = at + 4 + file.len();
@@ -144,6 +163,7 @@ fn survey_files(
     Plan {
         code: 0,
         total: total,
+        counts: counts,
         opened: opened,
         marks: marks,
     }

@@ -36,3 +36,5 @@ pub mod Writing
 pub mod FileLaws
 pub mod LookupLaws
 pub mod MoveExamples
+pub mod Sums
+pub mod Clients

@@ -1,12 +1,13 @@
 -- The join: document 01, "Joining two notes" and "Recipes and the join". It is defined on any records, also those that no chunk gives.
-use mathlib.Core.Bool.{Bool, true, false, _&&_, _||_, cond}
+use mathlib.Core.Bool.{Bool, true, false, _&&_, _||_, not, cond}
 use mathlib.Core.List.{List, [], _∷_, _++_, map}
-use Prim.Native.Nat.{ℕ, zero, suc, _+_, _*_, _-_}
-use lib.ListN.{length, drop, getD, take}
-use lib.Dec.{leb, ltb}
+use Prim.Native.Nat.{ℕ, zero, suc, _+_, _*_, _-_, _^_}
+use lib.ListN.{length, replicate, drop, getD, take}
+use lib.Dec.{eqb, leb, ltb}
 use Rattle.spec.specs.declared.Outcome.{Outcome}
-use Rattle.spec.specs.Bytes.{leBytes, fieldAt, written, positionOf, each, keep, member, begins, inSet}
-use Rattle.spec.specs.Outcome.{firstOf, whole, answer, unlessRefused, listTooLong}
+use Rattle.spec.specs.declared.Tally.{Tally}
+use Rattle.spec.specs.Bytes.{leBytes, fieldAt, written, positionOf, each, keep, member, begins, every, inSet}
+use Rattle.spec.specs.Outcome.{firstOf, whole, answer, unlessRefused, listTooLong, keyWrong, countTooLarge}
 use Rattle.spec.specs.Keywords.{foldedKeywords, keywordsOf, longest}
 use Rattle.spec.specs.Directory.{sizeAt}
 use Rattle.spec.specs.Form.{Form}
@@ -82,6 +83,63 @@ unfoldable pub joinFiles : ℕ → List (List ℕ) → List (List ChunkRecords) 
 joinFiles file keywords [] = []
 joinFiles file keywords (chunks ∷ rest) = joinFile file keywords chunks ++ joinFiles (suc file) keywords rest
 
+-- ---- clients (request #110)
+
+-- A key gives each keyword number its client, 0 to 3; a tally is the counts of the four.
+pub record Clients : Type 0 where
+  pub key : List ℕ
+  pub tally : List ℕ
+
+-- A tally's counts as a list, four counts as a tally, and what a join is lent.
+abbrev pub countsOf : Tally → List ℕ
+countsOf t = t .client0 ∷ t .client1 ∷ t .client2 ∷ t .client3 ∷ []
+
+abbrev pub tallyOf : ℕ → ℕ → ℕ → ℕ → Tally
+tallyOf client0 client1 client2 client3 = record { client0 = client0; client1 = client1; client2 = client2; client3 = client3 }
+
+abbrev pub lent : List ℕ → Tally → Clients
+lent key tally = record { key = key; tally = countsOf tally }
+
+-- One client for all keywords, and a tally at zero: what the search program passes.
+abbrev pub oneClient : Clients
+oneClient = record { key = replicate 16 0; tally = replicate 4 0 }
+
+-- How many occurrences of a list have number n, where each keyword has a number: its client's, or its own.
+unfoldable pub countBy : (ℕ → ℕ) → ℕ → List Occurrence → ℕ
+countBy number n [] = 0
+countBy number n (o ∷ rest) = cond (eqb (number (o .keyword)) n) 1 0 + countBy number n rest
+
+-- The same for each of the numbers below m.
+unfoldable pub countsBy : (ℕ → ℕ) → ℕ → List Occurrence → List ℕ
+countsBy number m list = each (λ n. countBy number n list ∷ []) 0 m
+
+-- How many occurrences of a list are of each client's keywords.
+abbrev pub clientCounts : List ℕ → List Occurrence → List ℕ
+clientCounts key list = countsBy (λ k. getD key k 0) 4 list
+
+-- Counts with others added, one by one.
+abbrev pub sums : List ℕ → List ℕ → List ℕ
+sums [] more = []
+sums (n ∷ rest) [] = n ∷ rest
+sums (n ∷ rest) (m ∷ more) = (n + m) ∷ sums rest more
+
+-- The clients' counts with those of a list.
+unfoldable pub tallyWith : Clients → List Occurrence → List ℕ
+tallyWith clients list = sums (clients .tally) (clientCounts (clients .key) list)
+
+-- A key has 16 bytes and names a client from 0 to 3 for each keyword of the list; what stands behind those is not looked at.
+unfoldable pub isKey : ℕ → List ℕ → Bool
+isKey keywords key = eqb (length key) 16 && every (λ client. leb client 3) (take keywords key)
+
+-- No count passes 64 bits.
+unfoldable pub fit64 : List ℕ → Bool
+fit64 counts = every (λ n. ltb n (2 ^ 64)) counts
+
+-- The tests of a key and a tally against a list: 22, then 23.
+unfoldable pub clientsCode : ℕ → Clients → List Occurrence → ℕ
+clientsCode keywords clients list =
+    firstOf ((not (isKey keywords (clients .key)), keyWrong) ∷ (not (fit64 (tallyWith clients list)), countTooLarge) ∷ [])
+
 -- ---- the operation
 
 -- The records of the chunks that a file names.
@@ -117,18 +175,26 @@ joinableCode f index recipes =
     ∷ whole (filesCode (indexKeys index) (sizeAt (indexLayout index) index) (innerLeast f (listIn index)) (filesOf recipes))
     ∷ [])
 
--- The whole refusal, for a buffer of `room` bytes.
-unfoldable pub joinCode : Form → List ℕ → List ℕ → ℕ → ℕ
-joinCode f index recipes room =
-    firstOf (whole (joinableCode f index recipes) ∷ (ltb room (9 * length (joinList f index recipes)), listTooLong) ∷ [])
+-- The whole refusal, for a buffer of `room` bytes: 18 behind those, then those of the clients' key and tally (request #110).
+unfoldable pub joinCode : Form → List ℕ → List ℕ → Clients → ℕ → ℕ
+joinCode f index recipes clients room =
+    firstOf
+    (whole (joinableCode f index recipes)
+    ∷ (ltb room (9 * length (joinList f index recipes)), listTooLong)
+    ∷ whole (clientsCode (length (keywordsOf (listIn index))) clients (joinList f index recipes))
+    ∷ [])
 
--- The join's answer and its buffer: the list is the buffer's first 9 × count bytes.
-unfoldable pub joinOutcome : Form → List ℕ → List ℕ → ℕ → Outcome
-joinOutcome f index recipes room = answer (joinCode f index recipes room) (length (joinList f index recipes))
+-- The join's answer, its buffer, and the clients' counts after it: the list is the buffer's first 9 × count bytes; a refusal changes no byte and no count.
+unfoldable pub joinOutcome : Form → List ℕ → List ℕ → Clients → ℕ → Outcome
+joinOutcome f index recipes clients room = answer (joinCode f index recipes clients room) (length (joinList f index recipes))
 
-unfoldable pub joinBuffer : Form → List ℕ → List ℕ → List ℕ → List ℕ
-joinBuffer f index recipes out =
-    unlessRefused (joinCode f index recipes (length out)) (written out (listBytes (joinList f index recipes))) out
+unfoldable pub joinBuffer : Form → List ℕ → List ℕ → Clients → List ℕ → List ℕ
+joinBuffer f index recipes clients out =
+    unlessRefused (joinCode f index recipes clients (length out)) (written out (listBytes (joinList f index recipes))) out
+
+unfoldable pub joinTally : Form → List ℕ → List ℕ → Clients → ℕ → List ℕ
+joinTally f index recipes clients room =
+    unlessRefused (joinCode f index recipes clients room) (tallyWith clients (joinList f index recipes)) (clients .tally)
 
 -- The count that a join would report, whatever the buffer.
 unfoldable pub countOutcome : Form → List ℕ → List ℕ → Outcome

@@ -94,6 +94,14 @@ storeEntryBeyond = 20
 abbrev pub queryWrong : ℕ
 queryWrong = 21
 
+-- A key that is not 16 bytes, or names a client above 3 for a keyword of the list (request #110).
+abbrev pub keyWrong : ℕ
+keyWrong = 22
+
+-- A client's count would pass 64 bits (request #110).
+abbrev pub countTooLarge : ℕ
+countTooLarge = 23
+
 -- ---- tests in their order
 
 -- One test of an operation: a condition, and the number that refuses where it holds.

@@ -6,7 +6,7 @@ use lib.ListN.{length}
 use lib.Dec.{eqb, ltb}
 use Rattle.spec.specs.Bytes.{written}
 use Rattle.spec.specs.Form.{newest}
-use Rattle.spec.specs.Join.{Occurrence}
+use Rattle.spec.specs.Join.{Occurrence, oneClient}
 use Rattle.spec.specs.Search.{directSearch, searchCode}
 
 -- ---- numbers and lines
@@ -80,12 +80,12 @@ tooLongText name = line (tooLongWords ∷ name ∷ [])
 abbrev pub programRoom : ℕ
 programRoom = 65536
 
--- The refusal's number, or the list of the direct search of the restored files.
+-- The refusal's number, or the list of the direct search of the restored files. The program is given no key and no tally; what it passes is never refused.
 unfoldable pub searchText : List ℕ → List ℕ → List ℕ → List ℕ
 searchText store words recipes =
-    cond (eqb (searchCode newest words store recipes programRoom programRoom) 0)
+    cond (eqb (searchCode newest words store recipes oneClient programRoom programRoom) 0)
     (listText (directSearch words store recipes))
-    (refusedText (searchCode newest words store recipes programRoom programRoom))
+    (refusedText (searchCode newest words store recipes oneClient programRoom programRoom))
 
 -- The whole output: the first file that is too long, or the search.
 unfoldable pub programText : List ℕ → List ℕ → List ℕ → List ℕ

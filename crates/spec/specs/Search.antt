@@ -8,12 +8,12 @@ use Rattle.spec.specs.declared.Searched.{Searched}
 use Rattle.spec.specs.declared.Searched.the-variants.{ScanRefused, JoinRefused, Found}
 use Rattle.spec.specs.Bytes.{written, positionOf, occursAt, each, joined}
 use Rattle.spec.specs.Outcome.{firstOf, whole, unlessRefused, listTooLong}
-use Rattle.spec.specs.Keywords.{flagOf, folded, foldedKeywords}
+use Rattle.spec.specs.Keywords.{flagOf, folded, keywordsOf, foldedKeywords}
 use Rattle.spec.specs.Directory.{sizeAt}
 use Rattle.spec.specs.Store.{storeLayout, storeKeys, chunkAt}
 use Rattle.spec.specs.Form.{Form}
 use Rattle.spec.specs.Recipes.{filesOf, recipesCode, filesCode}
-use Rattle.spec.specs.Join.{Occurrence, keywordAt, occurrencesAt, listBytes, innerLeast}
+use Rattle.spec.specs.Join.{Occurrence, keywordAt, occurrencesAt, Clients, clientsCode, tallyWith, listBytes, innerLeast}
 use Rattle.spec.specs.Scan.{scanIndex, scanCode}
 
 -- ---- the direct search
@@ -45,33 +45,38 @@ directSearch list store recipes =
 
 -- ---- the operation
 
--- The join's part: 14; file by file 15, 16, 17, said of the store; 18, said of the direct search.
-unfoldable pub searchJoinCode : Form → List ℕ → List ℕ → List ℕ → ℕ → ℕ
-searchJoinCode f list store recipes room =
+-- The join's part: 14; file by file 15, 16, 17, said of the store; 18, 22 and 23, said of the direct search.
+unfoldable pub searchJoinCode : Form → List ℕ → List ℕ → List ℕ → Clients → ℕ → ℕ
+searchJoinCode f list store recipes clients room =
     firstOf
     (whole (recipesCode recipes)
     ∷ whole (filesCode (storeKeys store) (sizeAt storeLayout store) (innerLeast f list) (filesOf recipes))
     ∷ (ltb room (9 * length (directSearch list store recipes)), listTooLong)
+    ∷ whole (clientsCode (length (keywordsOf list)) clients (directSearch list store recipes))
     ∷ [])
 
 -- The whole refusal: the scan's, for an index buffer of `indexRoom` bytes; where it is done, the join's.
-unfoldable pub searchCode : Form → List ℕ → List ℕ → List ℕ → ℕ → ℕ → ℕ
-searchCode f list store recipes indexRoom room =
-    firstOf (whole (scanCode f list store indexRoom) ∷ whole (searchJoinCode f list store recipes room) ∷ [])
+unfoldable pub searchCode : Form → List ℕ → List ℕ → List ℕ → Clients → ℕ → ℕ → ℕ
+searchCode f list store recipes clients indexRoom room =
+    firstOf (whole (scanCode f list store indexRoom) ∷ whole (searchJoinCode f list store recipes clients room) ∷ [])
 
 -- The search's answer.
-unfoldable pub searchOutcome : Form → List ℕ → List ℕ → List ℕ → ℕ → ℕ → Searched
-searchOutcome f list store recipes indexRoom room =
+unfoldable pub searchOutcome : Form → List ℕ → List ℕ → List ℕ → Clients → ℕ → ℕ → Searched
+searchOutcome f list store recipes clients indexRoom room =
     cond (eqb (scanCode f list store indexRoom) 0)
-    (cond (eqb (searchJoinCode f list store recipes room) 0)
+    (cond (eqb (searchJoinCode f list store recipes clients room) 0)
     (Found (length (scanIndex f list store)) (length (directSearch list store recipes)))
-    (JoinRefused (length (scanIndex f list store)) (searchJoinCode f list store recipes room)))
+    (JoinRefused (length (scanIndex f list store)) (searchJoinCode f list store recipes clients room)))
     (ScanRefused (scanCode f list store indexRoom))
 
--- The list buffer after it; the index buffer is as the scan leaves it.
-unfoldable pub searchBuffer : Form → List ℕ → List ℕ → List ℕ → ℕ → List ℕ → List ℕ
-searchBuffer f list store recipes indexRoom out =
-    unlessRefused (searchCode f list store recipes indexRoom (length out)) (written out (listBytes (directSearch list store recipes))) out
+-- The list buffer after it, and the clients' counts; the index buffer is as the scan leaves it.
+unfoldable pub searchBuffer : Form → List ℕ → List ℕ → List ℕ → Clients → ℕ → List ℕ → List ℕ
+searchBuffer f list store recipes clients indexRoom out =
+    unlessRefused (searchCode f list store recipes clients indexRoom (length out)) (written out (listBytes (directSearch list store recipes))) out
+
+unfoldable pub searchTally : Form → List ℕ → List ℕ → List ℕ → Clients → ℕ → ℕ → List ℕ
+searchTally f list store recipes clients indexRoom room =
+    unlessRefused (searchCode f list store recipes clients indexRoom room) (tallyWith clients (directSearch list store recipes)) (clients .tally)
 
 -- The number of an answer, 0 for work done; the count.
 abbrev pub searchedCode : Searched → ℕ

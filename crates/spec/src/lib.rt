@@ -48,3 +48,12 @@ pub struct Opened {
     pub longest: usize,
     pub format: Format,
 }
+
+// The counts of four clients (request #110): how many occurrences of each one's keywords have been listed. A join adds to it.
+// specs/Join.antt says what it adds.
+pub struct Tally {
+    pub client0: u64,
+    pub client1: u64,
+    pub client2: u64,
+    pub client3: u64,
+}

@@ -9,6 +9,7 @@ use tests_report::report::report_cases;
 use tests_report::tally;
 use tests_report::tally::bump;
 use tests_report::tally::compared;
+use tests_runs::clients::join_for_one;
 use tests_runs::runs::code_of;
 use tests_vaults::long::put_long_index;
 use tests_vaults::long::put_long_recipes;
@@ -35,9 +36,10 @@ fn long_file(
 fn count_and_join(counts: &mut [u64], index: &[u8], recipes: &[u8], expected: u8) {
     let mut buffer = [0u8; 9];
     let counted = code_of(join::count(index, recipes));
-    let joined = code_of(join::join(index, recipes, &mut buffer));
+    let j = join_for_one(index, recipes, &mut buffer);
+    let joined = j.outcome;
     compared(counts, tally::COUNT, counted, expected, true);
-    compared(counts, tally::JOIN, joined, expected, true);
+    compared(counts, tally::JOIN, code_of(joined), expected, true);
     bump(counts, tally::CASES);
 }
 

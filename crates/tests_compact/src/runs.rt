@@ -19,8 +19,10 @@ use tests_report::tally::compared;
 use tests_report::tally::expect;
 use tests_report::tally::saw;
 use tests_runs::answers::answer;
-use tests_runs::answers::paired;
 use tests_runs::answers::same_bytes;
+use tests_runs::clients::Counted;
+use tests_runs::clients::paired_counts;
+use tests_runs::clients::search_for_pair;
 use tests_runs::runs::code_of;
 use tests_runs::runs::searched_code;
 use tests_runs::runs::searched_count;
@@ -87,10 +89,15 @@ pub(crate) fn compact_runs(
 
 // ---- two stores, searched
 
-// Number and count of a search of recipes.
-fn search_one(list: &[u8], s: &[u8], r: &[u8], index: &mut [u8], buffer: &mut [u8]) -> usize {
-    let found = search::search(list, s, r, index, buffer);
-    answer(searched_code(found), 0, searched_count(found))
+// Number, count and tally of a search of recipes.
+fn search_one(list: &[u8], s: &[u8], r: &[u8], index: &mut [u8], buffer: &mut [u8]) -> Counted {
+    let a = search_for_pair(list, s, r, index, buffer);
+    let found = a.searched;
+    let counts = a.tally;
+    Counted {
+        answer: answer(searched_code(found), 0, searched_count(found)),
+        tally: counts,
+    }
 }
 
 // By what a search answered: occurrences, none, refused by the scan, by the join.
@@ -113,7 +120,7 @@ fn saw_search(counts: &mut [u64], answer: usize) {
 }
 
 // The searches of a store and of the compacted one; the answer of the first. The index buffer is long enough for either; the list buffers have
-// one length.
+// one length, and the tallies are equal before.
 pub(crate) fn search_both(
     counts: &mut [u64],
     list: &[u8],
@@ -126,9 +133,9 @@ pub(crate) fn search_both(
     let mut b = [PATTERN; 6000];
     let expected = search_one(list, s, r, index, &mut a);
     let got = search_one(list, due, r, index, &mut b);
-    paired(counts, tally::SEARCH, got, expected, same_bytes(&a, &b));
-    saw_search(counts, expected);
-    expected
+    paired_counts(counts, tally::SEARCH, got, expected, same_bytes(&a, &b));
+    saw_search(counts, expected.answer);
+    expected.answer
 }
 
 // ---- what was seen

@@ -1,6 +1,6 @@
 // Runs of the library on two cases whose stores hold the same chunks (f and g), in two orders or with other holes: what it answers on g is
 // compared with what it answers on f, number, values and bytes. Buffers are filled with a pattern first, and those of a pair of runs have one
-// length. Where the stores have one directory, so that they differ in their holes alone, places and indexes are compared too.
+// length; joins and searches have one key, and tallies that are equal before and must be equal after (request #110). Where the stores have one directory, so that they differ in their holes alone, places and indexes are compared too.
 use spec::Outcome;
 use spec::Scanned;
 use tests_plain::bytes::copy;
@@ -22,6 +22,11 @@ use tests_runs::answers::NOT_RUN;
 use tests_runs::answers::answer;
 use tests_runs::answers::paired;
 use tests_runs::answers::same_bytes;
+use tests_runs::clients::Counted;
+use tests_runs::clients::join_for_pair;
+use tests_runs::clients::paired_counts;
+use tests_runs::clients::search_for_pair;
+use tests_runs::clients::uncounted;
 use tests_runs::runs::code_of;
 use tests_runs::runs::scanned_code;
 use tests_runs::runs::scanned_length;
@@ -71,35 +76,46 @@ fn only_holes_differ(f: &[u8], g: &[u8]) -> bool {
 
 // ---- a run of one case
 
-fn scan_one(f: &[u8], buffer: &mut [u8]) -> usize {
-    scanned(scan::scan(case::list(f), case::store(f), buffer))
+fn scan_one(f: &[u8], buffer: &mut [u8]) -> Counted {
+    uncounted(scanned(scan::scan(case::list(f), case::store(f), buffer)))
 }
 
-fn join_one(f: &[u8], buffer: &mut [u8]) -> usize {
-    answered(join::join(case::index(f), case::recipes(f), buffer))
+fn join_one(f: &[u8], buffer: &mut [u8]) -> Counted {
+    let j = join_for_pair(case::index(f), case::recipes(f), buffer);
+    let o = j.outcome;
+    let counts = j.tally;
+    Counted {
+        answer: answered(o),
+        tally: counts,
+    }
 }
 
-fn search_one(f: &[u8], index: &mut [u8], buffer: &mut [u8]) -> usize {
-    let s = search::search(
+fn search_one(f: &[u8], index: &mut [u8], buffer: &mut [u8]) -> Counted {
+    let a = search_for_pair(
         case::list(f),
         case::store(f),
         case::recipes(f),
         index,
         buffer,
     );
-    answer(searched_code(s), searched_index(s), searched_count(s))
+    let s = a.searched;
+    let counts = a.tally;
+    Counted {
+        answer: answer(searched_code(s), searched_index(s), searched_count(s)),
+        tally: counts,
+    }
 }
 
 // A search whose index goes to the first n bytes of a buffer.
-fn search_front(f: &[u8], index: &mut [u8], n: usize, buffer: &mut [u8]) -> usize {
+fn search_front(f: &[u8], index: &mut [u8], n: usize, buffer: &mut [u8]) -> Counted {
     if n <= index.len() {
         return search_one(f, &mut index[..n], buffer);
     }
-    NOT_RUN
+    uncounted(NOT_RUN)
 }
 
 // Run number `way`; the index of a search has n bytes.
-fn run_one(way: usize, f: &[u8], index: &mut [u8], n: usize, buffer: &mut [u8]) -> usize {
+fn run_one(way: usize, f: &[u8], index: &mut [u8], n: usize, buffer: &mut [u8]) -> Counted {
     fill(buffer, PATTERN);
     if is_scan(way) {
         return scan_one(f, buffer);
@@ -118,11 +134,11 @@ fn run_front(
     n: usize,
     buffer: &mut [u8],
     room: usize,
-) -> usize {
+) -> Counted {
     if room <= buffer.len() {
         return run_one(way, f, index, n, &mut buffer[..room]);
     }
-    NOT_RUN
+    uncounted(NOT_RUN)
 }
 
 // ---- the runs of both
@@ -185,9 +201,9 @@ fn same_front(a: &[u8], b: &[u8], from: usize, room: usize) -> bool {
     same(a, from, b, from, less(room, from))
 }
 
-fn run_paired(counts: &mut [u64], way: usize, got: usize, expected: usize, rest: bool) {
-    paired(counts, operation_of(way), got, expected, rest);
-    saw(counts, tally::MOVES + 10, is_moved(way, expected));
+fn run_paired(counts: &mut [u64], way: usize, got: Counted, expected: Counted, rest: bool) {
+    paired_counts(counts, operation_of(way), got, expected, rest);
+    saw(counts, tally::MOVES + 10, is_moved(way, expected.answer));
 }
 
 fn run_both(counts: &mut [u64], way: usize, f: &[u8], g: &[u8], a: &mut [u8], b: &mut [u8]) {
@@ -197,7 +213,7 @@ fn run_both(counts: &mut [u64], way: usize, f: &[u8], g: &[u8], a: &mut [u8], b:
     let n = index_room(f, way);
     let expected = run_front(way, f, &mut index, n, a, room);
     let got = run_front(way, g, &mut other, n, b, room);
-    let ok = same_front(a, b, from_where(way, f, g, expected), room);
+    let ok = same_front(a, b, from_where(way, f, g, expected.answer), room);
     run_paired(counts, way, got, expected, ok);
     expect(counts, same_indexes(f, g, &index, &other));
 }

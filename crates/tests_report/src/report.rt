@@ -118,7 +118,7 @@ const STORE_NAMES: [u8; 240] = *b"\
     - refused with 8                        \
     - refused with 20                       ";
 
-const NUMBER_NAMES: [u8; 880] = *b"\
+const NUMBER_NAMES: [u8; 960] = *b"\
     answered 0                              \
     answered 1                              \
     answered 2                              \
@@ -140,7 +140,9 @@ const NUMBER_NAMES: [u8; 880] = *b"\
     answered 18                             \
     answered 19                             \
     answered 20                             \
-    answered 21                             ";
+    answered 21                             \
+    answered 22                             \
+    answered 23                             ";
 
 // The first n kinds by the holes.
 fn holes(counts: &mut [u64], n: usize) {
@@ -246,23 +248,24 @@ const OTHER_HOLE_NAMES: [u8; 120] = *b"\
     - with more bytes behind                \
     - with fewer bytes behind               ";
 
-const PAIR_NAMES: [u8; 200] = *b"\
+const PAIR_NAMES: [u8; 240] = *b"\
     - that list occurrences                 \
     - that list none                        \
     - that the scan refuses                 \
     - that the join refuses                 \
-    answers of two stores compared          ";
+    answers of two stores compared          \
+    - whose tallies were added to           ";
 
 // Stores in another order.
 pub fn orders(counts: &mut [u64]) {
     lines(&ORDER_NAMES, counts, tally::ORDERS, 4);
-    report_lines(&PAIR_NAMES, counts, tally::PAIRS, 5);
+    report_lines(&PAIR_NAMES, counts, tally::PAIRS, 6);
 }
 
 // Stores with other holes.
 pub fn other_holes(counts: &mut [u64]) {
     lines(&OTHER_HOLE_NAMES, counts, tally::OTHER_HOLES, 3);
-    report_lines(&PAIR_NAMES, counts, tally::PAIRS, 5);
+    report_lines(&PAIR_NAMES, counts, tally::PAIRS, 6);
 }
 
 const OUTPUT_NAMES: [u8; 160] = *b"\
@@ -312,7 +315,7 @@ const COMPACTION_BUFFER_NAMES: [u8; 160] = *b"\
 // The compactions since the last such report, and the searches of both stores.
 pub fn compactions(counts: &mut [u64]) {
     report_lines(&COMPACTION_NAMES, counts, tally::COMPACTION_KINDS, 6);
-    report_lines(&PAIR_NAMES, counts, tally::PAIRS, 5);
+    report_lines(&PAIR_NAMES, counts, tally::PAIRS, 6);
 }
 
 pub fn compacted(counts: &[u64]) {
@@ -447,10 +450,46 @@ pub fn query_buffers(counts: &[u64]) {
     lines(&QUERY_BUFFER_NAMES, counts, tally::QUERY_BUFFERS, 6);
 }
 
+const CLIENT_NAMES: [u8; 1160] = *b"\
+    - that list occurrences                 \
+    - that list none                        \
+    - refused for the index or the recipes  \
+    - refused with 18                       \
+    - refused with 22                       \
+    - refused with 23                       \
+    - with FF behind the last keyword       \
+    - with a key of 0 bytes                 \
+    - with a key of 15 bytes                \
+    - with a key of 17 bytes                \
+    - with client 4 for keyword 0           \
+    - with client 255 for keyword 0         \
+    - with client 4 for the last keyword    \
+    - with client 255 for the last keyword  \
+    - with a wrong key and nothing to list  \
+    - with 18 before 22                     \
+    - with 18 before 23                     \
+    - with 22 before 23                     \
+    - into a tally at zero                  \
+    - that add to all four clients          \
+    - with a full count that stays          \
+    - that fill a count                     \
+    - with client 0 alone past 64 bits      \
+    - with client 1 alone past 64 bits      \
+    - with client 2 alone past 64 bits      \
+    - with client 3 alone past 64 bits      \
+    - with several clients past 64 bits     \
+    - accepted, in a list of joins          \
+    - refused, in a list of joins           ";
+
+// The joins with a key and a tally.
+pub fn clients(counts: &[u64]) {
+    lines(&CLIENT_NAMES, counts, tally::CLIENTS, 29);
+}
+
 pub fn totals(counts: &[u64]) {
     lines(&MOVE_NAMES, counts, tally::MOVES, 11);
     lines(&BUFFER_NAMES, counts, tally::BUFFERS, 8);
     lines(&OPERATION_NAMES, counts, tally::OPERATIONS, 14);
-    lines(&NUMBER_NAMES, counts, 0, 22);
+    lines(&NUMBER_NAMES, counts, 0, 24);
     line(b"not as expected", count_at(counts, tally::DIFFERENCES));
 }

@@ -11,7 +11,7 @@ pub fn store_place(code: u8) -> usize {
     plus(STORES, less(code as usize, 4))
 }
 
-// Places of the counters: numbers 0 to 21, operations, differences, cases since the last line, kinds of cases (those of long chunks 64 behind,
+// Places of the counters: numbers 0 to 23, operations, differences, cases since the last line, kinds of cases (those of long chunks 64 behind,
 // those of chunks longer than a window 96 behind, those by holes 112 behind), kinds of buffers.
 pub(crate) const OPERATIONS: usize = 32;
 
@@ -44,10 +44,12 @@ pub const MOVES: usize = 132;
 pub const OTHER_HOLES: usize = 168;
 
 // Two stores, in another order or with other holes: those that list occurrences, list none, are refused by the scan, by the join; then the
-// answers that were compared.
+// answers that were compared, and those whose tallies were added to.
 pub const PAIRS: usize = 172;
 
 pub const ANSWERS: usize = 176;
+
+pub const TALLIES: usize = 177;
 
 // Compactions: cases by the number that the buffer has no part in (0, 5, 6, 7, 8, 20, 14, 15); calls into a longer buffer, an exact one, one a
 // byte short; cases by what becomes of the store and by what the recipes name.
@@ -69,8 +71,12 @@ pub const QUERY_KINDS: usize = 272;
 
 pub const QUERY_BUFFERS: usize = 288;
 
+// Joins with a key and a tally (request #110): by what is due, by the key, by the tests that fail together, by the tally; those in lists of
+// joins into one tally.
+pub const CLIENTS: usize = 296;
+
 // Room for the counters.
-pub const ALL: usize = 296;
+pub const ALL: usize = 328;
 
 // The operations.
 pub const KEYWORD_CHECK: usize = 0;

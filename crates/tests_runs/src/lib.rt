@@ -2,6 +2,7 @@
 // Test support: proved safe and ending.
 pub mod answers;
 pub mod cases;
+pub mod clients;
 pub mod longest;
 pub mod lookups;
 pub mod runs;

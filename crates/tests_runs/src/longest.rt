@@ -1,10 +1,13 @@
 // A chunk of the longest length, 1,048,576 bytes: checked, looked up, scanned, joined; and a chunk a byte longer, refused.
+use crate::clients::count_for_one;
+use crate::clients::join_for_one;
+use crate::clients::joined_as_due;
 use crate::runs::code_of;
 use crate::runs::scanned_code;
 use crate::runs::scanned_length;
 use crate::runs::scanned_moves;
 use crate::runs::value_of;
-use spec::Outcome;
+use join::Joined;
 use spec::Scanned;
 use tests_plain::bytes::fill;
 use tests_plain::bytes::part;
@@ -83,18 +86,19 @@ fn store_runs(counts: &mut [u64], store: &[u8], index: &[u8], code: u8, late: u8
 
 // ---- the join
 
-fn join_as_due(o: Outcome, buffer: &[u8]) -> bool {
+fn join_as_due(j: Joined, buffer: &[u8]) -> bool {
     let mut list = [0u8; 108];
     longest::put_list(&mut list);
-    as_due(value_of(o), 0, longest::ROWS, buffer, &list)
+    joined_as_due(j, 0, count_for_one(0, longest::ROWS), buffer, &list)
 }
 
 fn join_run(counts: &mut [u64], index: &[u8]) {
     let mut recipes = [0u8; 48];
     let mut buffer = [PATTERN; 110];
     longest::put_recipes(&mut recipes);
-    let o = join::join(index, &recipes, &mut buffer);
-    let ok = join_as_due(o, &buffer);
+    let j = join_for_one(index, &recipes, &mut buffer);
+    let o = j.outcome;
+    let ok = join_as_due(j, &buffer);
     compared(counts, tally::JOIN, code_of(o), 0, ok);
     compared(counts, tally::INDEX_CHECK, index::check(index), 0, true);
 }

@@ -1,5 +1,11 @@
 // Runs of the library's operations on a case, each compared with what the plain computations expect: the number, the value, every byte of
 // the buffer. Buffers are filled with a pattern first; long ones, exact ones and ones a byte short are tried.
+use crate::clients::count_for_one;
+use crate::clients::join_for_one;
+use crate::clients::joined_as_due;
+use crate::clients::same_counts;
+use crate::clients::search_for_one;
+use search::Answer;
 use spec::Outcome;
 use spec::Scanned;
 use spec::Searched;
@@ -110,14 +116,21 @@ fn scan_into(counts: &mut [u64], f: &[u8], buffer: &mut [u8]) {
     saw_moves(counts, f, c, buffer.len());
 }
 
+// One join, where it must answer `code`.
+fn join_as(counts: &mut [u64], f: &[u8], buffer: &mut [u8], code: u8) {
+    let j = join_for_one(case::index(f), case::recipes(f), buffer);
+    let o = j.outcome;
+    let due = count_for_one(code, case::count(f));
+    let ok = joined_as_due(j, code, due, buffer, case::rows(f));
+    compared(counts, tally::JOIN, code_of(o), code, ok);
+}
+
 fn join_into(counts: &mut [u64], f: &[u8], buffer: &mut [u8]) {
-    let due = case::rows(f);
+    let n = case::rows(f).len();
+    let c = late(case::join_code(f), n, buffer.len(), 18);
     fill(buffer, PATTERN);
-    let c = late(case::join_code(f), due.len(), buffer.len(), 18);
-    let o = join::join(case::index(f), case::recipes(f), buffer);
-    let ok = as_due(value_of(o), c, case::count(f), buffer, due);
-    compared(counts, tally::JOIN, code_of(o), c, ok);
-    saw_buffer(counts, 1, c, due.len(), buffer.len());
+    join_as(counts, f, buffer, c);
+    saw_buffer(counts, 1, c, n, buffer.len());
 }
 
 // ---- the search whole
@@ -161,6 +174,15 @@ fn both_as_due(s: Searched, scan: u8, code: u8, f: &[u8], index: &[u8], buffer: 
     false
 }
 
+// A search's index, list and tally.
+fn all_as_due(a: Answer, scan: u8, code: u8, f: &[u8], index: &[u8], buffer: &[u8]) -> bool {
+    let s = a.searched;
+    if same_counts(a.tally, count_for_one(code, case::count(f))) {
+        return both_as_due(s, scan, code, f, index, buffer);
+    }
+    false
+}
+
 // One search, where its scan must answer `scan` and it itself `code`.
 fn search_as(
     counts: &mut [u64],
@@ -170,14 +192,15 @@ fn search_as(
     scan: u8,
     code: u8,
 ) {
-    let s = search::search(
+    let a = search_for_one(
         case::list(f),
         case::store(f),
         case::recipes(f),
         index,
         buffer,
     );
-    let ok = both_as_due(s, scan, code, f, index, buffer);
+    let s = a.searched;
+    let ok = all_as_due(a, scan, code, f, index, buffer);
     compared(counts, tally::SEARCH, searched_code(s), code, ok);
 }
 

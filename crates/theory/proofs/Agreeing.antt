@@ -16,7 +16,8 @@ use Rattle.spec.specs.Directory.{sizeAt}
 use Rattle.spec.specs.Store.{storeLayout, chunkCount, storeKeys}
 use Rattle.spec.specs.Form.{Form, newest, formOf}
 use Rattle.spec.specs.Recipes.{fileCode, filesCode, filesOf, recipesCode}
-use Rattle.spec.specs.Join.{Occurrence, joinList, listBytes, innerLeast, joinCode, joinOutcome, joinBuffer, readList}
+use Rattle.spec.specs.Join.{Occurrence, Clients, clientsCode, tallyWith, joinList, listBytes, innerLeast, joinCode, joinOutcome, joinBuffer, joinTally}
+use Rattle.spec.specs.Join.{readList}
 use Rattle.spec.specs.Query.{Line, lineSize, linesBytes, isQuery, queryOutcome, queryBuffer}
 use Rattle.spec.specs.Scan.{scanCode}
 use Rattle.spec.specs.Search.{chunkNamed, restored, directSearch, occurrencesInAll, searchJoinCode}
@@ -30,7 +31,7 @@ use Rattle.theory.specs.Queries.{linesIn, searchLines, searchQueryCode}
 use Rattle.theory.specs.SameChunks.{JoinsAlike, QueriesAlike}
 use Rattle.theory.proofs.ScanThenJoin.{position-in, answer-same, buffer-same}
 use Rattle.theory.proofs.QuerySearch.{query-outcome, query-buffer}
-use Rattle.theory.proofs.Demand3.{code-of-answer, join-outcome, join-buffer, scanned-is, join-of-scan}
+use Rattle.theory.proofs.Demand3.{code-of-answer, join-outcome, join-buffer, join-tally, scanned-is, join-of-scan}
 
 -- A store has the fingerprint; the entry that does.
 abbrev pub knows : List ℕ → List ℕ → Bool
@@ -49,10 +50,11 @@ fileTest store m file = fileCode (storeKeys store) (sizeAt storeLayout store) m 
 abbrev filesTest : List ℕ → ℕ → List (List (List ℕ)) → ℕ
 filesTest store m files = filesCode (storeKeys store) (sizeAt storeLayout store) m files
 
--- a test behind one that decides it
-last-test : (r c d n : ℕ) (p q : Bool) → c ≡ d → (c ≡ 0 → p ≡ q) → firstOf (whole r ∷ whole c ∷ (p, n) ∷ []) ≡ firstOf (whole r ∷ whole d ∷ (q, n) ∷ [])
-last-test r zero d n p q e h = rw (← e, h refl)
-last-test r (suc c) d n p q e h = rw (← e, lt-ltb 0 (suc c) (omega arith))
+-- tests behind one that decides them
+last-tests : (r c d n : ℕ) (p q : Bool) (k l : ℕ) → c ≡ d → (c ≡ 0 → p ≡ q) → (c ≡ 0 → k ≡ l)
+    → firstOf (whole r ∷ whole c ∷ (p, n) ∷ whole k ∷ []) ≡ firstOf (whole r ∷ whole d ∷ (q, n) ∷ whole l ∷ [])
+last-tests r zero d n p q k l e h i = rw (← e, h refl, i refl)
+last-tests r (suc c) d n p q k l e h i = rw (← e, lt-ltb 0 (suc c) (omega arith))
 
 last-two : (r c d m n : ℕ) (o p q : Bool) → c ≡ d → (c ≡ 0 → p ≡ q)
     → firstOf (whole r ∷ whole c ∷ (o, m) ∷ (p, n) ∷ []) ≡ firstOf (whole r ∷ whole d ∷ (o, m) ∷ (q, n) ∷ [])
@@ -60,11 +62,11 @@ last-two r zero d m n o p q e h = rw (← e, h refl)
 last-two r (suc c) d m n o p q e h = rw (← e, lt-ltb 0 (suc c) (omega arith))
 
 -- a join that is refused leaves its buffer
-pub join-kept : (index recipes out : List ℕ) → codeOf (joinOutcome (formOf index) index recipes (length out)) ≢ 0
-    → joinBuffer (formOf index) index recipes out ≡ out
+pub join-kept : (index recipes : List ℕ) (clients : Clients) (out : List ℕ) → codeOf (joinOutcome (formOf index) index recipes clients (length out)) ≢ 0
+    → joinBuffer (formOf index) index recipes clients out ≡ out
 unfolding joinOutcome joinBuffer
-join-kept index recipes out d =
-    let code : ℕ = joinCode (formOf index) index recipes (length out) in
+join-kept index recipes clients out d =
+    let code : ℕ = joinCode (formOf index) index recipes clients (length out) in
     let found = joinList (formOf index) index recipes in
     sym (buffer-refused code (written out (listBytes found)) out (λ z. d (code-of-answer code (length found) ∙ z)))
 
@@ -165,16 +167,18 @@ module _ (store other : List ℕ) (P : List ℕ → Bool) (a : Agree store other
 
   -- ---- the join's part of a search
 
-  module _ (f : Form) (list recipes : List ℕ) (room : ℕ) (p : every (every P) (filesOf recipes) ≡ true) where
-    pub same-join-code : searchJoinCode f list store recipes room ≡ searchJoinCode f list other recipes room
+  module _ (f : Form) (list recipes : List ℕ) (clients : Clients) (room : ℕ) (p : every (every P) (filesOf recipes) ≡ true) where
+    pub same-join-code : searchJoinCode f list store recipes clients room ≡ searchJoinCode f list other recipes clients room
     unfolding searchJoinCode
     same-join-code =
-        last-test (recipesCode recipes) (filesTest store (innerLeast f list) (filesOf recipes)) (filesTest other (innerLeast f list) (filesOf recipes)) 18 _ _
+        last-tests (recipesCode recipes)
+        (filesTest store (innerLeast f list) (filesOf recipes)) (filesTest other (innerLeast f list) (filesOf recipes)) 18 _ _ _ _
         (same-files (innerLeast f list) (filesOf recipes) p)
         (λ z. ap (λ (l : List Occurrence). ltb room (9 * length l)) (same-search (innerLeast f list) list recipes p z))
+        (λ z. ap (clientsCode (length (keywordsOf list)) clients) (same-search (innerLeast f list) list recipes p z))
 
     -- where its number is 0 the lists are the same
-    pub same-list : searchJoinCode f list store recipes room ≡ 0 → directSearch list store recipes ≡ directSearch list other recipes
+    pub same-list : searchJoinCode f list store recipes clients room ≡ 0 → directSearch list store recipes ≡ directSearch list other recipes
     unfolding searchJoinCode
     same-list e =
         let c = passed-whole (recipesCode recipes) _ e in
@@ -190,29 +194,41 @@ module _ (store other : List ℕ) (P : List ℕ → Bool) (a : Agree store other
     abbrev otherIndex : List ℕ
     otherIndex = scanned list other buffer₂
 
-    pub agreed-outcome : (room : ℕ) → joinOutcome (formOf index) index recipes room ≡ joinOutcome (formOf otherIndex) otherIndex recipes room
-    agreed-outcome room =
-        join-outcome list store (length buffer) e index recipes room (scanned-is list store buffer e)
-        ∙ answer-same _ _ _ _ (same-join-code newest list recipes room p)
-        (λ z. ap length (same-list newest list recipes room p (same-join-code newest list recipes room p ∙ z)))
-        ∙ sym (join-outcome list other (length buffer₂) e₂ otherIndex recipes room (scanned-is list other buffer₂ e₂))
+    pub agreed-outcome : (clients : Clients) (room : ℕ)
+        → joinOutcome (formOf index) index recipes clients room ≡ joinOutcome (formOf otherIndex) otherIndex recipes clients room
+    agreed-outcome clients room =
+        join-outcome list store (length buffer) e index recipes clients room (scanned-is list store buffer e)
+        ∙ answer-same _ _ _ _ (same-join-code newest list recipes clients room p)
+        (λ z. ap length (same-list newest list recipes clients room p (same-join-code newest list recipes clients room p ∙ z)))
+        ∙ sym (join-outcome list other (length buffer₂) e₂ otherIndex recipes clients room (scanned-is list other buffer₂ e₂))
 
-    pub agreed-buffer : (out : List ℕ) → joinBuffer (formOf index) index recipes out ≡ joinBuffer (formOf otherIndex) otherIndex recipes out
-    agreed-buffer out =
-        join-buffer list store (length buffer) e index recipes out (scanned-is list store buffer e)
-        ∙ buffer-same _ _ _ _ out (same-join-code newest list recipes (length out) p)
+    pub agreed-buffer : (clients : Clients) (out : List ℕ)
+        → joinBuffer (formOf index) index recipes clients out ≡ joinBuffer (formOf otherIndex) otherIndex recipes clients out
+    agreed-buffer clients out =
+        join-buffer list store (length buffer) e index recipes clients out (scanned-is list store buffer e)
+        ∙ buffer-same _ _ _ _ out (same-join-code newest list recipes clients (length out) p)
         (λ z. ap (λ (l : List Occurrence). written out (listBytes l))
-        (same-list newest list recipes (length out) p (same-join-code newest list recipes (length out) p ∙ z)))
-        ∙ sym (join-buffer list other (length buffer₂) e₂ otherIndex recipes out (scanned-is list other buffer₂ e₂))
+        (same-list newest list recipes clients (length out) p (same-join-code newest list recipes clients (length out) p ∙ z)))
+        ∙ sym (join-buffer list other (length buffer₂) e₂ otherIndex recipes clients out (scanned-is list other buffer₂ e₂))
 
-    pub agreed-list : (out out₂ : List ℕ) → length out ≡ length out₂ → codeOf (joinOutcome (formOf index) index recipes (length out)) ≡ 0
-        → readList (valueOf (joinOutcome (formOf index) index recipes (length out))) (joinBuffer (formOf index) index recipes out)
-        ≡ readList (valueOf (joinOutcome (formOf otherIndex) otherIndex recipes (length out₂))) (joinBuffer (formOf otherIndex) otherIndex recipes out₂)
-    agreed-list out out₂ l z =
-        let s = join-of-scan list store (length buffer) e recipes index out (scanned-is list store buffer e) in
-        let t = join-of-scan list other (length buffer₂) e₂ recipes otherIndex out₂ (scanned-is list other buffer₂ e₂) in
-        let o : joinOutcome (formOf index) index recipes (length out) ≡ joinOutcome (formOf otherIndex) otherIndex recipes (length out₂) =
-        agreed-outcome (length out) ∙ ap (joinOutcome (formOf otherIndex) otherIndex recipes) l in
+    pub agreed-tally : (clients : Clients) (room : ℕ)
+        → joinTally (formOf index) index recipes clients room ≡ joinTally (formOf otherIndex) otherIndex recipes clients room
+    agreed-tally clients room =
+        join-tally list store (length buffer) e index recipes clients room (scanned-is list store buffer e)
+        ∙ buffer-same _ _ _ _ (clients .tally) (same-join-code newest list recipes clients room p)
+        (λ z. ap (tallyWith clients) (same-list newest list recipes clients room p (same-join-code newest list recipes clients room p ∙ z)))
+        ∙ sym (join-tally list other (length buffer₂) e₂ otherIndex recipes clients room (scanned-is list other buffer₂ e₂))
+
+    pub agreed-list : (clients : Clients) (out out₂ : List ℕ) → length out ≡ length out₂
+        → codeOf (joinOutcome (formOf index) index recipes clients (length out)) ≡ 0
+        → readList (valueOf (joinOutcome (formOf index) index recipes clients (length out))) (joinBuffer (formOf index) index recipes clients out)
+        ≡ readList (valueOf (joinOutcome (formOf otherIndex) otherIndex recipes clients (length out₂)))
+        (joinBuffer (formOf otherIndex) otherIndex recipes clients out₂)
+    agreed-list clients out out₂ l z =
+        let s = join-of-scan list store (length buffer) e recipes clients index out (scanned-is list store buffer e) in
+        let t = join-of-scan list other (length buffer₂) e₂ recipes clients otherIndex out₂ (scanned-is list other buffer₂ e₂) in
+        let o : joinOutcome (formOf index) index recipes clients (length out) ≡ joinOutcome (formOf otherIndex) otherIndex recipes clients (length out₂) =
+        agreed-outcome clients (length out) ∙ ap (joinOutcome (formOf otherIndex) otherIndex recipes clients) l in
         s .listed z ∙ same-search 0 list recipes p (s .done .0 z .1) ∙ sym (t .listed (ap codeOf (sym o) ∙ z))
 
     -- queries of these indexes
@@ -237,16 +253,18 @@ module _ (store other : List ℕ) (P : List ℕ → Bool) (a : Agree store other
     agreed-queries = record { outcome = agreed-query; bytes = agreed-query-buffer }
 
     -- all of a join, into list buffers of equal length
-    pub agreed-joins : (out out₂ : List ℕ) → length out ≡ length out₂
+    pub agreed-joins : (clients : Clients) (out out₂ : List ℕ) → length out ≡ length out₂
         → JoinsAlike out out₂
-        (joinOutcome (formOf index) index recipes (length out)) (joinOutcome (formOf otherIndex) otherIndex recipes (length out₂))
-        (joinBuffer (formOf index) index recipes out) (joinBuffer (formOf otherIndex) otherIndex recipes out₂)
-    agreed-joins out out₂ l =
-        let o : joinOutcome (formOf index) index recipes (length out) ≡ joinOutcome (formOf otherIndex) otherIndex recipes (length out₂) =
-        agreed-outcome (length out) ∙ ap (joinOutcome (formOf otherIndex) otherIndex recipes) l in
+        (joinOutcome (formOf index) index recipes clients (length out)) (joinOutcome (formOf otherIndex) otherIndex recipes clients (length out₂))
+        (joinBuffer (formOf index) index recipes clients out) (joinBuffer (formOf otherIndex) otherIndex recipes clients out₂)
+        (joinTally (formOf index) index recipes clients (length out)) (joinTally (formOf otherIndex) otherIndex recipes clients (length out₂))
+    agreed-joins clients out out₂ l =
+        let o : joinOutcome (formOf index) index recipes clients (length out) ≡ joinOutcome (formOf otherIndex) otherIndex recipes clients (length out₂) =
+        agreed-outcome clients (length out) ∙ ap (joinOutcome (formOf otherIndex) otherIndex recipes clients) l in
         record {
           answers = o;
-          listed = agreed-list out out₂ l;
-          kept = λ d. (join-kept index recipes out d, join-kept otherIndex recipes out₂ (λ z. d (ap codeOf o ∙ z)));
-          bytes = λ q. agreed-buffer out ∙ ap (joinBuffer (formOf otherIndex) otherIndex recipes) q;
+          listed = agreed-list clients out out₂ l;
+          kept = λ d. (join-kept index recipes clients out d, join-kept otherIndex recipes clients out₂ (λ z. d (ap codeOf o ∙ z)));
+          tallies = agreed-tally clients (length out) ∙ ap (joinTally (formOf otherIndex) otherIndex recipes clients) l;
+          bytes = λ q. agreed-buffer clients out ∙ ap (joinBuffer (formOf otherIndex) otherIndex recipes clients) q;
         }

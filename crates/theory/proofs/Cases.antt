@@ -15,12 +15,13 @@ use Rattle.spec.specs.Table.{cellOf, inCell}
 use Rattle.spec.specs.Recipes.{fileBytes, recipesBytes, filesOf, recipesCode, fileCode, filesCode}
 use Rattle.spec.specs.Join.{occurrencesAt, crosses, listed, joinFrom, joinFiles, fileRecords, joinList, occurrenceBytes, listBytes, innerLeast}
 use Rattle.spec.specs.Join.{joinableCode, joinCode, joinOutcome, joinBuffer, starts, ends, goesOn}
+use Rattle.spec.specs.Join.{countBy, countsBy, tallyWith, isKey, fit64, clientsCode, joinTally}
 use Rattle.spec.specs.Scan.{scanRecords, scanBody, scanEntry, scanIndex, scannableCode, scanCode, scanOutcome, scanAnswer, scanBuffer}
 use Rattle.spec.proofs.MoveExamples.{moving}
 use Rattle.theory.specs.Cases.{Cases}
 
 -- the definitions that the cases compute with: of bytes and outcomes, keyword lists, stores and recipes, records, bodies and cells, index files,
--- the join, the scan; and all of them
+-- the join, its clients, the scan; and all of them
 unfoldable byteDefinitions : ℕ
 unfolding leValue leBytes fieldsOf fieldsBytes splice inSet answer unlessRefused
 byteDefinitions = 0
@@ -49,12 +50,16 @@ unfoldable joinDefinitions : ℕ
 unfolding occurrencesAt crosses starts ends goesOn listed joinFrom joinFiles fileRecords joinList occurrenceBytes listBytes innerLeast joinableCode joinCode joinOutcome joinBuffer
 joinDefinitions = 0
 
+unfoldable clientDefinitions : ℕ
+unfolding countBy countsBy tallyWith isKey fit64 clientsCode joinTally
+clientDefinitions = 0
+
 unfoldable scanDefinitions : ℕ
 unfolding scanRecords scanBody scanEntry scanIndex scannableCode scanCode scanOutcome scanAnswer scanBuffer moving
 scanDefinitions = 0
 
 unfoldable pub definitions : ℕ
-unfolding byteDefinitions keywordDefinitions storeDefinitions recordDefinitions bodyDefinitions indexDefinitions joinDefinitions scanDefinitions
+unfolding byteDefinitions keywordDefinitions storeDefinitions recordDefinitions bodyDefinitions indexDefinitions joinDefinitions clientDefinitions scanDefinitions
 definitions = 0
 
 -- REQUEST #102: in every full record, of any form, the count byte is the smaller of the count and FF

@@ -18,9 +18,10 @@ use Rattle.spec.specs.Store.{Chunk, storeLayout, mostChunks, placedBytes, gaple
 use Rattle.spec.specs.Store.{storeCode}
 use Rattle.spec.specs.Form.{newest}
 use Rattle.spec.specs.Recipes.{filesOf}
-use Rattle.spec.specs.Join.{Occurrence, listBytes}
+use Rattle.spec.specs.Join.{Occurrence, Clients, tallyWith, listBytes}
 use Rattle.spec.specs.Scan.{scanCode, scannedCode}
-use Rattle.spec.specs.Search.{occurrencesIn, occurrencesInAll, restored, chunkNamed, searchJoinCode, searchCode, searchOutcome, searchBuffer, searchedCode, searchedCount, directSearch}
+use Rattle.spec.specs.Search.{occurrencesIn, occurrencesInAll, restored, chunkNamed, searchJoinCode, searchCode, searchOutcome, searchBuffer, searchTally}
+use Rattle.spec.specs.Search.{searchedCode, searchedCount, directSearch}
 use Rattle.spec.specs.Compact.{namedIn, namedAmong, compacted, compactableCode, compactCode, compactOutcome, compactBuffer, compactSize}
 use Rattle.spec.proofs.Tests.{bool-cases, and-left, and-right, false-of}
 use Rattle.spec.proofs.Codes.{passed-whole, or-left, or-right, buffer-done}
@@ -33,7 +34,7 @@ use Rattle.theory.proofs.Cases.{definitions}
 use Rattle.theory.proofs.AnyOrder.{weigh, weigh-le, weigh-same}
 use Rattle.theory.proofs.ScanThenJoin.{buffer-same}
 use Rattle.theory.proofs.Agreeing.{knows, placeOf, place-in, Agree, same-join-code, same-list, agreed-joins, agreed-queries}
-use Rattle.theory.proofs.SameChunks.{by-fingerprint, join-is, buffer-is}
+use Rattle.theory.proofs.SameChunks.{by-fingerprint, join-is, buffer-is, tally-is}
 use Rattle.theory.proofs.Demand3.{code-of-answer, value-of-answer, written-front, scan-number}
 use Rattle.theory.proofs.WrittenStores.{laidBytes, length-written, store-read, store-accepted}
 use Rattle.theory.proofs.WrittenInputs.{bytes-under}
@@ -326,32 +327,43 @@ module _ (store recipes : List ℕ) (e : storeCode store ≡ 0) where
   all-named = within-joined (λ key. contains key names) (filesOf recipes) (λ key c. c)
 
   -- where both scans do their work
-  module _ (list : List ℕ) (indexRoom indexRoom₂ : ℕ) (a : scanCode newest list store indexRoom ≡ 0)
+  module _ (list : List ℕ) (clients : Clients) (indexRoom indexRoom₂ : ℕ) (a : scanCode newest list store indexRoom ≡ 0)
       (b : scanCode newest list (compacted store recipes) indexRoom₂ ≡ 0) (out : List ℕ) where
-    join-same : searchJoinCode newest list store recipes (length out) ≡ searchJoinCode newest list (compacted store recipes) recipes (length out)
-    join-same = same-join-code store (compacted store recipes) (λ key. contains key names) agrees newest list recipes (length out) all-named
+    join-same : searchJoinCode newest list store recipes clients (length out)
+        ≡ searchJoinCode newest list (compacted store recipes) recipes clients (length out)
+    join-same = same-join-code store (compacted store recipes) (λ key. contains key names) agrees newest list recipes clients (length out) all-named
 
-    list-same : searchJoinCode newest list store recipes (length out) ≡ 0 → directSearch list store recipes ≡ directSearch list (compacted store recipes) recipes
-    list-same = same-list store (compacted store recipes) (λ key. contains key names) agrees newest list recipes (length out) all-named
+    list-same : searchJoinCode newest list store recipes clients (length out) ≡ 0
+        → directSearch list store recipes ≡ directSearch list (compacted store recipes) recipes
+    list-same = same-list store (compacted store recipes) (λ key. contains key names) agrees newest list recipes clients (length out) all-named
 
-    number-same : searchedCode (searchOutcome newest list store recipes indexRoom (length out))
-        ≡ searchedCode (searchOutcome newest list (compacted store recipes) recipes indexRoom₂ (length out))
+    number-same : searchedCode (searchOutcome newest list store recipes clients indexRoom (length out))
+        ≡ searchedCode (searchOutcome newest list (compacted store recipes) recipes clients indexRoom₂ (length out))
     unfolding searchOutcome
-    number-same = rw (a, b, join-same) (found-code _ _ _ _ (searchJoinCode newest list (compacted store recipes) recipes (length out)))
+    number-same = rw (a, b, join-same) (found-code _ _ _ _ (searchJoinCode newest list (compacted store recipes) recipes clients (length out)))
 
-    count-same : searchedCount (searchOutcome newest list store recipes indexRoom (length out))
-        ≡ searchedCount (searchOutcome newest list (compacted store recipes) recipes indexRoom₂ (length out))
+    count-same : searchedCount (searchOutcome newest list store recipes clients indexRoom (length out))
+        ≡ searchedCount (searchOutcome newest list (compacted store recipes) recipes clients indexRoom₂ (length out))
     unfolding searchOutcome
     count-same =
         rw (a, b, join-same)
-        (found-count _ _ _ _ (searchJoinCode newest list (compacted store recipes) recipes (length out)) (λ z. ap length (list-same (join-same ∙ z))))
+        (found-count _ _ _ _ (searchJoinCode newest list (compacted store recipes) recipes clients (length out)) (λ z. ap length (list-same (join-same ∙ z))))
 
-    bytes-same : searchBuffer newest list store recipes indexRoom out ≡ searchBuffer newest list (compacted store recipes) recipes indexRoom₂ out
+    bytes-same : searchBuffer newest list store recipes clients indexRoom out
+        ≡ searchBuffer newest list (compacted store recipes) recipes clients indexRoom₂ out
     unfolding searchBuffer searchCode
     bytes-same =
         rw (a, b)
         (buffer-same _ _ _ _ out (ap (λ (n : ℕ). firstOf (whole n ∷ [])) join-same)
         (λ z. ap (λ (l : List Occurrence). written out (listBytes l)) (list-same (join-same ∙ passed-whole _ _ z .0))))
+
+    tally-same : searchTally newest list store recipes clients indexRoom (length out)
+        ≡ searchTally newest list (compacted store recipes) recipes clients indexRoom₂ (length out)
+    unfolding searchTally searchCode
+    tally-same =
+        rw (a, b)
+        (buffer-same _ _ _ _ (clients .tally) (ap (λ (n : ℕ). firstOf (whole n ∷ [])) join-same)
+        (λ z. ap (tallyWith clients) (list-same (join-same ∙ passed-whole _ _ z .0))))
 
   -- ---- no other store is shorter
 
@@ -402,23 +414,26 @@ compaction store recipes e =
       accepted = compacted-accepted store recipes e;
       chunks = chunks-read store recipes e;
       again = compacted-again store recipes e;
-      calls = λ list buffer out scan join buffer′ index out′ c buffer₂ out₂ scan₂ join₂ buffer₂′ index₂ out₂′ c₂ w l.
+      calls = λ list clients buffer out scan join buffer′ index out′ tally′ c buffer₂ out₂ scan₂ join₂ buffer₂′ index₂ out₂′ tally₂′ c₂ w l.
           rw (
-            join-is list store recipes buffer out scan join buffer′ index out′ c,
-            join-is list new recipes buffer₂ out₂ scan₂ join₂ buffer₂′ index₂ out₂′ c₂,
-            buffer-is list store recipes buffer out scan join buffer′ index out′ c,
-            buffer-is list new recipes buffer₂ out₂ scan₂ join₂ buffer₂′ index₂ out₂′ c₂,
+            join-is list store recipes clients buffer out scan join buffer′ index out′ tally′ c,
+            join-is list new recipes clients buffer₂ out₂ scan₂ join₂ buffer₂′ index₂ out₂′ tally₂′ c₂,
+            buffer-is list store recipes clients buffer out scan join buffer′ index out′ tally′ c,
+            buffer-is list new recipes clients buffer₂ out₂ scan₂ join₂ buffer₂′ index₂ out₂′ tally₂′ c₂,
+            tally-is list store recipes clients buffer out scan join buffer′ index out′ tally′ c,
+            tally-is list new recipes clients buffer₂ out₂ scan₂ join₂ buffer₂′ index₂ out₂′ tally₂′ c₂,
           )
           (agreed-joins store new (λ key. contains key (namedIn recipes)) (agrees store recipes e) list buffer buffer₂
           (sym (scan-number list store (length buffer)) ∙ ap scannedCode (sym (c .scanned)) ∙ w .0)
           (sym (scan-number list new (length buffer₂)) ∙ ap scannedCode (sym (c₂ .scanned)) ∙ w .1)
-          recipes (all-named store recipes e) out out₂ l);
-      search = λ list indexRoom indexRoom₂ a b out.
+          recipes (all-named store recipes e) clients out out₂ l);
+      search = λ list clients indexRoom indexRoom₂ a b out.
           let s = sym (scan-number list store indexRoom) ∙ a in
           let t = sym (scan-number list new indexRoom₂) ∙ b in (
-            number-same store recipes e list indexRoom indexRoom₂ s t out,
-            count-same store recipes e list indexRoom indexRoom₂ s t out,
-            bytes-same store recipes e list indexRoom indexRoom₂ s t out,
+            number-same store recipes e list clients indexRoom indexRoom₂ s t out,
+            count-same store recipes e list clients indexRoom indexRoom₂ s t out,
+            bytes-same store recipes e list clients indexRoom indexRoom₂ s t out,
+            tally-same store recipes e list clients indexRoom indexRoom₂ s t out,
           );
       queries = λ list buffer buffer₂ a b.
           agreed-queries store new (λ key. contains key (namedIn recipes)) (agrees store recipes e) list buffer buffer₂

@@ -20,12 +20,12 @@ use Rattle.spec.specs.Store.{storeLayout, storeKeys, storeCode}
 use Rattle.spec.specs.Form.{newest, formOf}
 use Rattle.spec.specs.Recipes.{filesOf}
 use Rattle.spec.specs.Index.{indexLayout, indexKeys, indexCode}
-use Rattle.spec.specs.Join.{Occurrence, keywordAt, joinList, listBytes, readList, joinCode, joinOutcome, joinBuffer}
+use Rattle.spec.specs.Join.{Occurrence, keywordAt, Clients, tallyWith, joinList, listBytes, readList, joinCode, joinOutcome, joinBuffer, joinTally}
 use Rattle.spec.specs.Query.{queryLines, linesBytes, queryCode, queryOutcome, queryBuffer}
 use Rattle.spec.specs.Lookup.{lookupCode, lookupStart, lookupLength, findChunk, chunkStart, chunkLength, chunkOf, findBody, bodyStart, bodyLength, bodyOf}
 use Rattle.spec.specs.Trie.{scanMoves}
 use Rattle.spec.specs.Scan.{scanIndex, scanCode, scanOutcome, withMoves, scanAnswer, scanBuffer, scannedCode, scannedLength}
-use Rattle.spec.specs.Search.{restored, directSearch, searchJoinCode, searchCode, searchOutcome, searchBuffer, searchedCode}
+use Rattle.spec.specs.Search.{restored, directSearch, searchJoinCode, searchCode, searchOutcome, searchBuffer, searchTally, searchedCode}
 use Rattle.spec.specs.Compact.{compacted, compactCode, compactOutcome, compactBuffer}
 use Rattle.spec.proofs.Codes.{answer-done, answer-refused, buffer-done, buffer-refused}
 use Rattle.spec.proofs.Tests.{and-left, and-right}
@@ -35,7 +35,7 @@ use Rattle.spec.proofs.ScanLaws.{newest-scans, scan-form}
 use Rattle.theory.specs.SearchList.{isIn, inOrder, occursIn}
 use Rattle.theory.specs.RecordSets.{Says, scannedRecords}
 use Rattle.theory.specs.Demand3.{restoredFiles, scanned}
-use Rattle.theory.specs.Demands.{Answered, ScanAnswered, LookupAnswered, Demand1, Demand2, StandsIn, Calls, Claim, Demand3}
+use Rattle.theory.specs.Demands.{Answered, Tallied, ScanAnswered, LookupAnswered, Demand1, Demand2, StandsIn, Calls, Claim, Demand3}
 use Rattle.theory.proofs.Demand3.{code-of-answer, value-of-answer, scan-number, scanned-is, scan-and-join}
 use Rattle.theory.proofs.SearchList.{order-once}
 use Rattle.theory.proofs.IndexTheorems.{scan-says}
@@ -51,6 +51,13 @@ answered code value worked buffer =
     record {
       done = λ e. (sym (answer-done code value e), sym (buffer-done code worked buffer e));
       refused = λ d. (sym (answer-refused code value d), sym (buffer-refused code worked buffer d));
+    }
+
+tallied : (code : ℕ) (clients : Clients) (list : List Occurrence) → Tallied code clients list (unlessRefused code (tallyWith clients list) (clients .tally))
+tallied code clients list =
+    record {
+      done = λ e. sym (buffer-done code (tallyWith clients list) (clients .tally) e);
+      refused = λ d. sym (buffer-refused code (tallyWith clients list) (clients .tally) d);
     }
 
 -- the scan's, with its moves
@@ -73,11 +80,11 @@ by-cases zero (suc j) size count = rw (ne-eqb (suc j) 0 (not-zero j), lt-ltb 0 (
 by-cases (suc s) j size count = rw (ne-eqb (suc s) 0 (not-zero s), lt-ltb 0 (suc s) (omega arith))
 
 -- the number of a search is the scan's, or where that is 0 the join's
-pub searched-code : (list store recipes : List ℕ) (indexRoom room : ℕ)
-    → searchedCode (searchOutcome newest list store recipes indexRoom room) ≡ searchCode newest list store recipes indexRoom room
+pub searched-code : (list store recipes : List ℕ) (clients : Clients) (indexRoom room : ℕ)
+    → searchedCode (searchOutcome newest list store recipes clients indexRoom room) ≡ searchCode newest list store recipes clients indexRoom room
 unfolding searchOutcome searchCode
-searched-code list store recipes indexRoom room =
-    by-cases (scanCode newest list store indexRoom) (searchJoinCode newest list store recipes room) (length (scanIndex newest list store))
+searched-code list store recipes clients indexRoom room =
+    by-cases (scanCode newest list store indexRoom) (searchJoinCode newest list store recipes clients room) (length (scanIndex newest list store))
     (length (directSearch list store recipes))
 
 lookup-answered : (code : ℕ) (layout : Layout) (bytes : List ℕ) (keys : List (List ℕ)) (key : List ℕ)
@@ -87,22 +94,24 @@ lookup-answered code layout bytes keys key =
     record { empty = λ d. (rw (ne-eqb (lookupCode code keys key) 0 d), rw (ne-eqb (lookupCode code keys key) 0 d)) }
 
 pub demand-1 : Demand1
-unfolding scanBuffer joinOutcome joinBuffer queryOutcome queryBuffer searchBuffer compactOutcome compactBuffer findChunk chunkStart chunkLength chunkOf findBody bodyStart bodyLength bodyOf
+unfolding scanBuffer joinOutcome joinBuffer joinTally queryOutcome queryBuffer searchBuffer searchTally compactOutcome compactBuffer findChunk chunkStart chunkLength chunkOf findBody bodyStart bodyLength bodyOf
 demand-1 =
     record {
       scan = scan-answered;
-      join = λ index recipes buffer.
-          answered (joinCode (formOf index) index recipes (length buffer)) (length (joinList (formOf index) index recipes))
+      join = λ index recipes clients buffer.
+          answered (joinCode (formOf index) index recipes clients (length buffer)) (length (joinList (formOf index) index recipes))
           (written buffer (listBytes (joinList (formOf index) index recipes))) buffer;
+      tallies = λ index recipes clients room. tallied (joinCode (formOf index) index recipes clients room) clients (joinList (formOf index) index recipes);
       query = λ index recipes query buffer.
           answered (queryCode (formOf index) index recipes query (length buffer)) (length (queryLines (formOf index) index recipes query))
           (written buffer (linesBytes (queryLines (formOf index) index recipes query))) buffer;
-      search = λ list store recipes index out. record {
-        number = searched-code list store recipes (length index) (length out);
+      search = λ list store recipes clients index out. record {
+        number = searched-code list store recipes clients (length index) (length out);
         listKept = λ d.
-            sym (buffer-refused (searchCode newest list store recipes (length index) (length out))
+            sym (buffer-refused (searchCode newest list store recipes clients (length index) (length out))
             (written out (listBytes (directSearch list store recipes))) out d);
         indexKept = λ d. sym (buffer-refused (scanCode newest list store (length index)) (written index (scanIndex newest list store)) index d);
+        tallied = tallied (searchCode newest list store recipes clients (length index) (length out)) clients (directSearch list store recipes);
       };
       compact = λ store recipes buffer.
           answered (compactCode store recipes (length buffer)) (length (compacted store recipes)) (written buffer (compacted store recipes)) buffer;
@@ -189,32 +198,51 @@ module _ (list store recipes : List ℕ) (accept : keywordCode list ≡ 0) (o : 
         t,
       )
 
-module _ (list store recipes buffer out : List ℕ) where
+module _ (list store recipes : List ℕ) (clients : Clients) (buffer out : List ℕ) where
   abbrev scan : Scanned
   scan = scanAnswer newest list store (length buffer)
 
   abbrev join : Outcome
-  join = joinOutcome (formOf (scanned list store buffer)) (scanned list store buffer) recipes (length out)
+  join = joinOutcome (formOf (scanned list store buffer)) (scanned list store buffer) recipes clients (length out)
 
   abbrev after : List ℕ
-  after = joinBuffer (formOf (scanned list store buffer)) (scanned list store buffer) recipes out
+  after = joinBuffer (formOf (scanned list store buffer)) (scanned list store buffer) recipes clients out
+
+  abbrev tally : List ℕ
+  tally = joinTally (formOf (scanned list store buffer)) (scanned list store buffer) recipes clients (length out)
 
   claim-found : scannedCode scan ≡ 0 → codeOf join ≡ 0 → readList (valueOf join) after ≡ directSearch list store recipes
-  claim-found s j = scan-and-join list store recipes buffer out .join s .listed j
+  claim-found s j = scan-and-join list store recipes clients buffer out .join s .listed j
+
+  -- the number of the join's tests, said of the store, is that of its answer
+  claim-code : scannedCode scan ≡ 0 → codeOf join ≡ 0 → searchJoinCode newest list store recipes clients (length out) ≡ 0
+  claim-code s j =
+      let o = scan-and-join list store recipes clients buffer out .join s .outcome in
+      sym (ap codeOf o ∙ code-of-answer (searchJoinCode newest list store recipes clients (length out)) (length (directSearch list store recipes))) ∙ j
 
   claim-count : scannedCode scan ≡ 0 → codeOf join ≡ 0 → valueOf join ≡ length (directSearch list store recipes)
   claim-count s j =
-      let o = scan-and-join list store recipes buffer out .join s .outcome in
-      ap valueOf o
-      ∙ value-of-answer (searchJoinCode newest list store recipes (length out)) (length (directSearch list store recipes))
-      (sym (ap codeOf o ∙ code-of-answer (searchJoinCode newest list store recipes (length out)) (length (directSearch list store recipes))) ∙ j)
+      ap valueOf (scan-and-join list store recipes clients buffer out .join s .outcome)
+      ∙ value-of-answer (searchJoinCode newest list store recipes clients (length out)) (length (directSearch list store recipes)) (claim-code s j)
+
+  claim-tallied : scannedCode scan ≡ 0 → codeOf join ≡ 0 → tally ≡ tallyWith clients (directSearch list store recipes)
+  claim-tallied s j =
+      scan-and-join list store recipes clients buffer out .join s .tally
+      ∙ sym (buffer-done (searchJoinCode newest list store recipes clients (length out)) _ (clients .tally) (claim-code s j))
+
+  claim-kept : codeOf join ≢ 0 → tally ≡ clients .tally
+  unfolding joinOutcome joinTally
+  claim-kept d =
+      let index = scanned list store buffer in
+      let code = joinCode (formOf index) index recipes clients (length out) in
+      sym (buffer-refused code _ (clients .tally) (λ z. d (code-of-answer code (length (joinList (formOf index) index recipes)) ∙ z)))
 
   claim-ordered : scannedCode scan ≡ 0 → codeOf join ≡ 0 → inOrder (readList (valueOf join) after) ≡ true
-  claim-ordered s j = ap inOrder (claim-found s j) ∙ scan-and-join list store recipes buffer out .search .ordered
+  claim-ordered s j = ap inOrder (claim-found s j) ∙ scan-and-join list store recipes clients buffer out .search .ordered
 
-  claim-at : Claim list store recipes buffer out scan join after
+  claim-at : Claim list store recipes clients buffer out scan join after tally
   claim-at =
-      let w = scan-and-join list store recipes buffer out in
+      let w = scan-and-join list store recipes clients buffer out in
       record {
         both = (
           λ e. (w .scan .0 (e .0), w .join (e .0) .done .0 (e .1)),
@@ -233,17 +261,22 @@ module _ (list store recipes buffer out : List ℕ) where
             (omega (arith, h, claim-count s j, ap length (claim-found s j)));
         count = claim-count;
         found = claim-found;
+        tallied = claim-tallied;
+        tallyKept = claim-kept;
       }
 
 pub demand-3 : Demand3
 demand-3 = record { calls = of-calls }
   where
-    of-calls : (list store recipes buffer out : List ℕ) (scan : Scanned) (join : Outcome) (buffer′ index out′ : List ℕ)
-        → Calls list store recipes buffer out scan join buffer′ index out′ → Claim list store recipes buffer out scan join out′
-    of-calls list store recipes buffer out scan join buffer′ index out′ c =
+    of-calls : (list store recipes : List ℕ) (clients : Clients) (buffer out : List ℕ) (scan : Scanned) (join : Outcome)
+        (buffer′ index out′ tally′ : List ℕ) → Calls list store recipes clients buffer out scan join buffer′ index out′ tally′
+        → Claim list store recipes clients buffer out scan join out′ tally′
+    of-calls list store recipes clients buffer out scan join buffer′ index out′ tally′ c =
         let i : index ≡ scanned list store buffer = c .handed ∙ ap₂ (λ (a : Scanned) (b : List ℕ). take (scannedLength a) b) (c .scanned) (c .wrote) in
-        let j : join ≡ joinOutcome (formOf (scanned list store buffer)) (scanned list store buffer) recipes (length out) =
-        c .joined ∙ ap (λ (x : List ℕ). joinOutcome (formOf x) x recipes (length out)) i in
-        let o : out′ ≡ joinBuffer (formOf (scanned list store buffer)) (scanned list store buffer) recipes out =
-        c .listed ∙ ap (λ (x : List ℕ). joinBuffer (formOf x) x recipes out) i in
-        rw (c .scanned, j, o) (claim-at list store recipes buffer out)
+        let j : join ≡ joinOutcome (formOf (scanned list store buffer)) (scanned list store buffer) recipes clients (length out) =
+        c .joined ∙ ap (λ (x : List ℕ). joinOutcome (formOf x) x recipes clients (length out)) i in
+        let o : out′ ≡ joinBuffer (formOf (scanned list store buffer)) (scanned list store buffer) recipes clients out =
+        c .listed ∙ ap (λ (x : List ℕ). joinBuffer (formOf x) x recipes clients out) i in
+        let t : tally′ ≡ joinTally (formOf (scanned list store buffer)) (scanned list store buffer) recipes clients (length out) =
+        c .tallied ∙ ap (λ (x : List ℕ). joinTally (formOf x) x recipes clients (length out)) i in
+        rw (c .scanned, j, o, t) (claim-at list store recipes clients buffer out)

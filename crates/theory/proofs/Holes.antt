@@ -20,7 +20,7 @@ use Rattle.spec.specs.Store.{storeLayout, Chunk, chunkCount, storeKeys, storeBy
 use Rattle.spec.specs.Compact.{namedIn, namedAmong, compacted, compactableCode, compactCode, compactOutcome, compactBuffer, compactSize}
 use Rattle.spec.specs.Form.{newest, formOf}
 use Rattle.spec.specs.Index.{Entry, indexBytes}
-use Rattle.spec.specs.Join.{joinList, listBytes, joinCode, joinOutcome, joinBuffer, readList}
+use Rattle.spec.specs.Join.{Clients, oneClient, joinList, listBytes, joinCode, joinOutcome, joinBuffer, joinTally, readList}
 use Rattle.spec.specs.Lookup.{lookupCode, findChunk, chunkStart, chunkLength}
 use Rattle.spec.specs.Scan.{scanBody, scanEntry, scanIndex, scannableCode, scanCode, scanOutcome, sizeOutcome, scanAnswer, scanBuffer, scannedCode}
 use Rattle.spec.specs.Program.{listText, refusedText, searchText}
@@ -176,10 +176,10 @@ module _ (here there : List ℕ) (d : DifferInHoles here there) where
     text-same : (recipes : List ℕ) → searchText here list recipes ≡ searchText there list recipes
     unfolding searchText
     text-same recipes =
-        let same = same-search-code here there alike newest list recipes 65536 65536 65536 (code-same 65536) in
+        let same = same-search-code here there alike newest list recipes oneClient 65536 65536 65536 (code-same 65536) in
         ap (λ (n : ℕ). cond (eqb n 0) (listText (directSearch list here recipes)) (refusedText n)) same
-        ∙ picked (searchCode newest list there recipes 65536 65536)
-        (λ z. ap listText (same-chunks-direct here there alike newest list recipes 65536 65536 65536 (code-same 65536) (same ∙ z)))
+        ∙ picked (searchCode newest list there recipes oneClient 65536 65536)
+        (λ z. ap listText (same-chunks-direct here there alike newest list recipes oneClient 65536 65536 65536 (code-same 65536) (same ∙ z)))
       where
         picked : {a b : List ℕ} (n : ℕ) → (n ≡ 0 → a ≡ b) → cond (eqb n 0) a (refusedText n) ≡ cond (eqb n 0) b (refusedText n)
         picked zero h = h refl
@@ -303,59 +303,63 @@ list-front (suc n) x y e =
     part-of at w n h e = sym (front at w n x h) ∙ ap (λ (l : List ℕ). part l at w) e ∙ front at w n y h
 
 -- a join that does its work wrote its list
-join-wrote : (index recipes out : List ℕ) → joinCode (formOf index) index recipes (length out) ≡ 0
-    → joinBuffer (formOf index) index recipes out ≡ written out (listBytes (joinList (formOf index) index recipes))
+join-wrote : (index recipes : List ℕ) (clients : Clients) (out : List ℕ) → joinCode (formOf index) index recipes clients (length out) ≡ 0
+    → joinBuffer (formOf index) index recipes clients out ≡ written out (listBytes (joinList (formOf index) index recipes))
 unfolding joinBuffer
-join-wrote index recipes out e = sym (buffer-done (joinCode (formOf index) index recipes (length out)) _ out e)
+join-wrote index recipes clients out e = sym (buffer-done (joinCode (formOf index) index recipes clients (length out)) _ out e)
 
 -- two joins of one index into list buffers of equal length
-joins-alike : (index recipes out out₂ : List ℕ) → length out ≡ length out₂
+joins-alike : (index recipes : List ℕ) (clients : Clients) (out out₂ : List ℕ) → length out ≡ length out₂
     → JoinsAlike out out₂
-    (joinOutcome (formOf index) index recipes (length out)) (joinOutcome (formOf index) index recipes (length out₂))
-    (joinBuffer (formOf index) index recipes out) (joinBuffer (formOf index) index recipes out₂)
+    (joinOutcome (formOf index) index recipes clients (length out)) (joinOutcome (formOf index) index recipes clients (length out₂))
+    (joinBuffer (formOf index) index recipes clients out) (joinBuffer (formOf index) index recipes clients out₂)
+    (joinTally (formOf index) index recipes clients (length out)) (joinTally (formOf index) index recipes clients (length out₂))
 unfolding joinOutcome
-joins-alike index recipes out out₂ l =
-    let o : joinOutcome (formOf index) index recipes (length out) ≡ joinOutcome (formOf index) index recipes (length out₂) =
-    ap (joinOutcome (formOf index) index recipes) l in
+joins-alike index recipes clients out out₂ l =
+    let o : joinOutcome (formOf index) index recipes clients (length out) ≡ joinOutcome (formOf index) index recipes clients (length out₂) =
+    ap (joinOutcome (formOf index) index recipes clients) l in
     let os = joinList (formOf index) index recipes in
     record {
       answers = o;
       listed = λ z.
-          let code : joinCode (formOf index) index recipes (length out) ≡ 0 = sym (code-of-answer _ (length os)) ∙ z in
-          let code₂ : joinCode (formOf index) index recipes (length out₂) ≡ 0 = sym (code-of-answer _ (length os)) ∙ ap codeOf (sym o) ∙ z in
-          let n = value-of-answer (joinCode (formOf index) index recipes (length out)) (length os) code in
-          let n₂ = value-of-answer (joinCode (formOf index) index recipes (length out₂)) (length os) code₂ in
-          ap (λ (k : ℕ). readList k (joinBuffer (formOf index) index recipes out)) n
-          ∙ list-front (length os) _ _ (listed-front index recipes out code ∙ sym (listed-front index recipes out₂ code₂))
-          ∙ ap (λ (k : ℕ). readList k (joinBuffer (formOf index) index recipes out₂)) (sym n₂);
-      kept = λ h. (join-kept index recipes out h, join-kept index recipes out₂ (λ z. h (ap codeOf o ∙ z)));
-      bytes = λ p. ap (joinBuffer (formOf index) index recipes) p;
+          let code : joinCode (formOf index) index recipes clients (length out) ≡ 0 = sym (code-of-answer _ (length os)) ∙ z in
+          let code₂ : joinCode (formOf index) index recipes clients (length out₂) ≡ 0 = sym (code-of-answer _ (length os)) ∙ ap codeOf (sym o) ∙ z in
+          let n = value-of-answer (joinCode (formOf index) index recipes clients (length out)) (length os) code in
+          let n₂ = value-of-answer (joinCode (formOf index) index recipes clients (length out₂)) (length os) code₂ in
+          ap (λ (k : ℕ). readList k (joinBuffer (formOf index) index recipes clients out)) n
+          ∙ list-front (length os) _ _ (listed-front index recipes clients out code ∙ sym (listed-front index recipes clients out₂ code₂))
+          ∙ ap (λ (k : ℕ). readList k (joinBuffer (formOf index) index recipes clients out₂)) (sym n₂);
+      kept = λ h. (join-kept index recipes clients out h, join-kept index recipes clients out₂ (λ z. h (ap codeOf o ∙ z)));
+      tallies = ap (joinTally (formOf index) index recipes clients) l;
+      bytes = λ p. ap (joinBuffer (formOf index) index recipes clients) p;
     }
   where
-    listed-front : (index recipes out : List ℕ) → joinCode (formOf index) index recipes (length out) ≡ 0
-        → take (9 * length (joinList (formOf index) index recipes)) (joinBuffer (formOf index) index recipes out)
+    listed-front : (index recipes : List ℕ) (clients : Clients) (out : List ℕ) → joinCode (formOf index) index recipes clients (length out) ≡ 0
+        → take (9 * length (joinList (formOf index) index recipes)) (joinBuffer (formOf index) index recipes clients out)
         ≡ listBytes (joinList (formOf index) index recipes)
-    listed-front index recipes out e =
+    listed-front index recipes clients out e =
         let os = joinList (formOf index) index recipes in
-        ap₂ take (sym (length-list os)) (join-wrote index recipes out e) ∙ written-front out (listBytes os)
+        ap₂ take (sym (length-list os)) (join-wrote index recipes clients out e) ∙ written-front out (listBytes os)
 
--- REQUEST #106 of four calls: a scan and a join on each of the two stores, with the same keyword list and recipes.
-pub same-calls-beside-holes : (list here there recipes : List ℕ) → DifferInHoles here there
-    → (buffer out : List ℕ) (scan : Scanned) (join : Outcome) (buffer′ index out′ : List ℕ) → Calls list here recipes buffer out scan join buffer′ index out′
-    → (buffer₂ out₂ : List ℕ) (scan₂ : Scanned) (join₂ : Outcome) (buffer₂′ index₂ out₂′ : List ℕ)
-    → Calls list there recipes buffer₂ out₂ scan₂ join₂ buffer₂′ index₂ out₂′
-    → SameCallsBesideHoles buffer buffer₂ out out₂ scan scan₂ join join₂ buffer′ buffer₂′ index index₂ out′ out₂′
-same-calls-beside-holes list here there recipes d buffer out scan join buffer′ index out′ c buffer₂ out₂ scan₂ join₂ buffer₂′ index₂ out₂′ c₂ =
+-- REQUEST #106 of four calls: a scan and a join on each of the two stores, with the same keyword list, recipes and key, and tallies that are equal at entry.
+pub same-calls-beside-holes : (list here there recipes : List ℕ) (clients : Clients) → DifferInHoles here there
+    → (buffer out : List ℕ) (scan : Scanned) (join : Outcome) (buffer′ index out′ tally′ : List ℕ)
+    → Calls list here recipes clients buffer out scan join buffer′ index out′ tally′
+    → (buffer₂ out₂ : List ℕ) (scan₂ : Scanned) (join₂ : Outcome) (buffer₂′ index₂ out₂′ tally₂′ : List ℕ)
+    → Calls list there recipes clients buffer₂ out₂ scan₂ join₂ buffer₂′ index₂ out₂′ tally₂′
+    → SameCallsBesideHoles buffer buffer₂ out out₂ scan scan₂ join join₂ buffer′ buffer₂′ index index₂ out′ out₂′ tally′ tally₂′
+same-calls-beside-holes list here there recipes clients d buffer out scan join buffer′ index out′ tally′ c
+    buffer₂ out₂ scan₂ join₂ buffer₂′ index₂ out₂′ tally₂′ c₂ =
     let s = same-beside-holes list here there d in
     let indexes : length buffer ≡ length buffer₂ → index ≡ index₂ = λ l.
-    index-is list here recipes buffer out scan join buffer′ index out′ c ∙ s .index buffer buffer₂ l
-    ∙ sym (index-is list there recipes buffer₂ out₂ scan₂ join₂ buffer₂′ index₂ out₂′ c₂) in
+    index-is list here recipes clients buffer out scan join buffer′ index out′ tally′ c ∙ s .index buffer buffer₂ l
+    ∙ sym (index-is list there recipes clients buffer₂ out₂ scan₂ join₂ buffer₂′ index₂ out₂′ tally₂′ c₂) in
     record {
       scans = λ l. c .scanned ∙ ap (scanAnswer newest list here) l ∙ s .scan (length buffer₂) ∙ sym (c₂ .scanned);
       indexes = indexes;
       buffers = λ p. c .wrote ∙ ap (scanBuffer newest list here) p ∙ s .buffer buffer₂ ∙ sym (c₂ .wrote);
       joins = λ l m.
-          rw (c .joined, c .listed, c₂ .joined, c₂ .listed, indexes l) (joins-alike index₂ recipes out out₂ m);
+          rw (c .joined, c .listed, c .tallied, c₂ .joined, c₂ .listed, c₂ .tallied, indexes l) (joins-alike index₂ recipes clients out out₂ m);
     }
 
 -- ---- cases

@@ -6,6 +6,7 @@ pub mod PlaceText
 pub mod IndexTheorems
 pub mod ScanThenJoin
 pub mod Demand3
+pub mod Tallies
 pub mod RecordTheorems
 pub mod ListRead
 pub mod QueryLines

@@ -9,13 +9,13 @@ use lib.Dec.{eqb, ltb}
 use lib.ListN.{length, take, drop}
 use borrow.Author.Tests.{eqb-true}
 use Rattle.spec.specs.Bytes.{largest32, same, contains, twice, member, every, sum}
-use Rattle.spec.specs.Keywords.{countOf, listSize, foldedKeywords, readCode, headerWrong, keywordCode, keywordFrontCode}
+use Rattle.spec.specs.Keywords.{countOf, listSize, keywordsOf, foldedKeywords, readCode, headerWrong, keywordCode, keywordFrontCode}
 use Rattle.spec.specs.Directory.{Layout, directoryEnd, sizeAt, offsetAt, lengthAt, entriesCode}
 use Rattle.spec.specs.Store.{storeMark, storeLayout, chunkCount, mostChunks, storeKeys, storeCode, chunkEnd, chunksCode}
 use Rattle.spec.specs.Form.{Form, newest, formOf}
 use Rattle.spec.specs.Index.{listIn, lengthsIn, indexLayout, indexKeys, allGood, headerCode, directoryCode, laidCode, indexCode}
 use Rattle.spec.specs.Recipes.{mostFiles, fileCount, filesWhole, innerLong, sizesIn, filesOf, recipesCode, fileCode, filesCode}
-use Rattle.spec.specs.Join.{joinList, innerLeast, joinableCode, joinCode}
+use Rattle.spec.specs.Join.{Occurrence, Clients, isKey, fit64, tallyWith, clientsCode, joinList, innerLeast, joinableCode, joinCode}
 use Rattle.spec.specs.Query.{queryLines, lineSize, isQuery, queryableCode, queryCode}
 use Rattle.spec.specs.Lookup.{lookupCode, findChunk, findBody}
 use Rattle.spec.specs.Scan.{scanIndex, scannableCode, scanCode}
@@ -184,6 +184,15 @@ scan-number f list store room =
     (whole-in ofScan (storeCode store) 0 (wider (storeCode store) ofStore ofScan refl (store-number store)) refl))
     (test-in ofScan (ltb room n || ltb largest32 n) 9 0 refl refl)
 
+-- the clients' key and tally: 22 and 23
+abbrev ofClients : List ℕ
+ofClients = 0 ∷ 22 ∷ 23 ∷ []
+
+clients-number : (n : ℕ) (clients : Clients) (found : List Occurrence) → member (clientsCode n clients found) ofClients ≡ true
+unfolding clientsCode
+clients-number n clients found =
+    test-in ofClients (not (isKey n (clients .key))) 22 _ refl (test-in ofClients (not (fit64 (tallyWith clients found))) 23 0 refl refl)
+
 -- the numbers of the files' tests are among those of the whole
 module _ (numbers : List ℕ) (has : every (λ x. member x numbers) (14 ∷ 18 ∷ ofIndex) ≡ true) where
   joinable-number : (f : Form) (index recipes : List ℕ)
@@ -198,14 +207,17 @@ module _ (numbers : List ℕ) (has : every (λ x. member x numbers) (14 ∷ 18 �
       (whole-in numbers (filesCode (indexKeys index) (sizeAt (indexLayout index) index) (innerLeast f (listIn index)) (filesOf recipes)) 0 files
       (wider 0 (14 ∷ 18 ∷ ofIndex) numbers has refl)))
 
-  join-number : (f : Form) (index recipes : List ℕ) (room : ℕ)
+  join-number : (f : Form) (index recipes : List ℕ) (clients : Clients) (room : ℕ) → every (λ x. member x numbers) ofClients ≡ true
       → member (filesCode (indexKeys index) (sizeAt (indexLayout index) index) (innerLeast f (listIn index)) (filesOf recipes)) numbers ≡ true
-      → member (joinCode f index recipes room) numbers ≡ true
+      → member (joinCode f index recipes clients room) numbers ≡ true
   unfolding joinCode
-  join-number f index recipes room files =
+  join-number f index recipes clients room more files =
+      let last = clientsCode (length (keywordsOf (listIn index))) clients (joinList f index recipes) in
       whole-in numbers (joinableCode f index recipes) _ (joinable-number f index recipes files)
-      (test-in numbers (ltb room (9 * length (joinList f index recipes))) 18 0 (wider 18 (14 ∷ 18 ∷ ofIndex) numbers has refl)
-      (wider 0 (14 ∷ 18 ∷ ofIndex) numbers has refl))
+      (test-in numbers (ltb room (9 * length (joinList f index recipes))) 18 _ (wider 18 (14 ∷ 18 ∷ ofIndex) numbers has refl)
+      (whole-in numbers last 0
+      (wider last ofClients numbers more (clients-number (length (keywordsOf (listIn index))) clients (joinList f index recipes)))
+      (wider 0 (14 ∷ 18 ∷ ofIndex) numbers has refl)))
 
   -- a query has 21 too
   query-number : (f : Form) (index recipes query : List ℕ) (room : ℕ) → member 21 numbers ≡ true
@@ -220,10 +232,10 @@ module _ (numbers : List ℕ) (has : every (λ x. member x numbers) (14 ∷ 18 �
       (test-in numbers (ltb room (lineSize query * length (queryLines f index recipes query))) 18 0 (wider 18 (14 ∷ 18 ∷ ofIndex) numbers has refl) zeroIn)
 
 abbrev ofJoin : List ℕ
-ofJoin = 0 ∷ 1 ∷ 2 ∷ 3 ∷ 4 ∷ 10 ∷ 11 ∷ 12 ∷ 13 ∷ 14 ∷ 15 ∷ 16 ∷ 17 ∷ 18 ∷ []
+ofJoin = 0 ∷ 1 ∷ 2 ∷ 3 ∷ 4 ∷ 10 ∷ 11 ∷ 12 ∷ 13 ∷ 14 ∷ 15 ∷ 16 ∷ 17 ∷ 18 ∷ 22 ∷ 23 ∷ []
 
 abbrev ofSetJoin : List ℕ
-ofSetJoin = 0 ∷ 1 ∷ 2 ∷ 3 ∷ 4 ∷ 10 ∷ 11 ∷ 12 ∷ 13 ∷ 14 ∷ 15 ∷ 16 ∷ 18 ∷ []
+ofSetJoin = 0 ∷ 1 ∷ 2 ∷ 3 ∷ 4 ∷ 10 ∷ 11 ∷ 12 ∷ 13 ∷ 14 ∷ 15 ∷ 16 ∷ 18 ∷ 22 ∷ 23 ∷ []
 
 abbrev ofQuery : List ℕ
 ofQuery = 0 ∷ 1 ∷ 2 ∷ 3 ∷ 4 ∷ 10 ∷ 11 ∷ 12 ∷ 13 ∷ 14 ∷ 15 ∷ 16 ∷ 17 ∷ 18 ∷ 21 ∷ []
@@ -244,11 +256,13 @@ module _ (f : Form) (index recipes numbers : List ℕ) where
   set-index-files has q =
       wider indexFiles ofSetFiles numbers has (set-files (indexKeys index) (sizeAt (indexLayout index) index) (filesOf recipes) f q (listIn index))
 
-any-join : (f : Form) (index recipes : List ℕ) (room : ℕ) → member (joinCode f index recipes room) ofJoin ≡ true
-any-join f index recipes room = join-number ofJoin refl f index recipes room (any-index-files f index recipes ofJoin refl)
+any-join : (f : Form) (index recipes : List ℕ) (clients : Clients) (room : ℕ) → member (joinCode f index recipes clients room) ofJoin ≡ true
+any-join f index recipes clients room = join-number ofJoin refl f index recipes clients room refl (any-index-files f index recipes ofJoin refl)
 
-set-join : (f : Form) (index recipes : List ℕ) (room : ℕ) → f .sets ≡ true → member (joinCode f index recipes room) ofSetJoin ≡ true
-set-join f index recipes room q = join-number ofSetJoin refl f index recipes room (set-index-files f index recipes ofSetJoin refl q)
+set-join : (f : Form) (index recipes : List ℕ) (clients : Clients) (room : ℕ) → f .sets ≡ true
+    → member (joinCode f index recipes clients room) ofSetJoin ≡ true
+set-join f index recipes clients room q =
+    join-number ofSetJoin refl f index recipes clients room refl (set-index-files f index recipes ofSetJoin refl q)
 
 any-query : (f : Form) (index recipes query : List ℕ) (room : ℕ) → member (queryCode f index recipes query room) ofQuery ≡ true
 any-query f index recipes query room = query-number ofQuery refl f index recipes query room refl (any-index-files f index recipes ofQuery refl)
@@ -258,20 +272,23 @@ set-query f index recipes query room q =
     query-number ofSetQuery refl f index recipes query room refl (set-index-files f index recipes ofSetQuery refl q)
 
 abbrev pub ofSearch : List ℕ
-ofSearch = 0 ∷ 1 ∷ 2 ∷ 3 ∷ 4 ∷ 5 ∷ 6 ∷ 7 ∷ 8 ∷ 9 ∷ 14 ∷ 15 ∷ 16 ∷ 18 ∷ 20 ∷ []
+ofSearch = 0 ∷ 1 ∷ 2 ∷ 3 ∷ 4 ∷ 5 ∷ 6 ∷ 7 ∷ 8 ∷ 9 ∷ 14 ∷ 15 ∷ 16 ∷ 18 ∷ 20 ∷ 22 ∷ 23 ∷ []
 
-search-number : (f : Form) → f .sets ≡ true → (list store recipes : List ℕ) (indexRoom room : ℕ)
-    → member (searchCode f list store recipes indexRoom room) ofSearch ≡ true
+search-number : (f : Form) → f .sets ≡ true → (list store recipes : List ℕ) (clients : Clients) (indexRoom room : ℕ)
+    → member (searchCode f list store recipes clients indexRoom room) ofSearch ≡ true
 unfolding searchCode searchJoinCode
-search-number f q list store recipes indexRoom room =
+search-number f q list store recipes clients indexRoom room =
+    let last = clientsCode (length (keywordsOf list)) clients (directSearch list store recipes) in
     let files = filesCode (storeKeys store) (sizeAt storeLayout store) (innerLeast f list) (filesOf recipes) in
     whole-in ofSearch (scanCode f list store indexRoom) _
     (wider (scanCode f list store indexRoom) ofScan ofSearch refl (scan-number f list store indexRoom))
-    (whole-in ofSearch (searchJoinCode f list store recipes room) 0
+    (whole-in ofSearch (searchJoinCode f list store recipes clients room) 0
     (whole-in ofSearch (recipesCode recipes) _ (wider (recipesCode recipes) ofRecipes ofSearch refl (recipes-number recipes))
     (whole-in ofSearch files _
     (wider files ofSetFiles ofSearch refl (set-files (storeKeys store) (sizeAt storeLayout store) (filesOf recipes) f q list))
-    (test-in ofSearch (ltb room (9 * length (directSearch list store recipes))) 18 0 refl refl))) refl)
+    (test-in ofSearch (ltb room (9 * length (directSearch list store recipes))) 18 _ refl
+    (whole-in ofSearch last 0
+    (wider last ofClients ofSearch refl (clients-number (length (keywordsOf list)) clients (directSearch list store recipes))) refl)))) refl)
 
 abbrev ofCompact : List ℕ
 ofCompact = 0 ∷ 5 ∷ 6 ∷ 7 ∷ 8 ∷ 9 ∷ 14 ∷ 15 ∷ 20 ∷ []

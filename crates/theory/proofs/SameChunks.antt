@@ -22,11 +22,11 @@ use Rattle.spec.specs.Store.{Chunk, storeLayout, chunkCount, storeKeys, chunkAt
 use Rattle.spec.specs.Form.{Form, newest, formOf}
 use Rattle.spec.specs.Index.{Entry, indexBytes, indexLayout, indexKeys, bodyAt, indexCode}
 use Rattle.spec.specs.Recipes.{filesOf}
-use Rattle.spec.specs.Join.{Occurrence, listBytes, joinOutcome, joinBuffer, readList}
+use Rattle.spec.specs.Join.{Occurrence, Clients, tallyWith, listBytes, joinOutcome, joinBuffer, joinTally, readList}
 use Rattle.spec.specs.Lookup.{lookupCode, lookupStart, lookupLength, findChunk, chunkStart, chunkLength, chunkOf, findBody, bodyStart, bodyLength, bodyOf}
 use Rattle.spec.specs.Trie.{movesOf, movesOfAll, scanMoves}
 use Rattle.spec.specs.Scan.{scanBody, scanEntry, scanIndex, scannableCode, scanCode, scanOutcome, withMoves, scanAnswer, scannedLength}
-use Rattle.spec.specs.Search.{chunkNamed, directSearch, searchJoinCode, searchCode, searchOutcome, searchBuffer, searchedCount}
+use Rattle.spec.specs.Search.{chunkNamed, directSearch, searchJoinCode, searchCode, searchOutcome, searchBuffer, searchTally, searchedCount}
 use Rattle.spec.proofs.Tests.{bool-cases, and-left, and-right}
 use Rattle.spec.proofs.Codes.{passed-whole, buffer-done}
 use Rattle.spec.proofs.Same.{same-eq}
@@ -43,7 +43,7 @@ use Rattle.theory.specs.Demands.{Calls}
 use Rattle.theory.specs.SameChunks.{sameChunk, among, heldBy, sameChunks, Reordered, AnswerAlike, SameChunks, SameCalls, SmallReordered}
 use Rattle.theory.proofs.AnyOrder.{weigh, weigh-le, weigh-same, weigh-one}
 use Rattle.theory.proofs.Agreeing.{knows, placeOf, place-in, join-kept, every-true, Agree, same-join-code, same-list}
-use Rattle.theory.proofs.Agreeing.{agreed-outcome, agreed-buffer, agreed-list, agreed-queries}
+use Rattle.theory.proofs.Agreeing.{agreed-outcome, agreed-buffer, agreed-tally, agreed-list, agreed-queries}
 use Rattle.theory.proofs.ScanThenJoin.{position-in, buffer-same}
 use Rattle.theory.proofs.Cases.{definitions}
 use Rattle.theory.proofs.Demand3.{code-of-answer, value-of-answer, scan-number, scanned-is, scanned-form, join-of-scan}
@@ -210,24 +210,26 @@ searched c zero n v w h = rw (h refl)
 searched c (suc j) n v w h = rw (ne-eqb (suc j) 0 (λ z. let y : ⊥ = omega arith in absurd y))
 
 -- where a search does its work, the list read from its buffer is the direct search's
-search-listed : (list store recipes : List ℕ) (indexRoom : ℕ) (out : List ℕ) → searchCode newest list store recipes indexRoom (length out) ≡ 0
-    → readList (searchedCount (searchOutcome newest list store recipes indexRoom (length out))) (searchBuffer newest list store recipes indexRoom out)
-    ≡ directSearch list store recipes
+search-listed : (list store recipes : List ℕ) (clients : Clients) (indexRoom : ℕ) (out : List ℕ)
+    → searchCode newest list store recipes clients indexRoom (length out) ≡ 0
+    → readList (searchedCount (searchOutcome newest list store recipes clients indexRoom (length out)))
+    (searchBuffer newest list store recipes clients indexRoom out) ≡ directSearch list store recipes
 unfolding searchCode searchOutcome searchBuffer
-search-listed list store recipes indexRoom out e =
+search-listed list store recipes clients indexRoom out e =
     let found = directSearch list store recipes in
     let p = passed-whole (scanCode newest list store indexRoom) _ e in
     let a : scanCode newest list store indexRoom ≡ 0 = p .0 in
-    let b : searchJoinCode newest list store recipes (length out) ≡ 0 = passed-whole (searchJoinCode newest list store recipes (length out)) _ (p .1) .0 in
-    let j = join-of-scan list store indexRoom a recipes (scanIndex newest list store) out refl in
-    let v = ap valueOf (j .outcome) ∙ value-of-answer (searchJoinCode newest list store recipes (length out)) (length found) b in
-    let c = ap codeOf (j .outcome) ∙ code-of-answer (searchJoinCode newest list store recipes (length out)) (length found) ∙ b in
-    let w = j .bytes ∙ sym (buffer-done (searchJoinCode newest list store recipes (length out)) (written out (listBytes found)) out b) in
-    let u = sym (buffer-done (searchCode newest list store recipes indexRoom (length out)) (written out (listBytes found)) out e) in
+    let b : searchJoinCode newest list store recipes clients (length out) ≡ 0 =
+    passed-whole (searchJoinCode newest list store recipes clients (length out)) _ (p .1) .0 in
+    let j = join-of-scan list store indexRoom a recipes clients (scanIndex newest list store) out refl in
+    let v = ap valueOf (j .outcome) ∙ value-of-answer (searchJoinCode newest list store recipes clients (length out)) (length found) b in
+    let c = ap codeOf (j .outcome) ∙ code-of-answer (searchJoinCode newest list store recipes clients (length out)) (length found) ∙ b in
+    let w = j .bytes ∙ sym (buffer-done (searchJoinCode newest list store recipes clients (length out)) (written out (listBytes found)) out b) in
+    let u = sym (buffer-done (searchCode newest list store recipes clients indexRoom (length out)) (written out (listBytes found)) out e) in
     ap₂ readList (found-count a b ∙ sym v) (u ∙ sym w) ∙ j .listed c
   where
-    found-count : scanCode newest list store indexRoom ≡ 0 → searchJoinCode newest list store recipes (length out) ≡ 0
-        → searchedCount (searchOutcome newest list store recipes indexRoom (length out)) ≡ length (directSearch list store recipes)
+    found-count : scanCode newest list store indexRoom ≡ 0 → searchJoinCode newest list store recipes clients (length out) ≡ 0
+        → searchedCount (searchOutcome newest list store recipes clients indexRoom (length out)) ≡ length (directSearch list store recipes)
     found-count a b = rw (a, b)
 
 module _ (store other : List ℕ) (a : Alike store other) where
@@ -287,37 +289,49 @@ module _ (store other : List ℕ) (a : Alike store other) where
   all-named : (recipes : List ℕ) → every (every (λ key. true)) (filesOf recipes) ≡ true
   all-named recipes = every-true (every (λ key. true)) (filesOf recipes) (λ file. every-true (λ key. true) file (λ key. refl))
 
-  module _ (f : Form) (list recipes : List ℕ) (room : ℕ) where
-    join-same : searchJoinCode f list store recipes room ≡ searchJoinCode f list other recipes room
-    join-same = same-join-code store other (λ key. true) agrees f list recipes room (all-named recipes)
+  module _ (f : Form) (list recipes : List ℕ) (clients : Clients) (room : ℕ) where
+    join-same : searchJoinCode f list store recipes clients room ≡ searchJoinCode f list other recipes clients room
+    join-same = same-join-code store other (λ key. true) agrees f list recipes clients room (all-named recipes)
 
-    list-same : searchJoinCode f list store recipes room ≡ 0 → directSearch list store recipes ≡ directSearch list other recipes
-    list-same = same-list store other (λ key. true) agrees f list recipes room (all-named recipes)
+    list-same : searchJoinCode f list store recipes clients room ≡ 0 → directSearch list store recipes ≡ directSearch list other recipes
+    list-same = same-list store other (λ key. true) agrees f list recipes clients room (all-named recipes)
 
     -- the scans are both done, or refused alike
     module _ (indexRoom indexRoom₂ : ℕ) (e : scanCode f list store indexRoom ≡ scanCode f list other indexRoom₂) where
-      pub same-chunks-search : searchOutcome f list store recipes indexRoom room ≡ searchOutcome f list other recipes indexRoom₂ room
+      pub same-chunks-search : searchOutcome f list store recipes clients indexRoom room ≡ searchOutcome f list other recipes clients indexRoom₂ room
       unfolding searchOutcome
       same-chunks-search =
           rw (e, same-index-length f list, join-same)
-          (searched (scanCode f list other indexRoom₂) (searchJoinCode f list other recipes room) (length (scanIndex f list other)) _ _
+          (searched (scanCode f list other indexRoom₂) (searchJoinCode f list other recipes clients room) (length (scanIndex f list other)) _ _
           (λ z. ap length (list-same (join-same ∙ z))))
 
-      pub same-search-code : searchCode f list store recipes indexRoom room ≡ searchCode f list other recipes indexRoom₂ room
+      pub same-search-code : searchCode f list store recipes clients indexRoom room ≡ searchCode f list other recipes clients indexRoom₂ room
       unfolding searchCode
       same-search-code = rw (e, join-same)
 
-      pub same-chunks-direct : searchCode f list store recipes indexRoom room ≡ 0 → directSearch list store recipes ≡ directSearch list other recipes
+      pub same-chunks-direct : searchCode f list store recipes clients indexRoom room ≡ 0 → directSearch list store recipes ≡ directSearch list other recipes
       unfolding searchCode
-      same-chunks-direct z = list-same (passed-whole (searchJoinCode f list store recipes room) _ (passed-whole (scanCode f list store indexRoom) _ z .1) .0)
+      same-chunks-direct z =
+          list-same (passed-whole (searchJoinCode f list store recipes clients room) _ (passed-whole (scanCode f list store indexRoom) _ z .1) .0)
 
-  module _ (f : Form) (list recipes out : List ℕ) (indexRoom indexRoom₂ : ℕ) (e : scanCode f list store indexRoom ≡ scanCode f list other indexRoom₂) where
-    pub same-chunks-search-buffer : searchBuffer f list store recipes indexRoom out ≡ searchBuffer f list other recipes indexRoom₂ out
+  module _ (f : Form) (list recipes : List ℕ) (clients : Clients) (indexRoom indexRoom₂ : ℕ)
+      (e : scanCode f list store indexRoom ≡ scanCode f list other indexRoom₂) where
+    pub same-chunks-search-buffer : (out : List ℕ)
+        → searchBuffer f list store recipes clients indexRoom out ≡ searchBuffer f list other recipes clients indexRoom₂ out
     unfolding searchBuffer
-    same-chunks-search-buffer =
-        let same-code = same-search-code f list recipes (length out) indexRoom indexRoom₂ e in
+    same-chunks-search-buffer out =
+        let same-code = same-search-code f list recipes clients (length out) indexRoom indexRoom₂ e in
         buffer-same _ _ _ _ out same-code
-        (λ z. ap (λ (l : List Occurrence). written out (listBytes l)) (same-chunks-direct f list recipes (length out) indexRoom indexRoom₂ e (same-code ∙ z)))
+        (λ z. ap (λ (l : List Occurrence). written out (listBytes l))
+        (same-chunks-direct f list recipes clients (length out) indexRoom indexRoom₂ e (same-code ∙ z)))
+
+    pub same-chunks-search-tally : (room : ℕ)
+        → searchTally f list store recipes clients indexRoom room ≡ searchTally f list other recipes clients indexRoom₂ room
+    unfolding searchTally
+    same-chunks-search-tally room =
+        let same-code = same-search-code f list recipes clients room indexRoom indexRoom₂ e in
+        buffer-same _ _ _ _ (clients .tally) same-code
+        (λ z. ap (tallyWith clients) (same-chunks-direct f list recipes clients room indexRoom indexRoom₂ e (same-code ∙ z)))
 
   -- ---- bodies, of two indexes that read as the stores' scans
 
@@ -370,6 +384,7 @@ module _ (store other : List ℕ) (a : Alike store other) where
           body = λ key. rw (form, other-form) (same-body newest list index otherIndex reads other-reads key);
           outcome = λ recipes. agreed-outcome store other (λ key. true) agrees list buffer buffer₂ e e₂ recipes (all-named recipes);
           bytes = λ recipes. agreed-buffer store other (λ key. true) agrees list buffer buffer₂ e e₂ recipes (all-named recipes);
+          tally = λ recipes. agreed-tally store other (λ key. true) agrees list buffer buffer₂ e e₂ recipes (all-named recipes);
           listed = λ recipes. agreed-list store other (λ key. true) agrees list buffer buffer₂ e e₂ recipes (all-named recipes);
           queries = λ recipes. agreed-queries store other (λ key. true) agrees list buffer buffer₂ e e₂ recipes (all-named recipes);
         }
@@ -394,15 +409,16 @@ alike-chunks list store other a =
           let c : scanCode newest list store indexRoom ≡ scanCode newest list other indexRoom₂ =
           sym (scan-number list store indexRoom) ∙ e ∙ scan-number list other indexRoom₂ in
           record {
-            outcome = λ recipes room. same-chunks-search store other a newest list recipes room indexRoom indexRoom₂ c;
-            bytes = λ recipes out. same-chunks-search-buffer store other a newest list recipes out indexRoom indexRoom₂ c;
-            listed = λ recipes out out₂ l z.
-                let z₂ : searchCode newest list other recipes indexRoom₂ (length out₂) ≡ 0 =
-                ap (searchCode newest list other recipes indexRoom₂) (sym l)
-                ∙ sym (same-search-code store other a newest list recipes (length out) indexRoom indexRoom₂ c) ∙ z in
-                search-listed list store recipes indexRoom out z
-                ∙ same-chunks-direct store other a newest list recipes (length out) indexRoom indexRoom₂ c z
-                ∙ sym (search-listed list other recipes indexRoom₂ out₂ z₂);
+            outcome = λ recipes clients room. same-chunks-search store other a newest list recipes clients room indexRoom indexRoom₂ c;
+            bytes = λ recipes clients. same-chunks-search-buffer store other a newest list recipes clients indexRoom indexRoom₂ c;
+            tally = λ recipes clients. same-chunks-search-tally store other a newest list recipes clients indexRoom indexRoom₂ c;
+            listed = λ recipes clients out out₂ l z.
+                let z₂ : searchCode newest list other recipes clients indexRoom₂ (length out₂) ≡ 0 =
+                ap (searchCode newest list other recipes clients indexRoom₂) (sym l)
+                ∙ sym (same-search-code store other a newest list recipes clients (length out) indexRoom indexRoom₂ c) ∙ z in
+                search-listed list store recipes clients indexRoom out z
+                ∙ same-chunks-direct store other a newest list recipes clients (length out) indexRoom indexRoom₂ c z
+                ∙ sym (search-listed list other recipes clients indexRoom₂ out₂ z₂);
           };
     }
 
@@ -413,15 +429,17 @@ same-chunks list store other r = alike-chunks list store other (stores-alike sto
 -- ---- the claim of calls
 
 -- of what the contracts say the calls do; it goes by the fields of `SameChunks` alone
-calls-alike : (list store other : List ℕ) → SameChunks list store other → (recipes buffer buffer₂ out out₂ : List ℕ)
+calls-alike : (list store other : List ℕ) → SameChunks list store other → (recipes : List ℕ) (clients : Clients) (buffer buffer₂ out out₂ : List ℕ)
     → SameCalls buffer buffer₂ out out₂
     (scanAnswer newest list store (length buffer)) (scanAnswer newest list other (length buffer₂))
-    (joinOutcome (formOf (scanned list store buffer)) (scanned list store buffer) recipes (length out))
-    (joinOutcome (formOf (scanned list other buffer₂)) (scanned list other buffer₂) recipes (length out₂))
+    (joinOutcome (formOf (scanned list store buffer)) (scanned list store buffer) recipes clients (length out))
+    (joinOutcome (formOf (scanned list other buffer₂)) (scanned list other buffer₂) recipes clients (length out₂))
     (scanned list store buffer) (scanned list other buffer₂)
-    (joinBuffer (formOf (scanned list store buffer)) (scanned list store buffer) recipes out)
-    (joinBuffer (formOf (scanned list other buffer₂)) (scanned list other buffer₂) recipes out₂)
-calls-alike list store other s recipes buffer buffer₂ out out₂ =
+    (joinBuffer (formOf (scanned list store buffer)) (scanned list store buffer) recipes clients out)
+    (joinBuffer (formOf (scanned list other buffer₂)) (scanned list other buffer₂) recipes clients out₂)
+    (joinTally (formOf (scanned list store buffer)) (scanned list store buffer) recipes clients (length out))
+    (joinTally (formOf (scanned list other buffer₂)) (scanned list other buffer₂) recipes clients (length out₂))
+calls-alike list store other s recipes clients buffer buffer₂ out out₂ =
     let index = scanned list store buffer in
     let index₂ = scanned list other buffer₂ in
     record {
@@ -430,46 +448,54 @@ calls-alike list store other s recipes buffer buffer₂ out out₂ =
       indexes = λ e. s .indexes buffer buffer₂ (e .0) (e .1);
       joins = λ e l.
           let a = s .indexes buffer buffer₂ (e .0) (e .1) in
-          let o : joinOutcome (formOf index) index recipes (length out) ≡ joinOutcome (formOf index₂) index₂ recipes (length out₂) =
-          a .outcome recipes (length out) ∙ ap (joinOutcome (formOf index₂) index₂ recipes) l in
+          let o : joinOutcome (formOf index) index recipes clients (length out) ≡ joinOutcome (formOf index₂) index₂ recipes clients (length out₂) =
+          a .outcome recipes clients (length out) ∙ ap (joinOutcome (formOf index₂) index₂ recipes clients) l in
           record {
             answers = o;
-            listed = a .listed recipes out out₂ l;
-            kept = λ d. (join-kept index recipes out d, join-kept index₂ recipes out₂ (λ z. d (ap codeOf o ∙ z)));
-            bytes = λ p. a .bytes recipes out ∙ ap (joinBuffer (formOf index₂) index₂ recipes) p;
+            listed = a .listed recipes clients out out₂ l;
+            kept = λ d. (join-kept index recipes clients out d, join-kept index₂ recipes clients out₂ (λ z. d (ap codeOf o ∙ z)));
+            tallies = a .tally recipes clients (length out) ∙ ap (joinTally (formOf index₂) index₂ recipes clients) l;
+            bytes = λ p. a .bytes recipes clients out ∙ ap (joinBuffer (formOf index₂) index₂ recipes clients) p;
           };
     }
 
--- the index that a join is handed, its answer and its buffer, of the scan alone
-module _ (list store recipes buffer out : List ℕ) (scan : Scanned) (join : Outcome) (buffer′ index out′ : List ℕ)
-    (c : Calls list store recipes buffer out scan join buffer′ index out′) where
+-- the index that a join is handed, its answer, its buffer and its tally, of the scan alone
+module _ (list store recipes : List ℕ) (clients : Clients) (buffer out : List ℕ) (scan : Scanned) (join : Outcome) (buffer′ index out′ tally′ : List ℕ)
+    (c : Calls list store recipes clients buffer out scan join buffer′ index out′ tally′) where
   pub index-is : index ≡ scanned list store buffer
   index-is = c .handed ∙ ap₂ (λ (a : Scanned) (b : List ℕ). take (scannedLength a) b) (c .scanned) (c .wrote)
 
-  pub join-is : join ≡ joinOutcome (formOf (scanned list store buffer)) (scanned list store buffer) recipes (length out)
-  join-is = c .joined ∙ ap (λ (x : List ℕ). joinOutcome (formOf x) x recipes (length out)) index-is
+  pub join-is : join ≡ joinOutcome (formOf (scanned list store buffer)) (scanned list store buffer) recipes clients (length out)
+  join-is = c .joined ∙ ap (λ (x : List ℕ). joinOutcome (formOf x) x recipes clients (length out)) index-is
 
-  pub buffer-is : out′ ≡ joinBuffer (formOf (scanned list store buffer)) (scanned list store buffer) recipes out
-  buffer-is = c .listed ∙ ap (λ (x : List ℕ). joinBuffer (formOf x) x recipes out) index-is
+  pub buffer-is : out′ ≡ joinBuffer (formOf (scanned list store buffer)) (scanned list store buffer) recipes clients out
+  buffer-is = c .listed ∙ ap (λ (x : List ℕ). joinBuffer (formOf x) x recipes clients out) index-is
 
--- Request #101 of four calls: a scan and a join on each of the two stores, with the same keyword list and recipes.
-pub same-chunks-of-calls : (list store other recipes : List ℕ) → Reordered store other
-    → (buffer out : List ℕ) (scan : Scanned) (join : Outcome) (buffer′ index out′ : List ℕ) → Calls list store recipes buffer out scan join buffer′ index out′
-    → (buffer₂ out₂ : List ℕ) (scan₂ : Scanned) (join₂ : Outcome) (buffer₂′ index₂ out₂′ : List ℕ)
-    → Calls list other recipes buffer₂ out₂ scan₂ join₂ buffer₂′ index₂ out₂′
-    → SameCalls buffer buffer₂ out out₂ scan scan₂ join join₂ index index₂ out′ out₂′
-same-chunks-of-calls list store other recipes r buffer out scan join buffer′ index out′ c buffer₂ out₂ scan₂ join₂ buffer₂′ index₂ out₂′ d =
+  pub tally-is : tally′ ≡ joinTally (formOf (scanned list store buffer)) (scanned list store buffer) recipes clients (length out)
+  tally-is = c .tallied ∙ ap (λ (x : List ℕ). joinTally (formOf x) x recipes clients (length out)) index-is
+
+-- Request #101 of four calls: a scan and a join on each of the two stores, with the same keyword list, recipes and key, and tallies that are equal at entry.
+pub same-chunks-of-calls : (list store other recipes : List ℕ) (clients : Clients) → Reordered store other
+    → (buffer out : List ℕ) (scan : Scanned) (join : Outcome) (buffer′ index out′ tally′ : List ℕ)
+    → Calls list store recipes clients buffer out scan join buffer′ index out′ tally′
+    → (buffer₂ out₂ : List ℕ) (scan₂ : Scanned) (join₂ : Outcome) (buffer₂′ index₂ out₂′ tally₂′ : List ℕ)
+    → Calls list other recipes clients buffer₂ out₂ scan₂ join₂ buffer₂′ index₂ out₂′ tally₂′
+    → SameCalls buffer buffer₂ out out₂ scan scan₂ join join₂ index index₂ out′ out₂′ tally′ tally₂′
+same-chunks-of-calls list store other recipes clients r buffer out scan join buffer′ index out′ tally′ c
+    buffer₂ out₂ scan₂ join₂ buffer₂′ index₂ out₂′ tally₂′ d =
     rw (
       c .scanned,
       d .scanned,
-      index-is list store recipes buffer out scan join buffer′ index out′ c,
-      index-is list other recipes buffer₂ out₂ scan₂ join₂ buffer₂′ index₂ out₂′ d,
-      join-is list store recipes buffer out scan join buffer′ index out′ c,
-      join-is list other recipes buffer₂ out₂ scan₂ join₂ buffer₂′ index₂ out₂′ d,
-      buffer-is list store recipes buffer out scan join buffer′ index out′ c,
-      buffer-is list other recipes buffer₂ out₂ scan₂ join₂ buffer₂′ index₂ out₂′ d,
+      index-is list store recipes clients buffer out scan join buffer′ index out′ tally′ c,
+      index-is list other recipes clients buffer₂ out₂ scan₂ join₂ buffer₂′ index₂ out₂′ tally₂′ d,
+      join-is list store recipes clients buffer out scan join buffer′ index out′ tally′ c,
+      join-is list other recipes clients buffer₂ out₂ scan₂ join₂ buffer₂′ index₂ out₂′ tally₂′ d,
+      buffer-is list store recipes clients buffer out scan join buffer′ index out′ tally′ c,
+      buffer-is list other recipes clients buffer₂ out₂ scan₂ join₂ buffer₂′ index₂ out₂′ tally₂′ d,
+      tally-is list store recipes clients buffer out scan join buffer′ index out′ tally′ c,
+      tally-is list other recipes clients buffer₂ out₂ scan₂ join₂ buffer₂′ index₂ out₂′ tally₂′ d,
     )
-    (calls-alike list store other (same-chunks list store other r) recipes buffer buffer₂ out out₂)
+    (calls-alike list store other (same-chunks list store other r) recipes clients buffer buffer₂ out out₂)
 
 -- ---- the small vault in another order
 

@@ -1,5 +1,6 @@
 -- A join of the index that a scan wrote answers what the store says: its tests 15 to 17 read the store's fingerprints and lengths, and where they
--- pass, its list is the direct search (theorem 1). Where one refuses the lists may differ, but the number is decided before. Assumes nothing.
+-- pass, its list is the direct search (theorem 1), and so are 18, 22, 23 and the tally. Where one refuses the lists may differ, but the number is decided
+-- before. Assumes nothing.
 use mathlib.Core.Path.{_≡_, refl, sym, ap, _∙_}
 use mathlib.Core.Logic.{_⊎_, inl, inr}
 use mathlib.Core.Bool.{Bool, true, false, not}
@@ -17,7 +18,8 @@ use Rattle.spec.specs.Store.{storeLayout, chunkCount, storeKeys}
 use Rattle.spec.specs.Form.{Form}
 use Rattle.spec.specs.Index.{listIn, indexLayout, indexKeys}
 use Rattle.spec.specs.Recipes.{innerLong, sizesIn, fileCode, filesCode, filesOf, recipesCode}
-use Rattle.spec.specs.Join.{Occurrence, fileRecords, joinList, listBytes, innerLeast, joinableCode, joinCode, joinOutcome, joinBuffer}
+use Rattle.spec.specs.Join.{Occurrence, Clients, clientsCode, tallyWith, fileRecords, joinList, listBytes, innerLeast, joinableCode, joinCode, joinOutcome}
+use Rattle.spec.specs.Join.{joinBuffer, joinTally}
 use Rattle.spec.specs.Scan.{scanRecords}
 use Rattle.spec.specs.Search.{chunkNamed, restored, directSearch, searchJoinCode, occurrencesInAll}
 use Rattle.spec.proofs.Tests.{bool-cases}
@@ -151,44 +153,58 @@ module _ (f : Form) (list store index : List ℕ) (accept : keywordCode list ≡
       (files-same (storeKeys store) (sizeAt (indexLayout index) index) (sizeAt storeLayout store) (innerLeast f list)
       (λ k l. reads .sizes k (omega (arith, reads .keyCount))) files)
 
-  chain : (r c n : ℕ) (b d : Bool) → (r ≡ 0 → c ≡ 0 → b ≡ d)
-      → firstOf (whole (firstOf (whole 0 ∷ whole r ∷ whole c ∷ [])) ∷ (b, n) ∷ []) ≡ firstOf (whole r ∷ whole c ∷ (d, n) ∷ [])
-  chain zero zero n b d h = rw (h refl refl)
-  chain zero (suc c) n b d h = rw (lt-ltb 0 (suc c) (omega arith), lt-ltb 0 (suc c) (omega arith))
-  chain (suc r) c n b d h = rw (lt-ltb 0 (suc r) (omega arith), lt-ltb 0 (suc r) (omega arith))
+  chain : (r c n : ℕ) (b d : Bool) (k l : ℕ) → (r ≡ 0 → c ≡ 0 → b ≡ d) → (r ≡ 0 → c ≡ 0 → k ≡ l)
+      → firstOf (whole (firstOf (whole 0 ∷ whole r ∷ whole c ∷ [])) ∷ (b, n) ∷ whole k ∷ []) ≡ firstOf (whole r ∷ whole c ∷ (d, n) ∷ whole l ∷ [])
+  chain zero zero n b d k l h i = rw (h refl refl, i refl refl)
+  chain zero (suc c) n b d k l h i = rw (lt-ltb 0 (suc c) (omega arith), lt-ltb 0 (suc c) (omega arith))
+  chain (suc r) c n b d k l h i = rw (lt-ltb 0 (suc r) (omega arith), lt-ltb 0 (suc r) (omega arith))
 
-  pub codes-agree : (recipes : List ℕ) (room : ℕ) → joinCode f index recipes room ≡ searchJoinCode f list store recipes room
+  pub codes-agree : (recipes : List ℕ) (clients : Clients) (room : ℕ) → joinCode f index recipes clients room ≡ searchJoinCode f list store recipes clients room
   unfolding joinCode joinableCode searchJoinCode
-  codes-agree recipes room =
-      rw (reads .passes, index-files (filesOf recipes))
+  codes-agree recipes clients room =
+      rw (reads .passes, index-files (filesOf recipes), reads .listed .keywords)
       (chain (recipesCode recipes) (storeFilesCode (filesOf recipes)) 18
       (ltb room (9 * length (joinList f index recipes))) (ltb room (9 * length (directSearch list store recipes)))
-      (λ _ e. ap (λ (l : List Occurrence). ltb room (9 * length l)) (lists-same recipes e)))
+      (clientsCode (length (keywordsOf list)) clients (joinList f index recipes))
+      (clientsCode (length (keywordsOf list)) clients (directSearch list store recipes))
+      (λ _ e. ap (λ (l : List Occurrence). ltb room (9 * length l)) (lists-same recipes e))
+      (λ _ e. ap (clientsCode (length (keywordsOf list)) clients) (lists-same recipes e)))
 
   -- where the number is 0 the lists are the same
-  pub done-same : (recipes : List ℕ) (room : ℕ) → searchJoinCode f list store recipes room ≡ 0 → joinList f index recipes ≡ directSearch list store recipes
+  pub done-same : (recipes : List ℕ) (clients : Clients) (room : ℕ) → searchJoinCode f list store recipes clients room ≡ 0
+      → joinList f index recipes ≡ directSearch list store recipes
   unfolding searchJoinCode
-  done-same recipes room e =
+  done-same recipes clients room e =
       let a = passed-whole (recipesCode recipes) _ e in
       lists-same recipes (passed-whole (storeFilesCode (filesOf recipes)) _ (a .1) .0)
 
-  -- ---- the answer and the buffer
+  -- ---- the answer, the buffer and the tally
 
-  pub outcome-of-scan : (recipes : List ℕ) (room : ℕ)
-      → joinOutcome f index recipes room ≡ answer (searchJoinCode f list store recipes room) (length (directSearch list store recipes))
+  pub outcome-of-scan : (recipes : List ℕ) (clients : Clients) (room : ℕ)
+      → joinOutcome f index recipes clients room ≡ answer (searchJoinCode f list store recipes clients room) (length (directSearch list store recipes))
   unfolding joinOutcome
-  outcome-of-scan recipes room =
-      answer-same (joinCode f index recipes room) (searchJoinCode f list store recipes room)
+  outcome-of-scan recipes clients room =
+      answer-same (joinCode f index recipes clients room) (searchJoinCode f list store recipes clients room)
       (length (joinList f index recipes)) (length (directSearch list store recipes))
-      (codes-agree recipes room)
-      (λ e. ap length (done-same recipes room e))
+      (codes-agree recipes clients room)
+      (λ e. ap length (done-same recipes clients room e))
 
-  pub buffer-of-scan : (recipes out : List ℕ)
-      → joinBuffer f index recipes out
-      ≡ unlessRefused (searchJoinCode f list store recipes (length out)) (written out (listBytes (directSearch list store recipes))) out
+  pub buffer-of-scan : (recipes : List ℕ) (clients : Clients) (out : List ℕ)
+      → joinBuffer f index recipes clients out
+      ≡ unlessRefused (searchJoinCode f list store recipes clients (length out)) (written out (listBytes (directSearch list store recipes))) out
   unfolding joinBuffer
-  buffer-of-scan recipes out =
-      buffer-same (joinCode f index recipes (length out)) (searchJoinCode f list store recipes (length out))
+  buffer-of-scan recipes clients out =
+      buffer-same (joinCode f index recipes clients (length out)) (searchJoinCode f list store recipes clients (length out))
       (written out (listBytes (joinList f index recipes))) (written out (listBytes (directSearch list store recipes))) out
-      (codes-agree recipes (length out))
-      (λ e. ap (λ (l : List Occurrence). written out (listBytes l)) (done-same recipes (length out) e))
+      (codes-agree recipes clients (length out))
+      (λ e. ap (λ (l : List Occurrence). written out (listBytes l)) (done-same recipes clients (length out) e))
+
+  pub tally-of-scan : (recipes : List ℕ) (clients : Clients) (room : ℕ)
+      → joinTally f index recipes clients room
+      ≡ unlessRefused (searchJoinCode f list store recipes clients room) (tallyWith clients (directSearch list store recipes)) (clients .tally)
+  unfolding joinTally
+  tally-of-scan recipes clients room =
+      buffer-same (joinCode f index recipes clients room) (searchJoinCode f list store recipes clients room)
+      (tallyWith clients (joinList f index recipes)) (tallyWith clients (directSearch list store recipes)) (clients .tally)
+      (codes-agree recipes clients room)
+      (λ e. ap (tallyWith clients) (done-same recipes clients room e))

@@ -14,11 +14,11 @@ use Rattle.spec.specs.declared.Scanned.the-variants as Scanned
 use Rattle.spec.specs.declared.Searched.the-variants.{ScanRefused, JoinRefused, Found}
 use Rattle.spec.specs.Outcome.{firstOf, whole, codeOf, valueOf, answer, unlessRefused}
 use Rattle.spec.specs.Form.{newest, formOf}
-use Rattle.spec.specs.Join.{joinOutcome, joinBuffer}
+use Rattle.spec.specs.Join.{Clients, joinOutcome, joinBuffer, joinTally}
 use Rattle.spec.specs.Trie.{scanMoves}
 use Rattle.spec.specs.Scan.{scanIndex, scanCode, scanOutcome, withMoves, scanAnswer, scanBuffer, scannedLength}
-use Rattle.spec.specs.Search.{directSearch, searchJoinCode, searchCode, searchOutcome, searchBuffer}
-use Rattle.theory.proofs.Demand3.{code-of-answer, value-of-answer, join-outcome, join-buffer, scanned-is}
+use Rattle.spec.specs.Search.{directSearch, searchJoinCode, searchCode, searchOutcome, searchBuffer, searchTally}
+use Rattle.theory.proofs.Demand3.{code-of-answer, value-of-answer, join-outcome, join-buffer, join-tally, scanned-is}
 
 -- ---- an answer by its cases
 
@@ -57,17 +57,18 @@ scan-outcome list store room s e = sym (without-moves (scanOutcome newest list s
 
 -- ---- the search
 
-module _ (list store recipes buffer out : List ℕ) where
+module _ (list store recipes : List ℕ) (clients : Clients) (buffer out : List ℕ) where
   pub search-scan-refused : (c : ℕ) → scanAnswer newest list store (length buffer) ≡ Scanned.Refused c
-      → (ScanRefused c ≡ searchOutcome newest list store recipes (length buffer) (length out))
-      × (out ≡ searchBuffer newest list store recipes (length buffer) out)
-  unfolding scanOutcome outcomeOf searchOutcome searchBuffer searchCode unlessRefused
+      → (ScanRefused c ≡ searchOutcome newest list store recipes clients (length buffer) (length out))
+      × (out ≡ searchBuffer newest list store recipes clients (length buffer) out)
+      × (clients .tally ≡ searchTally newest list store recipes clients (length buffer) (length out))
+  unfolding scanOutcome outcomeOf searchOutcome searchBuffer searchTally searchCode unlessRefused
   search-scan-refused c e =
       let code : ℕ = scanCode newest list store (length buffer) in
       let o : answer code (length (scanIndex newest list store)) ≡ Refused c = scan-outcome list store (length buffer) (Scanned.Refused c) e in
       let p : code ≡ c = refused-code code (length (scanIndex newest list store)) c o in
       let q : code ≢ 0 = refused-some code (length (scanIndex newest list store)) c o in
-      (rw (ne-eqb code 0 q, p), rw (lt-ltb 0 code (omega arith), ne-eqb code 0 q))
+      (rw (ne-eqb code 0 q, p), rw (lt-ltb 0 code (omega arith), ne-eqb code 0 q), rw (lt-ltb 0 code (omega arith), ne-eqb code 0 q))
 
   -- the scan did its work and reported n bytes
   module _ (n moves : ℕ) (e : scanAnswer newest list store (length buffer) ≡ Scanned.Done n moves) where
@@ -91,40 +92,44 @@ module _ (list store recipes buffer out : List ℕ) where
     abbrev index : List ℕ
     index = take n (scanBuffer newest list store buffer)
 
-    answered : joinOutcome (formOf index) index recipes (length out)
-        ≡ answer (searchJoinCode newest list store recipes (length out)) (length (directSearch list store recipes))
-    answered = join-outcome list store (length buffer) scan-code index recipes (length out) scanned-front
+    answered : joinOutcome (formOf index) index recipes clients (length out)
+        ≡ answer (searchJoinCode newest list store recipes clients (length out)) (length (directSearch list store recipes))
+    answered = join-outcome list store (length buffer) scan-code index recipes clients (length out) scanned-front
 
-    pub search-join-refused : (c : ℕ) → joinOutcome (formOf index) index recipes (length out) ≡ Refused c
-        → JoinRefused n c ≡ searchOutcome newest list store recipes (length buffer) (length out)
+    pub search-join-refused : (c : ℕ) → joinOutcome (formOf index) index recipes clients (length out) ≡ Refused c
+        → JoinRefused n c ≡ searchOutcome newest list store recipes clients (length buffer) (length out)
     unfolding searchOutcome
     search-join-refused c f =
-        let code : ℕ = searchJoinCode newest list store recipes (length out) in
+        let code : ℕ = searchJoinCode newest list store recipes clients (length out) in
         let count : ℕ = length (directSearch list store recipes) in
         let g : answer code count ≡ Refused c = sym answered ∙ f in
         let p : code ≡ c = refused-code code count c g in
         let q : code ≢ 0 = refused-some code count c g in
         rw (scan-code, ne-eqb code 0 q, p, scan-length)
 
-    pub search-found : (m : ℕ) → joinOutcome (formOf index) index recipes (length out) ≡ Done m
-        → Found n m ≡ searchOutcome newest list store recipes (length buffer) (length out)
+    pub search-found : (m : ℕ) → joinOutcome (formOf index) index recipes clients (length out) ≡ Done m
+        → Found n m ≡ searchOutcome newest list store recipes clients (length buffer) (length out)
     unfolding searchOutcome
     search-found m f =
-        let g : answer (searchJoinCode newest list store recipes (length out)) (length (directSearch list store recipes)) ≡ Done m = sym answered ∙ f in
-        rw (
-          scan-code,
-          done-code (searchJoinCode newest list store recipes (length out)) (length (directSearch list store recipes)) m g,
-          scan-length,
-          done-value (searchJoinCode newest list store recipes (length out)) (length (directSearch list store recipes)) m g,
-        )
+        let code : ℕ = searchJoinCode newest list store recipes clients (length out) in
+        let count : ℕ = length (directSearch list store recipes) in
+        let g : answer code count ≡ Done m = sym answered ∙ f in
+        rw (scan-code, done-code code count m g, scan-length, done-value code count m g)
 
     last-code : (c : ℕ) → firstOf (whole 0 ∷ whole c ∷ []) ≡ c
     last-code zero = refl
     last-code (suc c) = rw (lt-ltb 0 (suc c) (omega arith))
 
-    -- whatever the join answers, its buffer is the search's
-    pub search-list : joinBuffer (formOf index) index recipes out ≡ searchBuffer newest list store recipes (length buffer) out
+    -- whatever the join answers, its buffer is the search's, and so is its tally
+    pub search-list : joinBuffer (formOf index) index recipes clients out ≡ searchBuffer newest list store recipes clients (length buffer) out
     unfolding searchBuffer searchCode
     search-list =
-        join-buffer list store (length buffer) scan-code index recipes out scanned-front
-        ∙ rw (scan-code, last-code (searchJoinCode newest list store recipes (length out)))
+        join-buffer list store (length buffer) scan-code index recipes clients out scanned-front
+        ∙ rw (scan-code, last-code (searchJoinCode newest list store recipes clients (length out)))
+
+    pub search-tallied : joinTally (formOf index) index recipes clients (length out)
+        ≡ searchTally newest list store recipes clients (length buffer) (length out)
+    unfolding searchTally searchCode
+    search-tallied =
+        join-tally list store (length buffer) scan-code index recipes clients (length out) scanned-front
+        ∙ rw (scan-code, last-code (searchJoinCode newest list store recipes clients (length out)))

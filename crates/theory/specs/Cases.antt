@@ -17,7 +17,7 @@ use Rattle.spec.specs.Records.{offsetsOf}
 use Rattle.spec.specs.Table.{cellOf}
 use Rattle.spec.specs.Index.{indexLayout, entryBytes, bodyAt, indexCode}
 use Rattle.spec.specs.Recipes.{recipesBytes}
-use Rattle.spec.specs.Join.{joinOutcome, joinBuffer}
+use Rattle.spec.specs.Join.{oneClient, joinOutcome, joinBuffer}
 use Rattle.spec.specs.Scan.{scanIndex, scanAnswer, toldMoves}
 
 -- ---- the inputs
@@ -88,7 +88,7 @@ oneIndex flag keyword chunk = scanIndex newest (oneKeyword flag keyword) (oneChu
 
 abbrev pub countFor : ℕ → List ℕ → List ℕ → Outcome
 countFor flag keyword chunk =
-    joinOutcome (formOf (oneIndex flag keyword chunk)) (oneIndex flag keyword chunk) (recipesOf ((1 ∷ []) ∷ [])) 65536
+    joinOutcome (formOf (oneIndex flag keyword chunk)) (oneIndex flag keyword chunk) (recipesOf ((1 ∷ []) ∷ [])) oneClient 65536
 
 -- Request #103's keywords DEDUP and UP; chunks of a store under the fingerprints of 1, 2, ..
 abbrev pub dedupAndUp : List (List ℕ)
@@ -152,8 +152,8 @@ pub record Cases : Type 0 where
   pub abax : (offsetAt (indexLayout index) index 1 ≡ 120) × (bodyAt index 1 ≡ 0x00 ∷ 0x01 ∷ 0x00 ∷ 0x01 ∷ 0x01 ∷ 0x00 ∷ 0x00 ∷ 0x01 ∷ 0x00 ∷ 0x02 ∷ [])
   pub a : (offsetAt (indexLayout index) index 2 ≡ 130) × (bodyAt index 2 ≡ 0x00 ∷ 0x00 ∷ 0x03 ∷ 0x01 ∷ 0x00 ∷ 0x03 ∷ [])
   -- the small vault's list, in a buffer of 30 bytes: 27 are written
-  pub list : (joinOutcome (formOf index) index recipes 30 ≡ Done 3)
-      × (joinBuffer (formOf index) index recipes (replicate 30 7) ≡ nine 0 1 0 ++ nine 0 3 0 ++ nine 1 0 1 ++ replicate 3 7)
+  pub list : (joinOutcome (formOf index) index recipes oneClient 30 ≡ Done 3)
+      × (joinBuffer (formOf index) index recipes oneClient (replicate 30 7) ≡ nine 0 1 0 ++ nine 0 3 0 ++ nine 1 0 1 ++ replicate 3 7)
   -- * DEDUP's five cells, and no others
   pub dedup : filledCells (0x44 ∷ 0x45 ∷ 0x44 ∷ 0x55 ∷ 0x50 ∷ [])
       ≡ (1, 4, 0 ∷ []) ∷ (2, 3, 0 ∷ []) ∷ (3, 2, 0 ∷ []) ∷ (3, 4, 2 ∷ []) ∷ (4, 1, 0 ∷ []) ∷ []
@@ -163,11 +163,11 @@ pub record Cases : Type 0 where
   pub aaInAaa : (offsetsOf (0x41 ∷ 0x41 ∷ []) (replicate 3 0x41) ≡ 0 ∷ 1 ∷ [])
       × (bodyFor (0x41 ∷ 0x41 ∷ []) (replicate 3 0x41) ≡ 0x00 ∷ 0x02 ∷ 0x01 ∷ 0x01 ∷ 0x02 ∷ 0x00 ∷ 0x00 ∷ 0x00 ∷ 0x00 ∷ 0x01 ∷ 0x00 ∷ [])
   -- * file XAB, A: ABA at 1
-  pub xabThenA : (joinOutcome (formOf index) index (recipesOf ((1 ∷ 3 ∷ []) ∷ [])) 9 ≡ Done 1)
-      × (joinBuffer (formOf index) index (recipesOf ((1 ∷ 3 ∷ []) ∷ [])) (replicate 9 7) ≡ nine 0 1 0)
+  pub xabThenA : (joinOutcome (formOf index) index (recipesOf ((1 ∷ 3 ∷ []) ∷ [])) oneClient 9 ≡ Done 1)
+      × (joinBuffer (formOf index) index (recipesOf ((1 ∷ 3 ∷ []) ∷ [])) oneClient (replicate 9 7) ≡ nine 0 1 0)
   -- * XAB, A, ABAX is refused with 17
-  pub innerShort : (joinOutcome (formOf index) index (recipesOf ((1 ∷ 3 ∷ 2 ∷ []) ∷ [])) 65536 ≡ Refused 17)
-      × (joinBuffer (formOf index) index (recipesOf ((1 ∷ 3 ∷ 2 ∷ []) ∷ [])) (replicate 30 7) ≡ replicate 30 7)
+  pub innerShort : (joinOutcome (formOf index) index (recipesOf ((1 ∷ 3 ∷ 2 ∷ []) ∷ [])) oneClient 65536 ≡ Refused 17)
+      × (joinBuffer (formOf index) index (recipesOf ((1 ∷ 3 ∷ 2 ∷ []) ∷ [])) oneClient (replicate 30 7) ≡ replicate 30 7)
   -- * 254 As and keyword A: kind 2, count FE, 0, then 0 to 253
   pub as254 : bodyFor (0x41 ∷ []) (replicate 254 0x41) ≡ 0x00 ∷ 0x02 ∷ 0x00 ∷ 0x00 ∷ 0xFE ∷ 0x00 ∷ 0x00 ∷ fieldsBytes 2 (each (λ k. k ∷ []) 0 254)
   -- * 255: kind 3, count FF, 0, the exact count, then 0 to 254
@@ -197,8 +197,8 @@ pub record Cases : Type 0 where
       × (bodyAt widerIndex 0 ≡ 0x00 ∷ 0x01 ∷ 0x02 ∷ 0x00 ∷ 0x00 ∷ 0x00 ∷ 0x00 ∷ 0x00 ∷ [])
       × (bodyAt widerIndex 1 ≡ 0x00 ∷ 0x01 ∷ 0x00 ∷ 0x01 ∷ 0x01 ∷ 0x00 ∷ 0x00 ∷ 0x00 ∷ 0x01 ∷ 0x00 ∷ 0x02 ∷ [])
       × (bodyAt widerIndex 2 ≡ 0x00 ∷ 0x00 ∷ 0x03 ∷ 0x01 ∷ 0x00 ∷ 0x03 ∷ [])
-  pub widerList : (joinOutcome (formOf widerIndex) widerIndex recipes 30 ≡ Done 3)
-      × (joinBuffer (formOf widerIndex) widerIndex recipes (replicate 30 7) ≡ nine 0 1 0 ++ nine 0 3 0 ++ nine 1 0 1 ++ replicate 3 7)
+  pub widerList : (joinOutcome (formOf widerIndex) widerIndex recipes oneClient 30 ≡ Done 3)
+      × (joinBuffer (formOf widerIndex) widerIndex recipes oneClient (replicate 30 7) ≡ nine 0 1 0 ++ nine 0 3 0 ++ nine 1 0 1 ++ replicate 3 7)
   -- L: 65,535 and not 65,536 under the old mark, 1,048,576 and not 1,048,577 under the new ones; the next digit is no mark yet
   pub longestByMark : (map (markedCode 1) (65535 ∷ 65536 ∷ []) ≡ 0 ∷ 11 ∷ [])
       × (map (markedCode 2) (65536 ∷ 1048576 ∷ 1048577 ∷ []) ≡ 0 ∷ 0 ∷ 11 ∷ [])
@@ -220,7 +220,7 @@ pub record Cases : Type 0 where
   -- ÉéÉ: its cell (2,2) holds 0 and 1 with flag 1, nothing with 0
   pub accentCell : (cellOf (folded 1 (0xC9 ∷ 0xE9 ∷ 0xC9 ∷ [])) 2 2 ≡ 0 ∷ 1 ∷ []) × (cellOf (folded 0 (0xC9 ∷ 0xE9 ∷ 0xC9 ∷ [])) 2 2 ≡ [])
   -- éÉ occurs across the chunks É and é with flag 1, not with 0; the moves of ÉÈX for éè are those of éèX, with flag 0 one a byte
-  pub accentsJoined : map (λ flag. joinOutcome (formOf (accentedIndex flag)) (accentedIndex flag) (recipesOf ((1 ∷ 2 ∷ []) ∷ [])) 9) (1 ∷ 0 ∷ [])
+  pub accentsJoined : map (λ flag. joinOutcome (formOf (accentedIndex flag)) (accentedIndex flag) (recipesOf ((1 ∷ 2 ∷ []) ∷ [])) oneClient 9) (1 ∷ 0 ∷ [])
       ≡ Done 1 ∷ Done 0 ∷ []
   pub accentMoves : map (λ flag. movesFor flag ((0xE9 ∷ 0xE8 ∷ []) ∷ []) ((0xC9 ∷ 0xC8 ∷ 0x58 ∷ []) ∷ [])) (1 ∷ 0 ∷ []) ≡ 4 ∷ 3 ∷ []
   -- * keywords Ab and aB: 4 with flag 1, accepted with 0

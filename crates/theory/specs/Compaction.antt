@@ -12,9 +12,9 @@ use Rattle.spec.specs.Bytes.{contains}
 use Rattle.spec.specs.Outcome.{codeOf, valueOf}
 use Rattle.spec.specs.Store.{storeKeys, storedChunks, storeCode}
 use Rattle.spec.specs.Form.{form2, newest}
-use Rattle.spec.specs.Join.{joinCode}
+use Rattle.spec.specs.Join.{Clients, oneClient, joinCode}
 use Rattle.spec.specs.Scan.{scanIndex, scanAnswer, scannedCode}
-use Rattle.spec.specs.Search.{chunkNamed, searchCode, searchOutcome, searchBuffer, searchedCode, searchedCount}
+use Rattle.spec.specs.Search.{chunkNamed, searchCode, searchOutcome, searchBuffer, searchTally, searchedCode, searchedCount}
 use Rattle.spec.specs.Compact.{namedIn, namedAmong, compacted, compactOutcome, compactBuffer, compactSize}
 use Rattle.theory.specs.Cases.{store, keywords, recipes, recipesOf}
 use Rattle.theory.specs.Demand3.{scanned}
@@ -34,22 +34,25 @@ pub record Compaction (store recipes : List ℕ) : Type 0 where
   pub chunks : storedChunks (compacted store recipes) ≡ namedAmong (namedIn recipes) (storedChunks store)
   -- compacting it again gives itself
   pub again : compacted (compacted store recipes) recipes ≡ compacted store recipes
-  -- a scan and a join of what it wrote on each of the two stores, for the same keyword list and these recipes: with both index files written in full and
-  -- list buffers of equal length, the list or the refusal that it was before
-  pub calls : (list : List ℕ)
-      (buffer out : List ℕ) (scan : Scanned) (join : Outcome) (buffer′ index out′ : List ℕ) → Calls list store recipes buffer out scan join buffer′ index out′
-      → (buffer₂ out₂ : List ℕ) (scan₂ : Scanned) (join₂ : Outcome) (buffer₂′ index₂ out₂′ : List ℕ)
-      → Calls list (compacted store recipes) recipes buffer₂ out₂ scan₂ join₂ buffer₂′ index₂ out₂′
-      → WrittenInFull scan scan₂ → length out ≡ length out₂ → JoinsAlike out out₂ join join₂ out′ out₂′
-  -- a search, likewise: its number and count, and its list buffer
-  pub search : (list : List ℕ) (indexRoom indexRoom₂ : ℕ)
+  -- a scan and a join of what it wrote on each of the two stores, for the same keyword list, these recipes, the same key and tallies that are equal at entry:
+  -- with both index files written in full and list buffers of equal length, the list or the refusal that it was before, and the tally
+  pub calls : (list : List ℕ) (clients : Clients)
+      (buffer out : List ℕ) (scan : Scanned) (join : Outcome) (buffer′ index out′ tally′ : List ℕ)
+      → Calls list store recipes clients buffer out scan join buffer′ index out′ tally′
+      → (buffer₂ out₂ : List ℕ) (scan₂ : Scanned) (join₂ : Outcome) (buffer₂′ index₂ out₂′ tally₂′ : List ℕ)
+      → Calls list (compacted store recipes) recipes clients buffer₂ out₂ scan₂ join₂ buffer₂′ index₂ out₂′ tally₂′
+      → WrittenInFull scan scan₂ → length out ≡ length out₂ → JoinsAlike out out₂ join join₂ out′ out₂′ tally′ tally₂′
+  -- a search, likewise: its number and count, its list buffer, and the tally
+  pub search : (list : List ℕ) (clients : Clients) (indexRoom indexRoom₂ : ℕ)
       → scannedCode (scanAnswer newest list store indexRoom) ≡ 0 → scannedCode (scanAnswer newest list (compacted store recipes) indexRoom₂) ≡ 0
       → (out : List ℕ)
-      → (searchedCode (searchOutcome newest list store recipes indexRoom (length out))
-      ≡ searchedCode (searchOutcome newest list (compacted store recipes) recipes indexRoom₂ (length out)))
-      × (searchedCount (searchOutcome newest list store recipes indexRoom (length out))
-      ≡ searchedCount (searchOutcome newest list (compacted store recipes) recipes indexRoom₂ (length out)))
-      × (searchBuffer newest list store recipes indexRoom out ≡ searchBuffer newest list (compacted store recipes) recipes indexRoom₂ out)
+      → (searchedCode (searchOutcome newest list store recipes clients indexRoom (length out))
+      ≡ searchedCode (searchOutcome newest list (compacted store recipes) recipes clients indexRoom₂ (length out)))
+      × (searchedCount (searchOutcome newest list store recipes clients indexRoom (length out))
+      ≡ searchedCount (searchOutcome newest list (compacted store recipes) recipes clients indexRoom₂ (length out)))
+      × (searchBuffer newest list store recipes clients indexRoom out ≡ searchBuffer newest list (compacted store recipes) recipes clients indexRoom₂ out)
+      × (searchTally newest list store recipes clients indexRoom (length out)
+      ≡ searchTally newest list (compacted store recipes) recipes clients indexRoom₂ (length out))
   -- a query of each of the two indexes (request #109), likewise: its answer, and its buffer
   pub queries : (list buffer buffer₂ : List ℕ)
       → scannedCode (scanAnswer newest list store (length buffer)) ≡ 0
@@ -93,6 +96,6 @@ pub record CompactionCases : Type 0 where
       × (compactOutcome holedStore recipes 0 ≡ Refused 9)
       × (compactSize holedStore (recipesOf ((4 ∷ []) ∷ [])) ≡ Refused 15)
   -- recipes that a join under an older mark refuses with 17 are compacted for; a search takes them (request #108)
-  pub inner : (searchCode newest keywords holedStore (recipesOf ((1 ∷ 3 ∷ 2 ∷ []) ∷ [])) 65536 65536 ≡ 0)
-      × (joinCode form2 (scanIndex form2 keywords holedStore) (recipesOf ((1 ∷ 3 ∷ 2 ∷ []) ∷ [])) 65536 ≡ 17)
+  pub inner : (searchCode newest keywords holedStore (recipesOf ((1 ∷ 3 ∷ 2 ∷ []) ∷ [])) oneClient 65536 65536 ≡ 0)
+      × (joinCode form2 (scanIndex form2 keywords holedStore) (recipesOf ((1 ∷ 3 ∷ 2 ∷ []) ∷ [])) oneClient 65536 ≡ 17)
       × (compacted holedStore (recipesOf ((1 ∷ 3 ∷ 2 ∷ []) ∷ [])) ≡ store)

@@ -54,7 +54,7 @@ pub record SameBesideHoles (list here there : List ℕ) : Type 0 where
   pub scan : (room : ℕ) → scanAnswer newest list here room ≡ scanAnswer newest list there room
   pub buffer : (buffer : List ℕ) → scanBuffer newest list here buffer ≡ scanBuffer newest list there buffer
   pub index : (buffer buffer₂ : List ℕ) → length buffer ≡ length buffer₂ → scanned list here buffer ≡ scanned list there buffer₂
-  -- a search: its answer, its list buffer, its list
+  -- a search: its answer, its list buffer, its list, the tally
   pub search : (indexRoom : ℕ) → SearchAlike list here there indexRoom indexRoom
   -- a compaction: its answer, its buffer; the length that it would write
   pub compact : (recipes : List ℕ) (room : ℕ) → compactOutcome here recipes room ≡ compactOutcome there recipes room
@@ -65,17 +65,17 @@ pub record SameBesideHoles (list here there : List ℕ) : Type 0 where
 
 -- ---- what is then the same, of calls
 
--- What holds of four calls (`Calls`, twice): on each of the two stores a scan and a join of the bytes that it wrote, with the same keyword list and the
--- same recipes.
+-- What holds of four calls (`Calls`, twice): on each of the two stores a scan and a join of the bytes that it wrote, with the same keyword list, the
+-- same recipes, the same key, and tallies that are equal at entry.
 pub record SameCallsBesideHoles (buffer buffer₂ out out₂ : List ℕ) (scan scan₂ : Scanned) (join join₂ : Outcome)
-    (buffer′ buffer₂′ index index₂ out′ out₂′ : List ℕ) : Type 0 where
+    (buffer′ buffer₂′ index index₂ out′ out₂′ tally′ tally₂′ : List ℕ) : Type 0 where
   -- scans into index buffers of equal length: the same refusal, or the same length and moves, and the same index
   pub scans : length buffer ≡ length buffer₂ → scan ≡ scan₂
   pub indexes : length buffer ≡ length buffer₂ → index ≡ index₂
   -- buffers that were the same are the same after it
   pub buffers : buffer ≡ buffer₂ → buffer′ ≡ buffer₂′
-  -- with list buffers of equal length too: the same refusal or the same list
-  pub joins : length buffer ≡ length buffer₂ → length out ≡ length out₂ → JoinsAlike out out₂ join join₂ out′ out₂′
+  -- with list buffers of equal length too: the same refusal or the same list, and the same tally
+  pub joins : length buffer ≡ length buffer₂ → length out ≡ length out₂ → JoinsAlike out out₂ join join₂ out′ out₂′ tally′ tally₂′
 
 -- ---- cases
 

@@ -1,5 +1,6 @@
 pub mod Cases
 pub mod SetCases
+pub mod Tallies
 pub mod QueryCases
 pub mod Spans
 pub mod SearchList

@@ -16,10 +16,10 @@ use Rattle.spec.specs.Store.{Chunk, storeBytes, chunkCount, storeCode, storedCh
 use Rattle.spec.specs.Form.{form1, newest, formOf}
 use Rattle.spec.specs.Index.{indexKeys}
 use Rattle.spec.specs.Lookup.{findChunk, chunkStart, chunkOf, findBody, bodyOf}
-use Rattle.spec.specs.Join.{joinOutcome, joinBuffer, readList}
+use Rattle.spec.specs.Join.{Clients, oneClient, joinOutcome, joinBuffer, joinTally, readList}
 use Rattle.spec.specs.Query.{queryOutcome, queryBuffer}
 use Rattle.spec.specs.Scan.{scanIndex, scanAnswer, scannedCode}
-use Rattle.spec.specs.Search.{searchCode, searchOutcome, searchBuffer, searchedCount}
+use Rattle.spec.specs.Search.{searchCode, searchOutcome, searchBuffer, searchTally, searchedCount}
 use Rattle.theory.specs.Cases.{store, keywords, recipes, fingerprint, oneChunk, nine, chunkXAB, chunkABAX, chunkA}
 use Rattle.theory.specs.Demand3.{scanned}
 
@@ -61,27 +61,38 @@ pub record AnswerAlike (index other : List ℕ) : Type 0 where
   -- the body under each fingerprint: the lookup's number and the bytes
   pub find : (key : List ℕ) → findBody (formOf index) index key ≡ findBody (formOf other) other key
   pub body : (key : List ℕ) → bodyOf (formOf index) index key ≡ bodyOf (formOf other) other key
-  -- a join: the same refusal or the same count, and the same buffer after it
-  pub outcome : (recipes : List ℕ) (room : ℕ) → joinOutcome (formOf index) index recipes room ≡ joinOutcome (formOf other) other recipes room
-  pub bytes : (recipes out : List ℕ) → joinBuffer (formOf index) index recipes out ≡ joinBuffer (formOf other) other recipes out
+  -- a join, with the same key and tallies that are equal at entry (request #110): the same refusal or the same count, and the same buffer and tally after it
+  pub outcome : (recipes : List ℕ) (clients : Clients) (room : ℕ)
+      → joinOutcome (formOf index) index recipes clients room ≡ joinOutcome (formOf other) other recipes clients room
+  pub bytes : (recipes : List ℕ) (clients : Clients) (out : List ℕ)
+      → joinBuffer (formOf index) index recipes clients out ≡ joinBuffer (formOf other) other recipes clients out
+  pub tally : (recipes : List ℕ) (clients : Clients) (room : ℕ)
+      → joinTally (formOf index) index recipes clients room ≡ joinTally (formOf other) other recipes clients room
   -- into two list buffers of equal length, where the join does its work: the same list
-  pub listed : (recipes out out₂ : List ℕ) → length out ≡ length out₂ → codeOf (joinOutcome (formOf index) index recipes (length out)) ≡ 0
-      → readList (valueOf (joinOutcome (formOf index) index recipes (length out))) (joinBuffer (formOf index) index recipes out)
-      ≡ readList (valueOf (joinOutcome (formOf other) other recipes (length out₂))) (joinBuffer (formOf other) other recipes out₂)
+  pub listed : (recipes : List ℕ) (clients : Clients) (out out₂ : List ℕ) → length out ≡ length out₂
+      → codeOf (joinOutcome (formOf index) index recipes clients (length out)) ≡ 0
+      → readList (valueOf (joinOutcome (formOf index) index recipes clients (length out))) (joinBuffer (formOf index) index recipes clients out)
+      ≡ readList (valueOf (joinOutcome (formOf other) other recipes clients (length out₂))) (joinBuffer (formOf other) other recipes clients out₂)
   -- a query (request #109)
   pub queries : (recipes : List ℕ) → QueriesAlike index other recipes
 
--- Two searches answer the same, with index buffers of these two lengths.
+-- Two searches with the same key and tallies that are equal at entry answer the same, with index buffers of these two lengths.
 pub record SearchAlike (list here there : List ℕ) (indexRoom indexRoom₂ : ℕ) : Type 0 where
   -- the same refusal, or the same index length and count
-  pub outcome : (recipes : List ℕ) (room : ℕ)
-      → searchOutcome newest list here recipes indexRoom room ≡ searchOutcome newest list there recipes indexRoom₂ room
-  -- the same buffer after it
-  pub bytes : (recipes out : List ℕ) → searchBuffer newest list here recipes indexRoom out ≡ searchBuffer newest list there recipes indexRoom₂ out
+  pub outcome : (recipes : List ℕ) (clients : Clients) (room : ℕ)
+      → searchOutcome newest list here recipes clients indexRoom room ≡ searchOutcome newest list there recipes clients indexRoom₂ room
+  -- the same buffer after it, and the same tally
+  pub bytes : (recipes : List ℕ) (clients : Clients) (out : List ℕ)
+      → searchBuffer newest list here recipes clients indexRoom out ≡ searchBuffer newest list there recipes clients indexRoom₂ out
+  pub tally : (recipes : List ℕ) (clients : Clients) (room : ℕ)
+      → searchTally newest list here recipes clients indexRoom room ≡ searchTally newest list there recipes clients indexRoom₂ room
   -- into two list buffers of equal length, where the search does its work: the same list
-  pub listed : (recipes out out₂ : List ℕ) → length out ≡ length out₂ → searchCode newest list here recipes indexRoom (length out) ≡ 0
-      → readList (searchedCount (searchOutcome newest list here recipes indexRoom (length out))) (searchBuffer newest list here recipes indexRoom out)
-      ≡ readList (searchedCount (searchOutcome newest list there recipes indexRoom₂ (length out₂))) (searchBuffer newest list there recipes indexRoom₂ out₂)
+  pub listed : (recipes : List ℕ) (clients : Clients) (out out₂ : List ℕ) → length out ≡ length out₂
+      → searchCode newest list here recipes clients indexRoom (length out) ≡ 0
+      → readList (searchedCount (searchOutcome newest list here recipes clients indexRoom (length out)))
+      (searchBuffer newest list here recipes clients indexRoom out)
+      ≡ readList (searchedCount (searchOutcome newest list there recipes clients indexRoom₂ (length out₂)))
+      (searchBuffer newest list there recipes clients indexRoom₂ out₂)
 
 -- A keyword list on two such stores.
 pub record SameChunks (list here there : List ℕ) : Type 0 where
@@ -107,8 +118,8 @@ pub record SameChunks (list here there : List ℕ) : Type 0 where
 abbrev pub WrittenInFull : Scanned → Scanned → Type 0
 WrittenInFull scan scan₂ = (scannedCode scan ≡ 0) × (scannedCode scan₂ ≡ 0)
 
--- Two joins with these list buffers (out, out₂), answers, and buffers after (out′, out₂′) say the same.
-pub record JoinsAlike (out out₂ : List ℕ) (join join₂ : Outcome) (out′ out₂′ : List ℕ) : Type 0 where
+-- Two joins with these list buffers (out, out₂), answers, and buffers and tallies after (out′, out₂′, tally′, tally₂′) say the same.
+pub record JoinsAlike (out out₂ : List ℕ) (join join₂ : Outcome) (out′ out₂′ tally′ tally₂′ : List ℕ) : Type 0 where
   -- the same refusal or the same count
   pub answers : join ≡ join₂
   -- where they do their work, the same list
@@ -117,10 +128,13 @@ pub record JoinsAlike (out out₂ : List ℕ) (join join₂ : Outcome) (out′ o
   pub kept : codeOf join ≢ 0 → (out′ ≡ out) × (out₂′ ≡ out₂)
   -- buffers that were the same are the same after it
   pub bytes : out ≡ out₂ → out′ ≡ out₂′
+  -- the tallies, equal at entry, are equal after it
+  pub tallies : tally′ ≡ tally₂′
 
--- What holds of four calls (`Calls`, twice): on each of the two stores a scan and a join of the bytes that it wrote, with the same keyword list and the
--- same recipes.
-pub record SameCalls (buffer buffer₂ out out₂ : List ℕ) (scan scan₂ : Scanned) (join join₂ : Outcome) (index index₂ out′ out₂′ : List ℕ) : Type 0 where
+-- What holds of four calls (`Calls`, twice): on each of the two stores a scan and a join of the bytes that it wrote, with the same keyword list, the
+-- same recipes, the same key, and tallies that are equal at entry.
+pub record SameCalls (buffer buffer₂ out out₂ : List ℕ) (scan scan₂ : Scanned) (join join₂ : Outcome)
+    (index index₂ out′ out₂′ tally′ tally₂′ : List ℕ) : Type 0 where
   -- scans into index buffers of equal length: the same refusal, or the same length and moves
   pub scans : length buffer ≡ length buffer₂ → scan ≡ scan₂
   -- index files both written in full: the scans report the same length and moves; the files have that length, and the same body under
@@ -128,7 +142,7 @@ pub record SameCalls (buffer buffer₂ out out₂ : List ℕ) (scan scan₂ : Sc
   pub reports : WrittenInFull scan scan₂ → scan ≡ scan₂
   pub indexes : WrittenInFull scan scan₂ → AnswerAlike index index₂
   -- and list buffers of equal length: the same refusal or the same list
-  pub joins : WrittenInFull scan scan₂ → length out ≡ length out₂ → JoinsAlike out out₂ join join₂ out′ out₂′
+  pub joins : WrittenInFull scan scan₂ → length out ≡ length out₂ → JoinsAlike out out₂ join join₂ out′ out₂′ tally′ tally₂′
 
 -- ---- the small vault of document 01 in another order
 
@@ -147,8 +161,8 @@ pub record SmallReordered : Type 0 where
   pub scan : scanAnswer form1 keywords smallReordered 136 ≡ Scanned.Done 136 10
   pub entries : indexKeys reorderedIndex ≡ fingerprint 3 ∷ fingerprint 1 ∷ fingerprint 2 ∷ []
   -- the list is the small vault's, in a buffer of 30 bytes
-  pub list : (joinOutcome (formOf reorderedIndex) reorderedIndex recipes 30 ≡ Done 3)
-      × (joinBuffer (formOf reorderedIndex) reorderedIndex recipes (replicate 30 7) ≡ nine 0 1 0 ++ nine 0 3 0 ++ nine 1 0 1 ++ replicate 3 7)
+  pub list : (joinOutcome (formOf reorderedIndex) reorderedIndex recipes oneClient 30 ≡ Done 3)
+      × (joinBuffer (formOf reorderedIndex) reorderedIndex recipes oneClient (replicate 30 7) ≡ nine 0 1 0 ++ nine 0 3 0 ++ nine 1 0 1 ++ replicate 3 7)
   -- another byte under a fingerprint, a chunk less or a chunk more, and the chunks are not the same
   pub otherByte : sameChunks (oneChunk (0x41 ∷ [])) (oneChunk (0x42 ∷ [])) ≡ false
   pub fewer : sameChunks store (oneChunk (0x58 ∷ 0x41 ∷ 0x42 ∷ [])) ≡ false

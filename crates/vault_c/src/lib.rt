@@ -10,10 +10,10 @@ ghost use Rattle.spec.specs.Index.{indexCode};
 ghost use Rattle.spec.specs.Lookup.{findChunk, chunkStart, chunkLength, findBody, bodyStart, bodyLength};
 ghost use Rattle.spec.specs.Outcome.{codeOf, toldValue};
 ghost use Rattle.spec.specs.Scan.{sizeOutcome, scanAnswer, scanBuffer, scannedCode, toldLength, toldMoves};
-ghost use Rattle.spec.specs.Join.{countOutcome, joinOutcome, joinBuffer};
+ghost use Rattle.spec.specs.Join.{countsOf, tallyOf, lent, countOutcome, joinOutcome, joinBuffer, joinTally};
 ghost use Rattle.spec.specs.Query.{queryCount, queryOutcome, queryBuffer};
 ghost use Rattle.spec.specs.Compact.{compactSize, compactOutcome, compactBuffer};
-ghost use Rattle.spec.specs.Search.{searchOutcome, searchBuffer, searchedCode, toldSize, toldCount};
+ghost use Rattle.spec.specs.Search.{searchOutcome, searchBuffer, searchTally, searchedCode, toldSize, toldCount};
 
 // ---- what a call tells
 
@@ -27,6 +27,36 @@ fn told(answer: spec::Outcome, number: &mut u64) -> u8
             0
         }
         spec::Outcome::Refused(code) => code,
+    }
+}
+
+// The same of a search: the index's length is told where the scan is done, the count where the join is.
+fn told_search(answer: spec::Searched, size: &mut u64, count: &mut u64) -> u8
+    ensures { λ r. ⌜ (r ≡ searchedCode answer) × (now (size .exit) ≡ toldSize answer (now (size .entry))) × (now (count .exit) ≡ toldCount answer (now (count .entry))) ⌝ }
+{
+    match answer {
+        spec::Searched::ScanRefused(code) => code,
+        spec::Searched::JoinRefused(indexed, code) => {
+            *size = indexed as u64;
+            code
+        }
+        spec::Searched::Found(length, found) => {
+            *size = length as u64;
+            *count = found as u64;
+            0
+        }
+    }
+}
+
+// Four counts that are lent one by one, as a tally (request #110).
+fn four(client0: u64, client1: u64, client2: u64, client3: u64) -> spec::Tally
+    ensures { λ r. ⌜ r ≡ tallyOf client0 client1 client2 client3 ⌝ }
+{
+    spec::Tally {
+        client0: client0,
+        client1: client1,
+        client2: client2,
+        client3: client3,
     }
 }
 
@@ -94,19 +124,33 @@ pub extern "C" fn vault_count(index: &[u8], recipes: &[u8], count: &mut u64) -> 
     told(join::count(index, recipes), count)
 }
 
+// The tally's four counts are lent one by one.
 #[no_mangle]
-pub extern "C" fn vault_join(index: &[u8], recipes: &[u8], out: &mut [u8], count: &mut u64) -> u8
-    ensures { λ r. ⌜ (r ≡ codeOf (joinOutcome (formOf (now (index .entry))) (now (index .entry)) (now (recipes .entry)) (length (now (out .entry)))))
-        × (now (count .exit) ≡ toldValue (joinOutcome (formOf (now (index .entry))) (now (index .entry)) (now (recipes .entry)) (length (now (out .entry)))) (now (count .entry)))
-        × (now (out .exit) ≡ joinBuffer (formOf (now (index .entry))) (now (index .entry)) (now (recipes .entry)) (now (out .entry))) ⌝ }
+pub extern "C" fn vault_join(
+    index: &[u8],
+    recipes: &[u8],
+    key: &[u8],
+    out: &mut [u8],
+    count: &mut u64,
+    client0: &mut u64,
+    client1: &mut u64,
+    client2: &mut u64,
+    client3: &mut u64,
+) -> u8
+    ensures { λ r. ⌜ (r ≡ codeOf (joinOutcome (formOf (now (index .entry))) (now (index .entry)) (now (recipes .entry)) (lent (now (key .entry)) (tallyOf (now (client0 .entry)) (now (client1 .entry)) (now (client2 .entry)) (now (client3 .entry)))) (length (now (out .entry)))))
+        × (now (count .exit) ≡ toldValue (joinOutcome (formOf (now (index .entry))) (now (index .entry)) (now (recipes .entry)) (lent (now (key .entry)) (tallyOf (now (client0 .entry)) (now (client1 .entry)) (now (client2 .entry)) (now (client3 .entry)))) (length (now (out .entry)))) (now (count .entry)))
+        × (now (out .exit) ≡ joinBuffer (formOf (now (index .entry))) (now (index .entry)) (now (recipes .entry)) (lent (now (key .entry)) (tallyOf (now (client0 .entry)) (now (client1 .entry)) (now (client2 .entry)) (now (client3 .entry)))) (now (out .entry)))
+        × (countsOf (tallyOf (now (client0 .exit)) (now (client1 .exit)) (now (client2 .exit)) (now (client3 .exit))) ≡ joinTally (formOf (now (index .entry))) (now (index .entry)) (now (recipes .entry)) (lent (now (key .entry)) (tallyOf (now (client0 .entry)) (now (client1 .entry)) (now (client2 .entry)) (now (client3 .entry)))) (length (now (out .entry)))) ⌝ }
 {
-    match join::join(index, recipes, out) {
-        spec::Outcome::Done(listed) => {
-            *count = listed as u64;
-            0
-        }
-        spec::Outcome::Refused(code) => code,
-    }
+    let before = four(*client0, *client1, *client2, *client3);
+    let joined = join::tallied(index, recipes, key, out, before);
+    let tally = joined.tally;
+    let outcome = joined.outcome;
+    *client0 = tally.client0;
+    *client1 = tally.client1;
+    *client2 = tally.client2;
+    *client3 = tally.client3;
+    told(outcome, count)
 }
 
 // ---- queries
@@ -209,27 +253,30 @@ pub extern "C" fn vault_search(
     list: &[u8],
     store: &[u8],
     recipes: &[u8],
+    key: &[u8],
     index: &mut [u8],
     out: &mut [u8],
     index_length: &mut u64,
     count: &mut u64,
+    client0: &mut u64,
+    client1: &mut u64,
+    client2: &mut u64,
+    client3: &mut u64,
 ) -> u8
-    ensures { λ r. ⌜ (r ≡ searchedCode (searchOutcome newest (now (list .entry)) (now (store .entry)) (now (recipes .entry)) (length (now (index .entry))) (length (now (out .entry)))))
-        × (now («index_length» .exit) ≡ toldSize (searchOutcome newest (now (list .entry)) (now (store .entry)) (now (recipes .entry)) (length (now (index .entry))) (length (now (out .entry)))) (now («index_length» .entry)))
-        × (now (count .exit) ≡ toldCount (searchOutcome newest (now (list .entry)) (now (store .entry)) (now (recipes .entry)) (length (now (index .entry))) (length (now (out .entry)))) (now (count .entry)))
+    ensures { λ r. ⌜ (r ≡ searchedCode (searchOutcome newest (now (list .entry)) (now (store .entry)) (now (recipes .entry)) (lent (now (key .entry)) (tallyOf (now (client0 .entry)) (now (client1 .entry)) (now (client2 .entry)) (now (client3 .entry)))) (length (now (index .entry))) (length (now (out .entry)))))
+        × (now («index_length» .exit) ≡ toldSize (searchOutcome newest (now (list .entry)) (now (store .entry)) (now (recipes .entry)) (lent (now (key .entry)) (tallyOf (now (client0 .entry)) (now (client1 .entry)) (now (client2 .entry)) (now (client3 .entry)))) (length (now (index .entry))) (length (now (out .entry)))) (now («index_length» .entry)))
+        × (now (count .exit) ≡ toldCount (searchOutcome newest (now (list .entry)) (now (store .entry)) (now (recipes .entry)) (lent (now (key .entry)) (tallyOf (now (client0 .entry)) (now (client1 .entry)) (now (client2 .entry)) (now (client3 .entry)))) (length (now (index .entry))) (length (now (out .entry)))) (now (count .entry)))
         × (now (index .exit) ≡ scanBuffer newest (now (list .entry)) (now (store .entry)) (now (index .entry)))
-        × (now (out .exit) ≡ searchBuffer newest (now (list .entry)) (now (store .entry)) (now (recipes .entry)) (length (now (index .entry))) (now (out .entry))) ⌝ }
+        × (now (out .exit) ≡ searchBuffer newest (now (list .entry)) (now (store .entry)) (now (recipes .entry)) (lent (now (key .entry)) (tallyOf (now (client0 .entry)) (now (client1 .entry)) (now (client2 .entry)) (now (client3 .entry)))) (length (now (index .entry))) (now (out .entry)))
+        × (countsOf (tallyOf (now (client0 .exit)) (now (client1 .exit)) (now (client2 .exit)) (now (client3 .exit))) ≡ searchTally newest (now (list .entry)) (now (store .entry)) (now (recipes .entry)) (lent (now (key .entry)) (tallyOf (now (client0 .entry)) (now (client1 .entry)) (now (client2 .entry)) (now (client3 .entry)))) (length (now (index .entry))) (length (now (out .entry)))) ⌝ }
 {
-    match search::search(list, store, recipes, index, out) {
-        spec::Searched::ScanRefused(code) => code,
-        spec::Searched::JoinRefused(written, code) => {
-            *index_length = written as u64;
-            code
-        }
-        spec::Searched::Found(size, found) => {
-            *index_length = size as u64;
-            *count = found as u64;
-            0
-        }
-    }
+    let before = four(*client0, *client1, *client2, *client3);
+    let answer = search::search(list, store, recipes, key, index, out, before);
+    let counts = answer.tally;
+    let searched = answer.searched;
+    *client0 = counts.client0;
+    *client1 = counts.client1;
+    *client2 = counts.client2;
+    *client3 = counts.client3;
+    told_search(searched, index_length, count)
 }

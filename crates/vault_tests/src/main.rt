@@ -11,6 +11,7 @@ use tests_query::cases as queries;
 use tests_report::report;
 use tests_report::tally;
 use tests_sets::cases as sets;
+use tests_tally::cases as tallies;
 
 fn main() {
     let mut counts = [0u64; tally::ALL];
@@ -22,5 +23,6 @@ fn main() {
     printed::all_outputs(&mut counts);
     cases::all_compactions(&mut counts);
     queries::all_queries(&mut counts);
+    tallies::all_tallies(&mut counts);
     report::totals(&counts);
 }

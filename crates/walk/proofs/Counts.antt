@@ -1,28 +1,29 @@
--- Counting and listing a file, place by place. The number of its occurrences does not hang on the file's number, nor on where it starts.
--- Assumes nothing.
-use mathlib.Core.Path.{_≡_, refl, sym, ap, ap₂, _∙_, subst}
+-- Counting and listing a file, place by place: the number of its occurrences, each keyword's number of them, and their list. Assumes nothing.
+use mathlib.Core.Path.{_≡_, refl, sym, ap, _∙_, subst}
 use mathlib.Core.Bool.{Bool, true, false}
 use mathlib.Core.List.{List, [], _∷_, _++_}
 use Prim.Native.Nat.{ℕ, zero, suc, _+_, _-_, _*_, _/_, _%_, _^_, _≤_, _<_}
-use native.Mathlib.Nat.{add-zero, add-suc, suc-add, suc-mul, mul-one, zero-lt-suc, mul-le-mul-left}
+use native.Mathlib.Nat.{add-zero, suc-mul, mul-one, mul-le-mul-left}
 use native.Mathlib.Numerals.{add-one}
 use native.Mathlib.Omega.{arith}
-use lib.ListN.{length, drop, drop-of-length-le, length-append}
-use lib.Seq.{drop-cons}
+use lib.ListN.{length, getD, drop, drop-of-length-le, length-append}
+use lib.Seq.{drop-cons, ext-getD}
 use Rattle.spec.specs.declared.Opened.{Opened}
 use Rattle.spec.specs.Bytes.{splice, each, keep}
 use Rattle.spec.specs.Keywords.{foldedKeywords}
 use Rattle.spec.specs.Form.{formOf}
 use Rattle.spec.specs.Records.{ChunkRecords, recordAt, inRange}
 use Rattle.spec.specs.Index.{listIn, indexCode}
-use Rattle.spec.specs.Join.{Occurrence, keywordAt, occurrencesAt, listed, joinFrom, listBytes}
+use Rattle.spec.specs.Join.{Occurrence, keywordAt, occurrencesAt, listed, joinFrom, sums, listBytes}
 use Rattle.spec.proofs.Writing.{Going, going-start, going-room, going-on, going-end, going-place}
 use Rattle.spec.proofs.ListBytes.{length-list, list-nil, list-append}
-use Rattle.listing.specs.Streams.{unreadAt, occurrences, total, ReadableStreams}
-use Rattle.listing.proofs.Totals.{total-is}
-use Rattle.walk.specs.Walking.{noChunk, chunksIn, fileList, sizeOf, widthOf, Checked, File, LoadedPair, Crossed, crossings}
+use Rattle.spec.proofs.Clients.{length-sums, sums-at, sums-ext, sums-assoc, length-counts, count-at, count-none, counts-append, count-most}
+use Rattle.listing.specs.Streams.{small, streamOf, unreadAt, occurrences, numbersOf, total, ReadableStreams}
+use Rattle.listing.proofs.Totals.{total-is, keyword-counts}
+use Rattle.walk.specs.Walking.{noChunk, chunksIn, fileList, keywordCounts, sizeOf, widthOf, Checked, File, LoadedPair, Crossed, crossings}
 use Rattle.walk.proofs.Entries.{chunks-length, chunk-at, proper, records-good, sets-good, size-small, keywords-count, few}
-use Rattle.walk.proofs.Places.{AllGood, place-ready, place-join}
+use Rattle.walk.proofs.KeywordNumbers.{join-length, join-counts}
+use Rattle.walk.proofs.Places.{AllGood, crossable, place-ready, place-join}
 
 -- ---- what the check of the index says of a file's chunks
 
@@ -46,39 +47,7 @@ all-good index good file slots f =
           (sets-good index good _ (f .found n m) k u);
     }
 
--- ---- lengths
-
-length-match : {A : Type 0} (f g : ℕ → List A) (a b n : ℕ) → ((p : ℕ) → p < n → length (f (a + p)) ≡ length (g (b + p)))
-    → length (each f a n) ≡ length (each g b n)
-length-match f g a b zero h = refl
-length-match f g a b (suc n) h =
-    let first : length (f a) ≡ length (g b) = rw (add-zero, add-zero) at (h zero (zero-lt-suc n)) in
-    let others : (p : ℕ) → p < n → length (f (suc a + p)) ≡ length (g (suc b + p)) = λ p l.
-    rw (suc-add, ← add-suc, suc-add, ← add-suc) (h (suc p) (omega arith)) in
-    length-append (f a) (each f (suc a) n)
-    ∙ ap₂ (λ (x y : ℕ). x + y) first (length-match f g (suc a) (suc b) n others)
-    ∙ sym (length-append (g b) (each g (suc b) n))
-
-length-keep : {A : Type 0} (b : Bool) (x y : A) → length (keep b x) ≡ length (keep b y)
-length-keep true x y = refl
-length-keep false x y = refl
-
-occurrencesAt-length : (file file′ count offset offset′ : ℕ) (t : ℕ → Bool)
-    → length (occurrencesAt file count t offset) ≡ length (occurrencesAt file′ count t offset′)
-unfolding occurrencesAt
-occurrencesAt-length file file′ count offset offset′ t = length-match _ _ 0 0 count (λ k l. length-keep (t (0 + k)) _ _)
-
-join-length : (keywords : List (List ℕ)) (chunks : List ChunkRecords) (file base file′ base′ : ℕ)
-    → length (joinFrom file keywords base chunks) ≡ length (joinFrom file′ keywords base′ chunks)
-unfolding joinFrom
-join-length keywords [] file base file′ base′ = refl
-join-length keywords (here ∷ rest) file base file′ base′ =
-    length-append (each (λ at. occurrencesAt file (length keywords) (listed keywords here rest at) (base + at)) 0 (here .size)) _
-    ∙ ap₂ (λ (x y : ℕ). x + y)
-    (length-match _ _ 0 0 (here .size) (λ p l.
-    occurrencesAt-length file file′ (length keywords) (base + (0 + p)) (base′ + (0 + p)) (listed keywords here rest (0 + p))))
-    (join-length keywords rest file (base + here .size) file′ (base′ + here .size))
-    ∙ sym (length-append (each (λ at. occurrencesAt file′ (length keywords) (listed keywords here rest at) (base′ + at)) 0 (here .size)) _)
+-- ---- how many occurrences a file has
 
 -- THE COUNT DOES NOT HANG ON THE FILE'S NUMBER
 pub count-any : (index file : List ℕ) (number : ℕ) → length (fileList number index file) ≡ length (fileList 0 index file)
@@ -129,6 +98,12 @@ wordsIn index = foldedKeywords (listIn index)
 abbrev pub Counting : List ℕ → List ChunkRecords → ℕ → ℕ → Type 0
 Counting index chunks n sum = sum + length (joinFrom 0 (wordsIn index) 0 (drop n chunks)) ≡ length (joinFrom 0 (wordsIn index) 0 chunks)
 
+-- the counts before a place, with those of the occurrences from the place on, are the counts at the start with those of the file
+pub record CountingKeywords (index : List ℕ) (chunks : List ChunkRecords) (counts₀ counts : List ℕ) (n : ℕ) : Type 0 where
+  pub long : length counts ≡ 16
+  pub all : sums counts (keywordCounts (joinFrom 0 (wordsIn index) 0 (drop n chunks)))
+      ≡ sums counts₀ (keywordCounts (joinFrom 0 (wordsIn index) 0 chunks))
+
 -- `base` is where place n starts in the file, and p is where its list is to lie in the buffer, that of the file from `place` on.
 pub record ListingFile (index : List ℕ) (number : ℕ) (chunks : List ChunkRecords) (out₀ out : List ℕ) (place p n base : ℕ) : Type 0 where
   pub small : base + sizeOf (drop n chunks) < 2 ^ 32
@@ -167,6 +142,33 @@ module _ (index : List ℕ) (opened : Opened) (chunks : List ChunkRecords) (d : 
         total-is index (widthOf opened) size count streams ready 0 0,
         join-length (wordsIn index) (drop (n + 1) chunks) 0 (0 + size) 0 0,
       )
+
+  -- the streams are such that their offsets can be counted
+  pub countable : (k : ℕ) → k < count → small (streamOf streams k)
+  countable k u =
+      record {
+        left = rw (c .each k u) (crossable index opened chunks d good n rows rows′ size size′ pair .few k u);
+        set = ready .each k u .set;
+      }
+
+  -- this place's occurrences are added
+  pub keywords-on : (counts₀ counts counts′ : List ℕ) → CountingKeywords index chunks counts₀ counts n → counts′ ≡ sums counts (numbersOf streams count)
+      → CountingKeywords index chunks counts₀ counts′ (n + 1)
+  keywords-on counts₀ counts counts′ at e =
+      let rest : List Occurrence = joinFrom 0 (wordsIn index) 0 (drop (n + 1) chunks) in
+      let rest′ : List Occurrence = joinFrom 0 (wordsIn index) (0 + size) (drop (n + 1) chunks) in
+      let this : List ℕ = keywordCounts (here 0 0) in
+      let added : counts′ ≡ sums counts this = e ∙ sums-ext counts (numbersOf streams count) this (λ k u.
+      sym (keyword-counts index (widthOf opened) size count streams ready 0 0 k) ∙ sym (count-at (λ j. j) 16 (here 0 0) k (omega (arith, at .long)))) in
+      record {
+        long = ap length e ∙ length-sums counts (numbersOf streams count) ∙ at .long;
+        all = ap (λ (l : List ℕ). sums l (keywordCounts rest)) added
+            ∙ sums-assoc counts this (keywordCounts rest) (omega (arith, at .long, length-counts (λ j. j) 16 (here 0 0)))
+            ∙ ap (λ (l : List ℕ). sums counts (sums this l)) (join-counts (λ j. j) 16 (wordsIn index) (drop (n + 1) chunks) 0 0 0 (0 + size))
+            ∙ ap (sums counts) (sym (counts-append (λ j. j) 16 (here 0 0) rest′))
+            ∙ ap (λ (l : List Occurrence). sums counts (keywordCounts l)) (sym (next 0 0))
+            ∙ at .all;
+      }
 
   module _ (number : ℕ) (out₀ out : List ℕ) (place p base : ℕ) (at : ListingFile index number chunks out₀ out place p n base) where
     abbrev sizes : sizeOf (drop n chunks) ≡ size + sizeOf (drop (n + 1) chunks)
@@ -207,6 +209,15 @@ module _ (index : List ℕ) (opened : Opened) (chunks : List ChunkRecords) (d : 
 
 -- ---- before the first place and behind the last
 
+-- no occurrence adds to no count
+sums-none : (counts : List ℕ) → length counts ≡ 16 → sums counts (keywordCounts []) ≡ counts
+sums-none counts e =
+    ext-getD 0 (sums counts (keywordCounts [])) counts (length-sums counts (keywordCounts [])) (λ k u.
+    let v : k < length counts = omega (arith, length-sums counts (keywordCounts [])) in
+    sums-at counts (keywordCounts []) k v
+    ∙ ap (λ (x : ℕ). getD counts k 0 + x) (count-at (λ j. j) 16 [] k (omega (arith, e)) ∙ count-none (λ j. j) k)
+    ∙ add-zero (getD counts k 0))
+
 module _ (index file : List ℕ) where
   pub past : (number base n : ℕ) → length (chunksIn index file) ≤ n → joinFrom number (wordsIn index) base (drop n (chunksIn index file)) ≡ []
   unfolding joinFrom
@@ -214,6 +225,30 @@ module _ (index file : List ℕ) where
 
   pub counting-end : (n sum : ℕ) → length (chunksIn index file) ≤ n → Counting index (chunksIn index file) n sum → sum ≡ length (fileList 0 index file)
   counting-end n sum h c = omega (arith, c, ap length (past 0 0 n h))
+
+  module _ (counts₀ : List ℕ) where
+    pub keywords-start : length counts₀ ≡ 16 → CountingKeywords index (chunksIn index file) counts₀ counts₀ 0
+    keywords-start h = record { long = h; all = refl }
+
+    module _ (counts : List ℕ) (n : ℕ) (at : CountingKeywords index (chunksIn index file) counts₀ counts n) where
+      -- a count grows by no more than the file has occurrences
+      pub keywords-few : length counts₀ ≡ 16 → (k : ℕ) → k < 16 → getD counts k 0 ≤ getD counts₀ k 0 + length (fileList 0 index file)
+      keywords-few h k u =
+          let list : List Occurrence = fileList 0 index file in
+          let rest : List Occurrence = joinFrom 0 (wordsIn index) 0 (drop n (chunksIn index file)) in
+          omega (
+            arith,
+            ap (λ (l : List ℕ). getD l k 0) (at .all),
+            sums-at counts (keywordCounts rest) k (omega (arith, at .long)),
+            sums-at counts₀ (keywordCounts list) k (omega (arith, h)),
+            count-at (λ j. j) 16 list k u,
+            count-most (λ j. j) k list,
+          )
+
+      pub keywords-end : length (chunksIn index file) ≤ n → counts ≡ sums counts₀ (keywordCounts (fileList 0 index file))
+      keywords-end h =
+          sym (ap (λ (l : List Occurrence). sums counts (keywordCounts l)) (past 0 0 n h) ∙ sums-none counts (at .long))
+          ∙ at .all
 
   module _ (number : ℕ) (out₀ : List ℕ) (place : ℕ) where
     -- the list is in the buffer

@@ -1,4 +1,5 @@
 pub mod Entries
+pub mod KeywordNumbers
 pub mod Places
 pub mod Counts
 pub mod FileChoices

@@ -12,7 +12,7 @@ use Rattle.spec.specs.Records.{ChunkRecords, recordAt}
 use Rattle.spec.specs.Directory.{offsetAt, lengthAt}
 use Rattle.spec.specs.Index.{listIn, indexLayout, indexKeys, indexCode, indexRecords}
 use Rattle.spec.specs.Opened.{openedOf}
-use Rattle.spec.specs.Join.{Occurrence, keywordAt, joinFile, fileRecords}
+use Rattle.spec.specs.Join.{Occurrence, keywordAt, countsBy, joinFile, fileRecords}
 use Rattle.directory.specs.Chains.{keysFrom, Chained}
 use Rattle.spec.specs.Recipes.{named}
 use Rattle.files.specs.Measures.{Slotted}
@@ -33,6 +33,10 @@ chunksIn index file = fileRecords (formOf index) index (named file)
 -- The occurrences of a file, whose number is `number`.
 abbrev pub fileList : ℕ → List ℕ → List ℕ → List Occurrence
 fileList number index file = joinFile number (foldedKeywords (listIn index)) (chunksIn index file)
+
+-- How many occurrences of a list are of each keyword number.
+abbrev pub keywordCounts : List Occurrence → List ℕ
+keywordCounts list = countsBy (λ k. k) 16 list
 
 abbrev pub chunkIn : List ChunkRecords → ℕ → ChunkRecords
 chunkIn chunks n = getD chunks n noChunk

@@ -9,10 +9,10 @@ ghost use Rattle.spec.specs.Keywords.{foldedKeywords};
 ghost use Rattle.spec.specs.Form.{formOf};
 ghost use Rattle.spec.specs.Records.{recordAt};
 ghost use Rattle.spec.specs.Index.{listIn, indexRecords};
-ghost use Rattle.spec.specs.Join.{keywordAt, listBytes};
+ghost use Rattle.spec.specs.Join.{keywordAt, sums, listBytes};
 ghost use Rattle.tables.specs.Tabled.{tablesOf};
 ghost use Rattle.spans.specs.Spans.{crossingSet};
-ghost use Rattle.walk.specs.Walking.{chunksIn, fileList, Checked, Directory, File, EntryAt, SetsBehind, LoadedEntry, Crossable, Filled, cells};
+ghost use Rattle.walk.specs.Walking.{chunksIn, fileList, keywordCounts, Checked, Directory, File, EntryAt, SetsBehind, LoadedEntry, Crossable, Filled, cells};
 ghost use Rattle.walk.specs.Walking.{crossings, Startable, Prefixed, LoadedAt, LoadedPair};
 ghost use Rattle.listing.specs.Choosing.{chosenFrom, noChoice};
 
@@ -254,7 +254,7 @@ fn fill(
     }
 }
 
-// How many occurrences a file has.
+// How many occurrences a file has; each keyword's are added to its count (request #110).
 pub fn count_file(
     index: &[u8],
     opened: spec::Opened,
@@ -262,11 +262,14 @@ pub fn count_file(
     tables: &[[[u32; 32]; 32]; 16],
     file: &[u8],
     slots: &[u32],
+    counts: &mut [usize],
 ) -> usize
     requires { ⌜ Directory (now index) opened (now chains) ⌝ }
     requires { ⌜ now tables ≡ tablesOf (foldedKeywords (listIn (now index))) ⌝ }
     requires { ⌜ File (now index) (now file) (now slots) ⌝ }
-    ensures { λ r. ⌜ r ≡ length (fileList 0 (now (index .entry)) (now (file .entry))) ⌝ }
+    requires { ⌜ (length (now counts) ≡ 16) × ((k : ℕ) → k < 16 → getD (now counts) k 0 < 2 ^ 62) ⌝ }
+    ensures { λ r. ⌜ (r ≡ length (fileList 0 (now (index .entry)) (now (file .entry))))
+        × (now (counts .exit) ≡ sums (now (counts .entry)) (keywordCounts (fileList 0 (now (index .entry)) (now (file .entry))))) ⌝ }
 {
     let mut rows = [[0usize; 4]; 16];
     let mut streams = [[0usize; 5]; 16];
@@ -278,15 +281,16 @@ pub fn count_file(
         let first = rows;
         let e = entry_at(index, opened, chains, file, slots, n + 1);
         let after = load(index, opened, e, &mut rows);
+        let mut many: usize = 0;
         if opened.longest <= after + 1 {
-            sum += cross(size, opened.keywords, tables, &first, &rows, &mut streams);
+            many = cross(size, opened.keywords, tables, &first, &rows, &mut streams);
         } else {
             let spot = Here {
                 opened: opened,
                 place: n,
                 size: size,
             };
-            sum += cross_over(
+            many = cross_over(
                 index,
                 spot,
                 chains,
@@ -297,6 +301,8 @@ pub fn count_file(
                 &mut streams,
             );
         }
+        listing::count_place(&streams, opened.keywords, many, counts);
+        sum += many;
         size = after;
         n += 1;
     }

@@ -1,5 +1,7 @@
-//! What the benchmarks share: the clock, made-up vaults, the peers, and the rows of the scan, of compaction, of a join by its places and of queries.
+//! What the benchmarks share: the clock, made-up vaults, the peers, and the rows of the scan, of compaction, of a join by its places and
+//! by its clients, and of queries.
 
+pub mod clients;
 pub mod clock;
 pub mod compaction;
 pub mod generate;

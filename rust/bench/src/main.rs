@@ -5,6 +5,7 @@
 //!     bench --compact [ROUNDS]
 //!     bench --places [ROUNDS] [--few]
 //!     bench --query [ROUNDS] [--few]
+//!     bench --tally [ROUNDS] [--few]
 //!
 //! Every row's methods run one after the other in each round, so that a row's ratios are of one run; times are medians of
 //! the rounds, in processor time of the thread. With each row stands the time of a fixed loop: rows whose loop took longer
@@ -13,7 +14,7 @@
 use bench::clock::{self, calibration, median, timed};
 use bench::generate::{self, index_of, key, recipes, recipes_of, store_of, vault, Vault};
 use bench::peers::{plain, restore_each, Automaton, Chunks};
-use bench::{compaction, places, queries, scan};
+use bench::{clients, compaction, places, queries, scan};
 use std::hint::black_box;
 
 struct Options {
@@ -49,16 +50,18 @@ fn main() {
         Some("--compact") => return compaction::main(words.collect()),
         Some("--places") => return places::main(words.collect()),
         Some("--query") => return queries::main(words.collect()),
+        Some("--tally") => return clients::main(words.collect()),
         _ => (),
     }
     let Some(options) = options() else {
         eprintln!(
             "usage: bench [MEGABYTES] [ROUNDS] [--fresh] [--no-plain] [--directories]\n       bench --scan {}\n       bench --compact {}\n       \
-             bench --places {}\n       bench --query {}",
+             bench --places {}\n       bench --query {}\n       bench --tally {}",
             scan::USAGE,
             compaction::USAGE,
             places::USAGE,
-            queries::USAGE
+            queries::USAGE,
+            clients::USAGE
         );
         std::process::exit(64);
     };
@@ -122,7 +125,7 @@ fn row(options: &Options, vault: &Vault, ratio: f64, count: usize, common: bool)
 
     // The list, once by each method: they must agree. What they wrote stays as warm buffers.
     let mut index = vault::scan(&list, &vault.store).expect("a good store").index;
-    let mut out = vault::join_bytes(&index, &recipes).expect("good recipes");
+    let mut out = vault::unbilled::join_bytes(&index, &recipes).expect("good recipes");
     let occurrences = out.len() / vault::ROW;
     let mut found = Vec::with_capacity(occurrences);
     let mut restored = Vec::new();
@@ -166,7 +169,7 @@ fn row(options: &Options, vault: &Vault, ratio: f64, count: usize, common: bool)
                 if options.fresh {
                     out = vec![0; out_length];
                 }
-                vault::join_into(&index, &recipes, &mut out).expect("it was joined before")
+                vault::unbilled::join_into(&index, &recipes, &mut out).expect("it was joined before")
             })
             .0,
         );
@@ -251,7 +254,7 @@ fn many_places(options: &Options) {
             let index = index_of(&list, 65_000, &body);
             let mut out = vec![0; named * vault::ROW];
             let (time, fixed) = measured(options, || {
-                assert!(vault::join_into(&index, &recipes, &mut out).expect("good recipes") == named);
+                assert!(vault::unbilled::join_into(&index, &recipes, &mut out).expect("good recipes") == named);
             });
             println!(
                 "  {count:>2} keywords, {named:>4} files with an occurrence: {time:>9.1} ms, {:>6.1} ns a place (loop {fixed:.1} ms)",

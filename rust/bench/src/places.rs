@@ -110,11 +110,12 @@ fn row(options: &Options, [chunks, words]: [&str; 2], store: &[u8], keywords: &[
     let index = vault::scan(&list, store).expect("a good store").index;
     let places = places_of(recipes);
     print!("{chunks:<29} {words:<25} {:<4} {places:>10}", Form::of(&index).name());
-    let mut out = match vault::join_bytes(&index, recipes) {
+    let mut out = match vault::unbilled::join_bytes(&index, recipes) {
         Ok(out) => out,
         Err(why) => return println!("  {}", why.to_string().split(':').next().unwrap_or("refused")),
     };
     let count = out.len() / vault::ROW;
-    let (time, fixed) = measured(options.rounds, || assert!(vault::join_into(black_box(&index), recipes, &mut out) == Ok(count)));
+    let (time, fixed) =
+        measured(options.rounds, || assert!(vault::unbilled::join_into(black_box(&index), recipes, &mut out) == Ok(count)));
     println!(" {time:>13.1} {:>9.1} {count:>12} {fixed:>11.1}", 1e6 * time / places as f64);
 }

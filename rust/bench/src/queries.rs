@@ -49,14 +49,14 @@ fn run(options: &Options) {
 
 /// One row: four calls in each round.
 fn row(options: &Options, [keywords, kind]: [&str; 2], index: &[u8], recipes: &[u8], query: &[u8]) {
-    let mut list = vault::join_bytes(index, recipes).expect("good recipes");
+    let mut list = vault::unbilled::join_bytes(index, recipes).expect("good recipes");
     let mut lines = vault::query_bytes(index, recipes, query).expect("a good query");
     let (occurrences, count) = (list.len() / vault::ROW, lines.len() / vault::line_size(query));
     let mut times: [Vec<f64>; 5] = Default::default();
     for _ in 0..options.rounds {
         times[0].push(calibration());
         times[1].push(timed(|| assert!(vault::count(black_box(index), recipes) == Ok(occurrences as u64))).0);
-        times[2].push(timed(|| assert!(vault::join_into(black_box(index), recipes, &mut list) == Ok(occurrences))).0);
+        times[2].push(timed(|| assert!(vault::unbilled::join_into(black_box(index), recipes, &mut list) == Ok(occurrences))).0);
         times[3].push(timed(|| assert!(vault::query_count(black_box(index), recipes, query) == Ok(count as u64))).0);
         times[4].push(timed(|| assert!(vault::query_into(black_box(index), recipes, query, &mut lines) == Ok(count))).0);
     }

@@ -148,6 +148,7 @@ impl Vault {
             recipes: recipes::encode(&self.files),
             keys: inputs::lookups(rng, &keys),
             queries: vec![],
+            lents: vec![],
         }
     }
 

@@ -56,6 +56,7 @@ fn case(kind: &'static str, store: Vec<u8>) -> Case {
         recipes: recipes::encode(&[vec![key(0)]]),
         keys,
         queries: vec![],
+        lents: vec![],
     }
 }
 

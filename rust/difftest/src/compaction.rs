@@ -1,5 +1,6 @@
 //! Compaction (request 107): the library beside the oracle in every case, and beside itself on a store and on what it makes of it; cases for it.
 
+use crate::clients;
 use crate::compare::{fits, pattern, Comparison, Number, Verdict};
 use crate::fixed::{case, key, small_chunks, Chunks};
 use crate::inputs::{list, Case};
@@ -96,7 +97,8 @@ impl Comparison<'_> {
             return Err("compact: the new store, compacted again, isn't itself".into());
         }
         let (list, recipes) = (&case.list[..], &case.recipes[..]);
-        self.searched_alike(&Pair { change: Change::Compacted, stores: [&case.store, new], list, recipes, number, salt })
+        let lent = clients::blind(self.rng, clients::words_of(list));
+        self.searched_alike(&Pair { change: Change::Compacted, stores: [&case.store, new], list, recipes, number, salt, lent })
     }
 
     /// Lists and their refusals on a store and on the compacted one, with indexes in full and list buffers of equal length.

@@ -1,6 +1,7 @@
 //! One case: every call of the library beside the oracle, with every byte of every buffer.
 
 use crate::across;
+use crate::clients::{self, Lent, Listed};
 use crate::folds::Meetings;
 use crate::holes;
 use crate::inputs::Case;
@@ -37,6 +38,8 @@ pub struct Tally {
     pub compactions: Reached,
     pub crossings: Reached,
     pub queries: Reached,
+    /// What the keys and tallies of joins and searches came upon.
+    pub clients: Reached,
     /// Lines of queries, each query's once.
     pub lines: u64,
     /// Bytes at the fold's borders.
@@ -85,6 +88,9 @@ pub struct Comparison<'a> {
 
 pub type Verdict = Result<(), String>;
 
+/// What a call writes in a buffer that is long enough, or its refusal.
+pub type Bytes = Result<Vec<u8>, u8>;
+
 impl Comparison<'_> {
     pub fn run(&mut self, case: &Case) -> Verdict {
         *self.tally.kinds.entry(case.kind).or_default() += 1;
@@ -101,14 +107,14 @@ impl Comparison<'_> {
             self.lookup("find_chunk", raw::chunk(stored.get(), key), calls::chunk_in(&chunks, key))?;
         }
         if let Some(index) = own.as_ref().map(Input::get).or(scanned.as_deref().ok()) {
-            self.joins(index, recipes.get(), &case.queries)?;
+            self.joins(index, recipes.get(), case)?;
             let read = index::read(index);
             let entry = 8 + case.list.len();
             for key in case.keys.iter().map(|key| &key[..]).chain(index.get(entry..entry + 20)) {
                 self.lookup("find_body", raw::body(index, key), calls::body_in(&read, key))?;
             }
         }
-        self.searches(list.get(), stored.get(), recipes.get(), &scanned)?;
+        self.searches(list.get(), stored.get(), recipes.get(), &scanned, &case.lents)?;
         self.compactions(stored.get(), recipes.get(), &chunks)?;
         let kept = list.get() == case.list && stored.get() == case.store && recipes.get() == case.recipes;
         if !kept || own.is_some_and(|index| Some(index.get()) != case.index.as_deref()) {
@@ -212,7 +218,7 @@ impl Comparison<'_> {
     }
 
     /// Keyword check, store check, the scan's length, and scans. Gives the index.
-    fn scans(&mut self, list: &[u8], bytes: &[u8]) -> Result<Result<Vec<u8>, u8>, String> {
+    fn scans(&mut self, list: &[u8], bytes: &[u8]) -> Result<Bytes, String> {
         self.code("check_keywords", raw::check_keywords(list), calls::check_keywords(list))?;
         self.listed(list, calls::check_keywords(list));
         self.code("check_store", raw::check_store(bytes), calls::check_store(bytes))?;
@@ -241,7 +247,7 @@ impl Comparison<'_> {
     }
 
     /// Index check, the count, joins, and queries.
-    fn joins(&mut self, bytes: &[u8], recipes: &[u8], queries: &[Vec<u8>]) -> Verdict {
+    fn joins(&mut self, bytes: &[u8], recipes: &[u8], case: &Case) -> Verdict {
         let index = index::read(bytes);
         self.code("check_index", raw::check_index(bytes), index.as_ref().err().copied().unwrap_or(0))?;
         self.listed(vault::keywords_in_index(bytes), index.as_ref().err().copied().unwrap_or(0));
@@ -269,17 +275,10 @@ impl Comparison<'_> {
             let wrapped = (exact & U32) as usize;
             lengths.extend([wrapped, wrapped + 44_651].into_iter().filter(|length| *length as u64 <= self.limits.buffer));
         }
-        for length in lengths {
-            let salt = self.rng.byte();
-            let mut out = pattern(salt, length);
-            let mut counted = Number::new(self.rng);
-            let code = raw::join(bytes, recipes, &mut out, &mut counted.now);
-            let (want_code, front) = fits(&list, length, 18);
-            self.code("join", code, want_code)?;
-            self.told("join", "count", &counted, (want_code == 0).then_some(front.len() as u64 / 9))?;
-            self.buffer("join", &out, salt, front)?;
-        }
-        self.queries(bytes, recipes, &joined, &found.unwrap_or_default(), queries)
+        let found = found.unwrap_or_default();
+        let listed = Listed::new(index.as_ref().ok().map(|index| &index.keywords), &found);
+        self.lists(bytes, recipes, listed, &list, (lengths, &case.lents))?;
+        self.queries(bytes, recipes, &joined, &found, &case.queries)
     }
 
     fn lookup(
@@ -295,7 +294,7 @@ impl Comparison<'_> {
     }
 
     /// Scan and join in one call, and the direct search of the restored files.
-    fn searches(&mut self, list: &[u8], bytes: &[u8], recipes: &[u8], index: &Result<Vec<u8>, u8>) -> Verdict {
+    fn searches(&mut self, list: &[u8], bytes: &[u8], recipes: &[u8], index: &Bytes, own: &[Lent]) -> Verdict {
         let read = index.as_ref().map_err(|code| *code).and_then(|index| index::read(index));
         let joined = read.as_ref().map_err(|code| *code).and_then(|read| Joined::new(read, recipes));
         let exact = 9 * joined.as_ref().map_or(0, Joined::count);
@@ -308,7 +307,9 @@ impl Comparison<'_> {
             self.tally.occurrences += found.len() as u64;
             self.direct(list, bytes, recipes, found)?;
         }
-        let rows = found.map(|found| join::encode(&found));
+        let rows = found.as_ref().map(|found| join::encode(found)).map_err(|code| *code);
+        let found = found.unwrap_or_default();
+        let listed = Listed::new(read.as_ref().ok().map(|read| &read.keywords), &found);
         let length = index.as_ref().map_or(100, |index| index.len());
         let room = if rows.is_ok() { exact as usize } else { 50 };
         let more = self.rng.below(30);
@@ -317,20 +318,49 @@ impl Comparison<'_> {
             tries.extend([(length - 1, room), (length + more, room + more)]);
             tries.extend(self.around_the_bound(list, bytes, self.limits.large).into_iter().map(|length| (length, room)));
         }
-        for (length, room) in tries {
-            let (salt, pepper) = (self.rng.byte(), self.rng.byte());
-            let (mut indexed, mut out) = (pattern(salt, length), pattern(pepper, room));
-            let (mut scanned, mut count) = (Number::new(self.rng), Number::new(self.rng));
-            let code = raw::search(list, bytes, recipes, (&mut indexed, &mut out), (&mut scanned.now, &mut count.now));
-            let (scan_code, index_front) = fits(index, length, 9);
-            let (join_code, front) = if scan_code == 0 { fits(&rows, room, 18) } else { (scan_code, &[][..]) };
-            self.code("search", code, join_code)?;
-            self.told("search", "index length", &scanned, (scan_code == 0).then_some(index_front.len() as u64))?;
-            self.told("search", "count", &count, (join_code == 0).then_some(front.len() as u64 / 9))?;
-            self.buffer("search's index", &indexed, salt, index_front)?;
-            self.buffer("search's list", &out, pepper, front)?;
+        let mut tries: Vec<_> = tries.into_iter().map(|rooms| (rooms, clients::accepted(self.rng, listed))).collect();
+        tries.extend(own.iter().map(|lent| ((length, room), lent.clone())));
+        tries.push(((length, room), clients::any(self.rng, listed)));
+        if (length + room) as u64 <= self.limits.large {
+            tries.push(((length, room + more), clients::any(self.rng, listed)));
+            tries.push(((length - 1, room), clients::any(self.rng, listed)));
+        }
+        for (rooms, lent) in tries {
+            self.search((list, bytes, recipes), (index, &rows), listed, rooms, &lent)
+                .map_err(|why| format!("{why} ({lent:?})"))?;
         }
         Ok(())
+    }
+
+    /// One search beside the oracle: of these inputs, which scan and join to these, in buffers of these lengths.
+    fn search(
+        &mut self,
+        (list, bytes, recipes): (&[u8], &[u8], &[u8]),
+        (index, rows): (&Bytes, &Bytes),
+        listed: Listed,
+        (length, room): (usize, usize),
+        lent: &Lent,
+    ) -> Verdict {
+        let (salt, pepper) = (self.rng.byte(), self.rng.byte());
+        let (mut indexed, mut out) = (pattern(salt, length), pattern(pepper, room));
+        let (mut scanned, mut count, mut after) = (Number::new(self.rng), Number::new(self.rng), lent.before);
+        let key = Input::new(&lent.key, self.rng.below(4));
+        let (buffers, numbers) = ((&mut indexed[..], &mut out[..]), (&mut scanned.now, &mut count.now));
+        let code = raw::search(list, bytes, recipes, key.get(), buffers, numbers, &mut after);
+        let (scan_code, index_front) = fits(index, length, 9);
+        let (earlier, front) = if scan_code == 0 { fits(rows, room, 18) } else { (scan_code, &[][..]) };
+        let want = self.charged(earlier, listed, lent)?;
+        let front = if want.0 == 0 { front } else { &[] };
+        self.code("search", code, want.0)?;
+        self.told("search", "index length", &scanned, (scan_code == 0).then_some(index_front.len() as u64))?;
+        self.told("search", "count", &count, (want.0 == 0).then_some(front.len() as u64 / 9))?;
+        self.buffer("search's index", &indexed, salt, index_front)?;
+        self.buffer("search's list", &out, pepper, front)?;
+        self.counts("search", &after, lent, want)?;
+        match key.get() == lent.key {
+            true => Ok(()),
+            false => Err("search: the key was changed".into()),
+        }
     }
 
     /// The oracle's join beside the direct search, where the files aren't too large for it.
@@ -400,7 +430,7 @@ impl Input {
 }
 
 /// The code and the bytes written for a buffer of that length.
-pub fn fits(bytes: &Result<Vec<u8>, u8>, length: usize, too_long: u8) -> (u8, &[u8]) {
+pub fn fits(bytes: &Bytes, length: usize, too_long: u8) -> (u8, &[u8]) {
     match bytes {
         Ok(bytes) if bytes.len() <= length && bytes.len() as u64 <= U32 => (0, bytes),
         Ok(_) => (too_long, &[]),

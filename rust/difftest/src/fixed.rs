@@ -2,7 +2,7 @@
 
 use crate::inputs::{list, Case};
 use crate::rng::Rng;
-use crate::{across, beyond, compaction, folds, holes, lanes, queries, windows};
+use crate::{across, beyond, clients, compaction, folds, holes, lanes, queries, windows};
 use oracle::form::{Form, KNOWN, NEWEST};
 use oracle::records::Record;
 use oracle::{index, recipes, store, Fingerprint};
@@ -15,7 +15,8 @@ pub type Chunks = Vec<(Fingerprint, Vec<u8>)>;
 pub fn case(kind: &'static str, list: Vec<u8>, chunks: &Chunks, files: &[Vec<Fingerprint>]) -> Case {
     let mut keys: Vec<Vec<u8>> = chunks.iter().take(2).chain(chunks.last()).map(|(key, _)| key.to_vec()).collect();
     keys.extend([vec![0x77; 20], vec![], vec![1; 19], vec![1; 21]]);
-    Case { kind, list, store: store::encode(chunks), index: None, recipes: recipes::encode(files), keys, queries: vec![] }
+    let (store, recipes) = (store::encode(chunks), recipes::encode(files));
+    Case { kind, list, store, index: None, recipes, keys, queries: vec![], lents: vec![] }
 }
 
 pub fn key(k: usize) -> Fingerprint {
@@ -100,6 +101,7 @@ pub fn small() -> Vec<Case> {
     cases.extend(compaction::by_hand());
     cases.extend(across::by_hand());
     cases.extend(queries::by_hand());
+    cases.extend(clients::by_hand());
     cases
 }
 

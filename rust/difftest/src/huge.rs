@@ -31,6 +31,9 @@ fn key(k: usize) -> Fingerprint {
 /// What a number holds before a call.
 const UNTOLD: u64 = 0xA5A5_A5A5_A5A5_A5A5;
 
+/// The first three keywords are three clients'; there are no more here.
+const KEY: [u8; 16] = [3, 1, 2, 9, 9, 9, 9, 9, 9, 9, 9, 9, 9, 9, 9, 9];
+
 /// A call's code and number.
 fn answer(call: impl FnOnce(&mut u64) -> u8) -> (u8, u64) {
     let mut number = UNTOLD;
@@ -128,11 +131,13 @@ fn longest_store(count: usize) -> Verdict {
     let files = [(0..count).rev().map(key).collect::<Vec<_>>(), vec![key(0); 2]];
     let recipes = recipes::encode(&files);
     let mut expected = vec![0; 9 * 240_000];
-    let joined = answer(|count| calls::join(&want, &recipes, &mut expected, count));
+    let mut tallies = [[1, 2, 3, 4]; 2];
+    let joined = answer(|count| calls::join(&want, &recipes, &KEY, &mut expected, count, &mut tallies[0]));
     expected.truncate(9 * joined.1 as usize);
     let mut out = vec![0xEE; expected.len()];
-    same("join", answer(|count| raw::join(&want, &recipes, &mut out, count)), joined)?;
+    same("join", answer(|count| raw::join(&want, &recipes, &KEY, &mut out, count, &mut tallies[1])), joined)?;
     same("the list is the oracle's", out == expected, true)?;
+    same("the tally", tallies[1], tallies[0])?;
     compacted(&bytes, count, &recipes)?;
     let twin = 8 + 28 * (count - 1);
     bytes.copy_within(8..28, twin);
@@ -368,10 +373,13 @@ fn as_without_holes(offsets: [u64; 2], bytes: &[u8]) -> Verdict {
     }
     same("chunk that isn't there", raw::chunk(bytes, &fixed::key(2)), (15, 0, 0))?;
     let (mut index, mut out, mut expected) = (vec![0xEE; want.len()], vec![0xEE; 200], vec![0xEE; 200]);
-    let joined = answer(|count| calls::join(&want, &recipes, &mut expected, count));
+    let mut tallies = [[u64::MAX - 40; 4]; 2];
+    let joined = answer(|count| calls::join(&want, &recipes, &KEY, &mut expected, count, &mut tallies[0]));
     let (mut length, mut count) = (UNTOLD, UNTOLD);
-    let code = raw::search(&words, bytes, &recipes, (&mut index, &mut out), (&mut length, &mut count));
+    let (buffers, numbers) = ((&mut index[..], &mut out[..]), (&mut length, &mut count));
+    let code = raw::search(&words, bytes, &recipes, &KEY, buffers, numbers, &mut tallies[1]);
     same("search", (code, length, count), (joined.0, want.len() as u64, joined.1))?;
+    same("the tally", tallies[1], tallies[0])?;
     same("its index and its list", index == want && out == expected, true)?;
     let mut out = vec![0xEE; plain.len() + 3];
     same("compact_size", answer(|told| raw::compact_size(bytes, &recipes, told)), (0, plain.len() as u64))?;

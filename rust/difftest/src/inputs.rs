@@ -1,5 +1,6 @@
 //! Random inputs: keywords that overlap and nest, chunks made of their pieces, recipes, made-up records.
 
+use crate::clients::Lent;
 use crate::folds::beside;
 use crate::holes;
 use crate::rng::Rng;
@@ -21,6 +22,8 @@ pub struct Case {
     pub keys: Vec<Vec<u8>>,
     /// Queries to ask beside random ones.
     pub queries: Vec<Vec<u8>>,
+    /// Keys and tallies to join with beside random ones.
+    pub lents: Vec<Lent>,
 }
 
 impl Case {
@@ -312,6 +315,7 @@ pub fn vault_of(rng: &mut Rng, kind: &'static str, words: Words) -> (Case, Words
         recipes: recipes::encode(&files),
         keys: lookups(rng, &keys),
         queries: vec![],
+        lents: vec![],
     };
     (case, words, keys)
 }

@@ -175,5 +175,6 @@ pub fn vault(rng: &mut Rng) -> Case {
         recipes: recipes::encode(&inputs::files(rng, &keys)),
         keys: inputs::lookups(rng, &keys),
         queries: vec![],
+        lents: vec![],
     }
 }

@@ -9,6 +9,7 @@
 
 mod across;
 mod beyond;
+mod clients;
 mod compaction;
 mod compare;
 mod damage;
@@ -178,6 +179,7 @@ fn noise(rng: &mut Rng) -> Case {
         recipes: bytes(&[2, 0, 0, 0, 1, 0, 0, 0]),
         keys: vec![bytes(&[]), vec![1; 20]],
         queries: vec![],
+        lents: vec![],
     }
 }
 
@@ -228,6 +230,7 @@ fn keep(folder: &str, case: &Case, other: Option<(Change, &[u8])>) -> std::io::R
     case.index.as_ref().map_or(Ok(()), |index| write("index.bin", index))?;
     other.map_or(Ok(()), |(_, other)| write("other-store.bin", other))?;
     case.queries.iter().enumerate().try_for_each(|(k, query)| write(&format!("query{k}.bin"), query))?;
+    case.lents.iter().enumerate().try_for_each(|(k, lent)| write(&format!("lent{k}.txt"), format!("{lent:?}\n").as_bytes()))?;
     case.keys.iter().enumerate().try_for_each(|(k, key)| write(&format!("key{k}.bin"), key))
 }
 
@@ -257,6 +260,7 @@ fn run(arguments: &Arguments) -> ExitCode {
         ("what no compaction came upon", run.tally.compactions.missing(&compaction::ALL)),
         ("what no join came upon", run.tally.crossings.missing(&across::ALL)),
         ("what no query came upon", run.tally.queries.missing(&queries::ALL)),
+        ("what no key or tally came upon", run.tally.clients.missing(&clients::ALL)),
     ];
     for (what, which) in lacking.iter().filter(|(_, which)| !which.is_empty()) {
         println!("FAILED: {what}: {}", which.join(", "));
@@ -313,12 +317,12 @@ const REACHABLE: [(&str, &[u8]); 14] = [
     ("scan_size", &[0, 1, 2, 3, 4, 5, 6, 7, 8, 20]),
     ("scan", &[0, 1, 2, 3, 4, 5, 6, 7, 8, 9, 20]),
     ("count", &[0, 1, 2, 3, 4, 10, 11, 12, 13, 14, 15, 16, 17]),
-    ("join", &[0, 1, 2, 3, 4, 10, 11, 12, 13, 14, 15, 16, 17, 18]),
+    ("join", &[0, 1, 2, 3, 4, 10, 11, 12, 13, 14, 15, 16, 17, 18, 22, 23]),
     ("query_count", &[0, 1, 2, 3, 4, 10, 11, 12, 13, 14, 15, 16, 17, 21]),
     ("query", &[0, 1, 2, 3, 4, 10, 11, 12, 13, 14, 15, 16, 17, 18, 21]),
     ("find_chunk", &[0, 5, 6, 7, 8, 15, 19, 20]),
     ("find_body", &[0, 1, 2, 3, 4, 10, 11, 12, 13, 15, 19]),
-    ("search", &[0, 1, 2, 3, 4, 5, 6, 7, 8, 9, 14, 15, 16, 18, 20]),
+    ("search", &[0, 1, 2, 3, 4, 5, 6, 7, 8, 9, 14, 15, 16, 18, 20, 22, 23]),
     ("compact_size", &[0, 5, 6, 7, 8, 14, 15, 20]),
     ("compact", &[0, 5, 6, 7, 8, 9, 14, 15, 20]),
 ];
@@ -350,6 +354,7 @@ fn report(tally: &Tally, time: Duration) {
     println!("compactions: {}", tally.compactions.report(&compaction::ALL));
     println!("keywords across chunks: {}", tally.crossings.report(&across::ALL));
     println!("queries: {}", tally.queries.report(&queries::ALL));
+    println!("keys and tallies: {}", tally.clients.report(&clients::ALL));
     let calls: u64 = tally.codes.values().sum();
     println!(
         "\n{} cases, {calls} answers compared, {} bytes of buffers, {} occurrences listed, {} lines of queries,",

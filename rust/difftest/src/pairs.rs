@@ -1,6 +1,8 @@
 //! The library on a pair of stores, everything else being equal: with the same chunks in another order (request 101) or with other holes
-//! (request 106), and a store with what a compaction makes of it (request 107). Its answers are compared with each other; no oracle is asked.
+//! (request 106), and a store with what a compaction makes of it (request 107). Joins and searches of both have the same key and tallies that are equal at
+//! entry (request 110). Its answers are compared with each other; no oracle is asked.
 
+use crate::clients::{self, Lent};
 use crate::compare::{pattern, Comparison, Verdict};
 use crate::inputs::Case;
 use vault::raw;
@@ -36,6 +38,8 @@ pub struct Pair<'a> {
     /// What a number and the buffers hold before a call.
     pub number: u64,
     pub salt: u8,
+    /// The key of both, and their tallies at entry, which are equal (request 110).
+    pub lent: Lent,
 }
 
 /// A scan's code, its length and moves, and its buffer.
@@ -80,7 +84,9 @@ impl Comparison<'_> {
     /// The library on the case's store and on another one.
     pub fn pair(&mut self, change: Change, case: &Case, other: &[u8]) -> Verdict {
         let (list, recipes) = (&case.list[..], &case.recipes[..]);
-        let pair = Pair { change, stores: [other, &case.store], list, recipes, number: self.rng.next(), salt: self.rng.byte() };
+        let lent = clients::blind(self.rng, clients::words_of(list));
+        let (number, salt) = (self.rng.next(), self.rng.byte());
+        let pair = Pair { change, stores: [other, &case.store], list, recipes, number, salt, lent };
         self.alike(change, "check_store", pair.stores.map(|store| (raw::check_store(store), ())))?;
         let sizes = pair.stores.map(|store| pair.number(|n| raw::scan_size(list, store, n)));
         self.alike(change, "scan_size", sizes)?;
@@ -145,10 +151,11 @@ impl Comparison<'_> {
     /// Joins of what the scans wrote, in list buffers of that length.
     pub fn pair_lists(&mut self, pair: &Pair, indexes: [&[u8]; 2], room: usize) -> Verdict {
         let joins = indexes.map(|index| {
-            let mut out = pattern(pair.salt, room);
-            let (code, count) = pair.number(|n| raw::join(index, pair.recipes, &mut out, n));
-            (code, (count, out))
+            let (mut out, mut after) = (pattern(pair.salt, room), pair.lent.before);
+            let (code, count) = pair.number(|n| raw::join(index, pair.recipes, &pair.lent.key, &mut out, n, &mut after));
+            (code, (count, out, after))
         });
+        self.pair_lent(joins[0].0, &pair.lent, &joins[0].1 .2);
         self.alike(pair.change, "join", joins)
     }
 
@@ -156,10 +163,12 @@ impl Comparison<'_> {
     pub fn pair_searches(&mut self, pair: &Pair, length: usize, room: usize) -> Verdict {
         let searches = pair.stores.map(|store| {
             let (mut index, mut out) = (pattern(pair.salt, length), pattern(pair.salt, room));
-            let (mut scanned, mut count) = (pair.number, pair.number);
-            let code = raw::search(pair.list, store, pair.recipes, (&mut index, &mut out), (&mut scanned, &mut count));
-            (code, scanned, count, index, out)
+            let (mut scanned, mut count, mut after) = (pair.number, pair.number, pair.lent.before);
+            let (buffers, numbers) = ((&mut index[..], &mut out[..]), (&mut scanned, &mut count));
+            let code = raw::search(pair.list, store, pair.recipes, &pair.lent.key, buffers, numbers, &mut after);
+            (code, scanned, (count, after), index, out)
         });
+        self.pair_lent(searches[0].0, &pair.lent, &searches[0].2 .1);
         let due = |index| pair.due(searches[0].1 != pair.number, index);
         let told = |scanned| (pair.change != Change::Compacted).then_some(scanned);
         let [a, b] = &searches;

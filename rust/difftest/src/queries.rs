@@ -269,6 +269,11 @@ impl Comparison<'_> {
 
     /// Queries of what the scans of two stores wrote.
     pub fn pair_queries(&mut self, pair: &Pair, indexes: [&[u8]; 2]) -> Verdict {
+        // The stand-in makes the whole list for a query, which memory doesn't hold where it is that long.
+        let mut occurrences = 0;
+        if vault::IS_MOCK && raw::count(indexes[0], pair.recipes, &mut occurrences) == 0 && occurrences > MOST as u64 {
+            return Ok(());
+        }
         let query = any_numbers(self.rng, usize::from(pair.list.first().copied().unwrap_or(0)));
         let counts = indexes.map(|index| pair.number(|n| raw::query_count(index, pair.recipes, &query, n)));
         self.alike(pair.change, "query_count", counts)?;

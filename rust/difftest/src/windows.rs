@@ -245,6 +245,7 @@ fn random(rng: &mut Rng) -> Case {
         recipes: recipes::encode(&[keys.clone(), vec![*rng.pick(&keys); 2]]),
         keys: inputs::lookups(rng, &keys),
         queries: vec![],
+        lents: vec![],
     }
 }
 

@@ -1,11 +1,12 @@
 //! The operations in the shape of the C interface: a code (0: done), and lent buffers and numbers. A refusal leaves these as
 //! they were.
 
+use crate::clients::Counts;
 use crate::form::NEWEST;
 use crate::index::Index;
 use crate::join::Joined;
 use crate::store::Chunk;
-use crate::{compact, index, join, keywords, moves, query, store, Code, U32};
+use crate::{clients, compact, index, join, keywords, moves, query, store, Code, U32};
 use std::ops::Range;
 
 /// A call's code; its length or count goes to the lent number where the call is done.
@@ -90,7 +91,8 @@ pub fn count(bytes: &[u8], recipes: &[u8], count: &mut u64) -> Code {
     told(run(), count)
 }
 
-pub fn join(bytes: &[u8], recipes: &[u8], out: &mut [u8], count: &mut u64) -> Code {
+/// The key and the tally are tested behind 18: 22, then 23. Only then is anything written or added.
+pub fn join(bytes: &[u8], recipes: &[u8], key: &[u8], out: &mut [u8], count: &mut u64, tally: &mut Counts) -> Code {
     let mut run = || {
         let index = index::read(bytes)?;
         let joined = Joined::new(&index, recipes)?;
@@ -98,7 +100,11 @@ pub fn join(bytes: &[u8], recipes: &[u8], out: &mut [u8], count: &mut u64) -> Co
         if 9 * found > out.len() as u64 {
             return Err(18);
         }
-        put(out, &join::encode(&joined.list()), 18)?;
+        clients::test(key, &index.keywords)?;
+        let list = joined.list();
+        let sums = clients::sums(tally, &clients::counts(key, &list))?;
+        put(out, &join::encode(&list), 18)?;
+        *tally = sums;
         Ok(found)
     };
     told(run(), count)
@@ -169,15 +175,17 @@ pub fn search(
     list: &[u8],
     store: &[u8],
     recipes: &[u8],
+    key: &[u8],
     (index, out): (&mut [u8], &mut [u8]),
     (index_length, count): (&mut u64, &mut u64),
+    tally: &mut Counts,
 ) -> Code {
     // A search doesn't report its scan's moves.
     let scanned = scan(list, store, index, (index_length, &mut 0));
     if scanned != 0 {
         return scanned;
     }
-    join(&index[..*index_length as usize], recipes, out, count)
+    join(&index[..*index_length as usize], recipes, key, out, count, tally)
 }
 
 #[cfg(test)]
@@ -196,6 +204,9 @@ mod tests {
     /// The length of the small vault's index: two records have a field. 136 bytes in document 01's form, 138 in those of requests 105 and 108.
     const SMALL: usize = 132 + 2 * NEWEST.width;
 
+    /// The key of one client: the tests of keys and tallies are in `clients.rs`.
+    const KEY: [u8; 16] = [0; 16];
+
     /// What a number holds that no call has told.
     const UNTOLD: u64 = 0xA5A5;
 
@@ -208,7 +219,7 @@ mod tests {
     fn the_small_vault() {
         let (list, store, recipes) = small();
         let (mut index, mut out, mut length, mut count) = (vec![0xEE; SMALL + 4], vec![0xEE; 30], 7, 8);
-        let code = search(&list, &store, &recipes, (&mut index, &mut out), (&mut length, &mut count));
+        let code = search(&list, &store, &recipes, &KEY, (&mut index, &mut out), (&mut length, &mut count), &mut [0; 4]);
         assert_eq!((code, length, count), (0, SMALL as u64, 3));
         assert_eq!(index[SMALL..], [0xEE; 4]);
         let row = |file: u8, offset: u8, word: u8| [file, 0, 0, 0, offset, 0, 0, 0, word];
@@ -239,10 +250,10 @@ mod tests {
         assert_eq!(short, [0xEE; SMALL - 1]);
         assert_eq!(answer(|length| scan(&list, &store, &mut index, (length, &mut 0))), (0, SMALL as u64));
         let mut out = vec![0xEE; 26];
-        assert_eq!(answer(|count| join(&index, &recipes, &mut out, count)), (18, UNTOLD));
+        assert_eq!(answer(|count| join(&index, &recipes, &KEY, &mut out, count, &mut [0; 4])), (18, UNTOLD));
         assert_eq!(out, [0xEE; 26]);
-        assert_eq!(answer(|count| join(&index, &recipes, &mut vec![0; 27], count)), (0, 3));
-        assert_eq!(answer(|count| join(&index, &[0, 0, 0, 0], &mut [], count)), (0, 0));
+        assert_eq!(answer(|count| join(&index, &recipes, &KEY, &mut vec![0; 27], count, &mut [0; 4])), (0, 3));
+        assert_eq!(answer(|count| join(&index, &[0, 0, 0, 0], &KEY, &mut [], count, &mut [0; 4])), (0, 0));
     }
 
     #[test]
@@ -252,7 +263,7 @@ mod tests {
             [(SMALL - 1, 27, (9, UNTOLD, UNTOLD)), (SMALL, 26, (18, SMALL as u64, UNTOLD)), (SMALL, 27, (0, SMALL as u64, 3))]
         {
             let (mut index, mut out, mut length, mut count) = (vec![0; room], vec![0; rows], UNTOLD, UNTOLD);
-            let code = search(&list, &store, &recipes, (&mut index, &mut out), (&mut length, &mut count));
+            let code = search(&list, &store, &recipes, &KEY, (&mut index, &mut out), (&mut length, &mut count), &mut [0; 4]);
             assert_eq!((code, length, count), want);
         }
     }
@@ -271,17 +282,17 @@ mod tests {
         for form in [FORM1, FORM2] {
             let (index, mut out) = (scanned_in(&form, &list, &store), [0xEE; 30]);
             assert_eq!(answer(|number| count(&index, &three, number)), (17, UNTOLD));
-            assert_eq!(answer(|number| join(&index, &three, &mut out, number)), (17, UNTOLD));
+            assert_eq!(answer(|number| join(&index, &three, &KEY, &mut out, number, &mut [0; 4])), (17, UNTOLD));
             assert_eq!(out, [0xEE; 30]);
         }
         let (mut indexed, mut out, mut length, mut found) = (vec![0; SMALL], vec![0xEE; 28], UNTOLD, UNTOLD);
-        let code = search(&list, &store, &three, (&mut indexed, &mut out), (&mut length, &mut found));
+        let code = search(&list, &store, &three, &KEY, (&mut indexed, &mut out), (&mut length, &mut found), &mut [0; 4]);
         assert_eq!((code, length, found, &indexed), (0, SMALL as u64, 3, &index));
         let row = |offset: u8, word: u8| [0, 0, 0, 0, offset, 0, 0, 0, word];
         assert_eq!(out, [&row(1, 0)[..], &row(3, 1), &row(4, 0), &[0xEE]].concat());
         let two = recipes::encode(&[vec![[1; 20], [3; 20]]]);
         let mut out = [0; 9];
-        assert_eq!(answer(|number| join(&index, &two, &mut out, number)), (0, 1));
+        assert_eq!(answer(|number| join(&index, &two, &KEY, &mut out, number, &mut [0; 4])), (0, 1));
         assert_eq!(out, [0, 0, 0, 0, 1, 0, 0, 0, 0]);
     }
 
@@ -300,7 +311,10 @@ mod tests {
         assert_eq!(answer(|length| scan(&list, &store, &mut index, (length, &mut 0))), (20, UNTOLD));
         assert_eq!(answer(|length| scan(&list[..1], &store, &mut index, (length, &mut 0))), (1, UNTOLD));
         assert_eq!((chunk(&store, &[1; 20]), chunk(&store, &[1; 19])), (Err(20), Err(20)));
-        assert_eq!(answer(|n| search(&list, &store, &[0; 4], (&mut index, &mut out), (n, &mut 0))), (20, UNTOLD));
+        assert_eq!(
+            answer(|n| search(&list, &store, &[0; 4], &KEY, (&mut index, &mut out), (n, &mut 0), &mut [0; 4])),
+            (20, UNTOLD)
+        );
         assert_eq!((index, out), ([0xEE; 50], [0xEE; 50]));
     }
 
@@ -313,7 +327,7 @@ mod tests {
             let holes = [vec![filler; 2], vec![], vec![filler; 9], vec![filler; behind]];
             let store = store::encode_with_holes(&chunks, &holes);
             let (mut index, mut out, mut length, mut count) = (vec![0xEE; SMALL + 1], vec![0xEE; 30], UNTOLD, UNTOLD);
-            let code = search(&list, &store, &recipes, (&mut index, &mut out), (&mut length, &mut count));
+            let code = search(&list, &store, &recipes, &KEY, (&mut index, &mut out), (&mut length, &mut count), &mut [0; 4]);
             let found = chunk(&store, &[2; 20]);
             assert_eq!(&store[found.clone().unwrap()], b"ABAX");
             (check_store(&store), code, length, count, index, out, found, moves_of(&list, &store))
@@ -335,7 +349,7 @@ mod tests {
         assert_eq!((index_of(&list, &store), &older[4..]), (Ok(new.clone()), &new[4..]));
         let list_of = |index: &[u8]| {
             let mut out = [0; 27];
-            (answer(|count| join(index, &recipes, &mut out, count)), out)
+            (answer(|count| join(index, &recipes, &KEY, &mut out, count, &mut [0; 4])), out)
         };
         assert_eq!(list_of(&old).0, (0, 3));
         assert_eq!((list_of(&old), list_of(&older)), (list_of(&new), list_of(&new)));

@@ -1,7 +1,7 @@
 //! A plain implementation of document 01 and of the requests of document 02, written from the papers and from nothing else.
 //!
 //! It is here to be compared with: nothing is clever, every test stands in the paper's order, every sum is
-//! taken in 64 bits, and every function answers for all inputs. Each module is one section of the paper:
+//! taken in 64 bits or more, and every function answers for all inputs. Each module is one section of the paper:
 //!
 //! * [`keywords`]: "Words" with request 104's accented capitals, and the word check;
 //! * [`store`]: "Store" with request 106's holes, and the store check with request 105's number 20;
@@ -11,12 +11,14 @@
 //! * [`index`]: "Notes file", with the notes check;
 //! * [`recipes`]: "Recipes", with refusals 14 to 17;
 //! * [`join`]: "Joining two notes", request 108's crossings over any number of chunks, and the join;
+//! * [`clients`]: request 110, a key that says which client each word is of, and a tally of each client's finds;
 //! * [`query`]: request 109, the files that have several words in order;
 //! * [`compact`]: request 107, a store's chunks that some recipe names, without holes;
 //! * [`direct`]: the restored files searched byte by byte, which knows no records at all;
 //! * [`calls`]: the operations in the shape of the C interface (a code, a number, lent buffers).
 
 pub mod calls;
+pub mod clients;
 pub mod compact;
 pub mod direct;
 pub mod form;
@@ -29,7 +31,7 @@ pub mod recipes;
 pub mod records;
 pub mod store;
 
-/// The number of a refusal, 1 to 21.
+/// The number of a refusal, 1 to 23.
 pub type Code = u8;
 
 /// A fingerprint: 20 opaque bytes.

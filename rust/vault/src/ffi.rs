@@ -1,7 +1,8 @@
 //! The C interface of the Rattle crate `vault_c`: every declaration of the workspace is here, as `include/vault.h` has them.
 //!
 //! A slice passes as its pointer and its length; a number is written through a pointer, and stays as it was on a refusal
-//! (where a search's scan is done and its join refuses, the index's length is written). With the feature `mock` the same
+//! (where a search's scan is done and its join refuses, the index's length is written). A tally's four counts are four pointers,
+//! which are added to. With the feature `mock` the same
 //! names come from the oracle (`mock.rs`).
 
 #[cfg(not(feature = "mock"))]
@@ -26,9 +27,15 @@ extern "C" {
         index_length: usize,
         recipes: *const u8,
         recipes_length: usize,
+        key: *const u8,
+        key_length: usize,
         out: *mut u8,
         out_length: usize,
         count: *mut u64,
+        client0: *mut u64,
+        client1: *mut u64,
+        client2: *mut u64,
+        client3: *mut u64,
     ) -> u8;
     pub fn vault_query_count(
         index: *const u8,
@@ -79,12 +86,18 @@ extern "C" {
         store_length: usize,
         recipes: *const u8,
         recipes_length: usize,
+        key: *const u8,
+        key_length: usize,
         index: *mut u8,
         index_buffer_length: usize,
         out: *mut u8,
         out_length: usize,
         index_length: *mut u64,
         count: *mut u64,
+        client0: *mut u64,
+        client1: *mut u64,
+        client2: *mut u64,
+        client3: *mut u64,
     ) -> u8;
 }
 

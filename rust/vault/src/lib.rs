@@ -6,6 +6,8 @@
 //! * [`scan`] scans each chunk for up to 16 **keywords** at once, writes a **match index** and counts its **moves**.
 //! * [`join`] takes the index and recipes, and no chunk, and lists every [`Occurrence`] in the restored files: by file,
 //!   then offset, then keyword, each exactly once, also those that go over two chunks or more.
+//!   It takes a **key** too, which says which of up to four clients each keyword is of, and adds the occurrences of each client to a [`Tally`] that
+//!   is lent. Callers that bill nobody have the same calls without both in [`unbilled`].
 //! * [`query`] takes the index, recipes and several keyword numbers, and gives a [`Line`] for each file that has these keywords in that order.
 //! * [`compact`] writes the store anew, without holes and with the chunks alone that recipes name: a search of these recipes lists the same.
 //!
@@ -20,7 +22,7 @@
 //! keyword less one byte, they can't tell a keyword that crosses it whole.
 //!
 //! Every function takes every input: what isn't a good file is refused with an [`Error`], and a refused call changes no
-//! buffer. What is proved is the library behind; this crate checks nothing again and only names things. Functions that make
+//! buffer and no tally. What is proved is the library behind; this crate checks nothing again and only names things. Functions that make
 //! their own buffer give a [`Failure`]: a refusal, or memory that can't be had.
 //!
 //! The library keeps its tables on the stack, up to 1.3 MB of it, and a thread that Rust starts has 2 MB: call from the
@@ -31,18 +33,24 @@
 //! let (store, recipes) = (std::fs::read("store.bin").unwrap(), std::fs::read("recipes.bin").unwrap());
 //! let scan = vault::scan(&keywords, &store).unwrap();
 //! println!("{} moves", scan.moves);
-//! for found in vault::join(&scan.index, &recipes).unwrap() {
+//! // Of two clients, invoice is the first one's and paid the second one's.
+//! let (key, mut tally) = (vault::key(&[0, 1]), vault::Tally::default());
+//! for found in vault::join(&scan.index, &recipes, &key, &mut tally).unwrap() {
 //!     println!("file {} offset {} keyword {}", found.file, found.offset, found.keyword);
 //! }
+//! println!("{} for the first, {} for the second", tally.counts[0], tally.counts[1]);
 //! ```
 
+mod clients;
 mod error;
 mod ffi;
 pub mod forms;
 #[cfg(feature = "mock")]
 mod mock;
 pub mod raw;
+pub mod unbilled;
 
+pub use clients::{key, Tally, CLIENTS, KEY, ONE_CLIENT};
 pub use error::{Error, Failure};
 use forms::{Form, NEWEST};
 
@@ -76,9 +84,9 @@ pub struct Line {
 /// Who refused in a search.
 #[derive(Clone, Copy, Debug, PartialEq, Eq)]
 pub enum SearchError {
-    /// The scan refused. No buffer was changed.
+    /// The scan refused. No buffer was changed, nor the tally.
     Scan(Error),
-    /// The scan wrote an index of that length, and the join refused. The list's buffer was not changed.
+    /// The scan wrote an index of that length, and the join refused. The list's buffer and the tally were not changed.
     Join { index_length: usize, error: Error },
 }
 
@@ -256,22 +264,23 @@ pub fn count(index: &[u8], recipes: &[u8]) -> Result<u64, Error> {
     valued(|count| raw::count(index, recipes, count))
 }
 
-/// Writes the list to the buffer's front, [`ROW`] bytes an occurrence, and gives the count; what follows stays as it
-/// was. Refusals of the index check, 14 to 18 (17 as [`count`]).
-pub fn join_into(index: &[u8], recipes: &[u8], out: &mut [u8]) -> Result<usize, Error> {
-    valued(|count| raw::join(index, recipes, out, count)).map(|count| count as usize)
+/// Writes the list to the buffer's front, [`ROW`] bytes an occurrence, adds each client's occurrences to the tally, and gives the count; what
+/// follows in the buffer stays as it was. Refusals of the index check, 14 to 18 (17 as [`count`]), then 22 (the key is not [`KEY`] bytes, or has a
+/// client above 3 for one of the index's keywords, whether or not it occurs) and then 23 (a client's count would pass 64 bits). A refusal adds nothing.
+pub fn join_into(index: &[u8], recipes: &[u8], key: &[u8], tally: &mut Tally, out: &mut [u8]) -> Result<usize, Error> {
+    valued(|count| raw::join(index, recipes, key, out, count, &mut tally.counts)).map(|count| count as usize)
 }
 
-/// The list's bytes. Refusals of the index check, 14 to 17 (17 as [`count`]).
+/// The list's bytes. Refusals as [`join_into`]'s, but for 18.
 ///
-/// A list of some megabytes is tried first; only a longer one is counted and then made.
-pub fn join_bytes(index: &[u8], recipes: &[u8]) -> Result<Vec<u8>, Failure> {
+/// A list of some megabytes is tried first; only a longer one is counted and then made. The tally is added to once.
+pub fn join_bytes(index: &[u8], recipes: &[u8], key: &[u8], tally: &mut Tally) -> Result<Vec<u8>, Failure> {
     let mut bytes = buffer(4 << 20)?;
-    let written = match join_into(index, recipes, &mut bytes) {
+    let written = match join_into(index, recipes, key, tally, &mut bytes) {
         Err(Error { code: 18, .. }) => {
             drop(bytes);
             bytes = buffer(count(index, recipes)?.saturating_mul(ROW as u64))?;
-            join_into(index, recipes, &mut bytes)?
+            join_into(index, recipes, key, tally, &mut bytes)?
         }
         answer => answer?,
     };
@@ -279,14 +288,17 @@ pub fn join_bytes(index: &[u8], recipes: &[u8]) -> Result<Vec<u8>, Failure> {
     Ok(bytes)
 }
 
-/// Every occurrence. Refusals of the index check, 14 to 17 (17 as [`count`]).
-pub fn join(index: &[u8], recipes: &[u8]) -> Result<Vec<Occurrence>, Failure> {
-    let bytes = join_bytes(index, recipes)?;
+/// Every occurrence, and each client's added to the tally. Refusals as [`join_into`]'s, but for 18. Where there is no memory for the list, nothing
+/// is added.
+pub fn join(index: &[u8], recipes: &[u8], key: &[u8], tally: &mut Tally) -> Result<Vec<Occurrence>, Failure> {
+    let mut added = *tally;
+    let bytes = join_bytes(index, recipes, key, &mut added)?;
     let found = occurrences(&bytes);
     let mut list = Vec::new();
     let none = Failure::Memory { bytes: (found.len() * size_of::<Occurrence>()) as u64 };
     list.try_reserve_exact(found.len()).map_err(|_| none)?;
     list.extend(found);
+    *tally = added;
     Ok(list)
 }
 
@@ -376,11 +388,18 @@ pub fn compact(store: &[u8], recipes: &[u8]) -> Result<Vec<u8>, Failure> {
     Ok(compacted)
 }
 
-/// A scan into one buffer and a join of what it wrote into another.
-pub fn search_into(list: &[u8], store: &[u8], recipes: &[u8], index: &mut [u8], out: &mut [u8]) -> Result<Searched, SearchError> {
+/// A scan into one buffer, the index's, and a join of what it wrote into another, the list's, with a key and a tally as [`join_into`] has them.
+pub fn search_into(
+    list: &[u8],
+    store: &[u8],
+    recipes: &[u8],
+    key: &[u8],
+    tally: &mut Tally,
+    (index, out): (&mut [u8], &mut [u8]),
+) -> Result<Searched, SearchError> {
     // No index is empty, so a length of 0 is one that the scan didn't tell.
     let (mut length, mut count) = (0, 0);
-    let code = raw::search(list, store, recipes, (index, out), (&mut length, &mut count));
+    let code = raw::search(list, store, recipes, key, (index, out), (&mut length, &mut count), &mut tally.counts);
     let index_length = length as usize;
     match code {
         0 => Ok(Searched { index_length, count: count as usize }),
@@ -389,10 +408,10 @@ pub fn search_into(list: &[u8], store: &[u8], recipes: &[u8], index: &mut [u8], 
     }
 }
 
-/// Every occurrence in the restored files, by a scan and a join of its index. Refusals 1 to 9 and 20 are the scan's, 14 to 16
-/// the join's.
-pub fn search(list: &[u8], store: &[u8], recipes: &[u8]) -> Result<Vec<Occurrence>, Failure> {
-    join(&scan(list, store)?.index, recipes)
+/// Every occurrence in the restored files, by a scan and a join of its index, and each client's added to the tally. Refusals 1 to 9 and 20 are the
+/// scan's, 14 to 16, 22 and 23 the join's.
+pub fn search(list: &[u8], store: &[u8], recipes: &[u8], key: &[u8], tally: &mut Tally) -> Result<Vec<Occurrence>, Failure> {
+    join(&scan(list, store)?.index, recipes, key, tally)
 }
 
 /// Runs `work` on a thread whose stack is large enough for every call, and waits for it. The error is of a thread that can't
@@ -423,7 +442,7 @@ mod tests {
     }
 
     /// The recipes of these files, by the bytes of fingerprints.
-    fn recipes_of(files: &[&[u8]]) -> Vec<u8> {
+    pub(crate) fn recipes_of(files: &[&[u8]]) -> Vec<u8> {
         let mut recipes = (files.len() as u32).to_le_bytes().to_vec();
         for file in files {
             recipes.extend_from_slice(&(file.len() as u32).to_le_bytes());
@@ -433,12 +452,12 @@ mod tests {
     }
 
     /// The small vault of document 01: keywords, store, recipes.
-    fn small() -> (Vec<u8>, Vec<u8>, Vec<u8>) {
+    pub(crate) fn small() -> (Vec<u8>, Vec<u8>, Vec<u8>) {
         let store = entries(&[(1, 92, 3), (2, 95, 4), (3, 99, 1)], b"XABABAXA");
         (keyword_list(false, &[b"ABA", b"AA"]).unwrap(), store, recipes_of(&[&[1, 2], &[3, 3], &[]]))
     }
 
-    fn with_stack(test: impl FnOnce() + Send) {
+    pub(crate) fn with_stack(test: impl FnOnce() + Send) {
         on_large_stack(test).unwrap();
     }
 
@@ -451,11 +470,14 @@ mod tests {
             assert_eq!(index[113..], [0, 1, 2, 0, 0, 0, 0, 0, 0, 1, 0, 1, 1, 0, 0, 0, 1, 0, 2, 0, 0, 3, 1, 0, 3]);
             let found = |file, offset, keyword| Occurrence { file, offset, keyword };
             let want = vec![found(0, 1, 0), found(0, 3, 0), found(1, 0, 1)];
-            assert_eq!(join(&index, &recipes), Ok(want.clone()));
-            assert_eq!(search(&list, &store, &recipes), Ok(want));
+            assert_eq!(unbilled::join(&index, &recipes), Ok(want.clone()));
+            assert_eq!(unbilled::search(&list, &store, &recipes), Ok(want));
             assert_eq!(count(&index, &recipes), Ok(3));
             let (mut a, mut b) = ([7; 138], [7; 28]);
-            assert_eq!(search_into(&list, &store, &recipes, &mut a, &mut b), Ok(Searched { index_length: 138, count: 3 }));
+            assert_eq!(
+                unbilled::search_into(&list, &store, &recipes, &mut a, &mut b),
+                Ok(Searched { index_length: 138, count: 3 })
+            );
             assert_eq!((&a[..], b[27]), (&index[..], 7));
         });
     }
@@ -482,7 +504,7 @@ mod tests {
                 let holed = entries(&[(1, starts[0], 3), (2, starts[1], 4), (3, starts[2], 1)], behind.as_bytes());
                 assert_eq!(check_store(&holed), Ok(()), "{holes:?}");
                 assert_eq!(scan(&list, &holed), Ok(plain.clone()), "{holes:?}");
-                assert_eq!(search(&list, &holed, &recipes), search(&list, &store, &recipes));
+                assert_eq!(unbilled::search(&list, &holed, &recipes), unbilled::search(&list, &store, &recipes));
                 let chunk = find_chunk(&holed, &[2; 20]).unwrap();
                 assert_eq!((chunk, chunk.as_ptr()), (&b"ABAX"[..], holed[starts[1]..].as_ptr()));
             }
@@ -507,7 +529,7 @@ mod tests {
                 assert_eq!(compact(&holed, &recipes), Ok(want.clone()), "{files:?}");
                 assert_eq!(compact(&want, &recipes), Ok(want.clone()));
                 assert_eq!(compact_size(&holed, &recipes), Ok(want.len() as u64));
-                assert_eq!(search(&list, &want, &recipes), search(&list, &holed, &recipes));
+                assert_eq!(unbilled::search(&list, &want, &recipes), unbilled::search(&list, &holed, &recipes));
             }
         });
     }
@@ -551,7 +573,7 @@ mod tests {
             assert_eq!(compacted, entries(&[(3, 36, 1)], b"A"));
             for store in [&store, &compacted] {
                 let found = |offset| Occurrence { file: 0, offset, keyword: 1 };
-                assert_eq!(search(&list, store, &short), Ok(vec![found(0), found(1)]));
+                assert_eq!(unbilled::search(&list, store, &short), Ok(vec![found(0), found(1)]));
             }
         });
     }
@@ -757,7 +779,7 @@ mod tests {
                 let list = keyword_list(fold, &words.iter().map(|word| &word[..]).collect::<Vec<_>>()).unwrap();
                 let met = |b: u8| words.iter().position(|word| compares_as(fold, word[0]) == compares_as(fold, b));
                 let want: Vec<(u32, u8)> = all.iter().filter_map(|b| Some((u32::from(*b), met(*b)? as u8))).collect();
-                let found = search(&list, &store, &recipes).unwrap();
+                let found = unbilled::search(&list, &store, &recipes).unwrap();
                 assert_eq!(found.iter().map(|o| (o.offset, o.keyword)).collect::<Vec<_>>(), want);
             }
         });
@@ -771,7 +793,7 @@ mod tests {
             let recipes = [&[1, 0, 0, 0, 2, 0, 0, 0][..], &[0; 20], &[1; 20]].concat();
             for (fold, want) in [(true, vec![0, 1]), (false, vec![])] {
                 let list = keyword_list(fold, &[b"\xC9\xE9\xC9"]).unwrap();
-                let found = search(&list, &store, &recipes).unwrap();
+                let found = unbilled::search(&list, &store, &recipes).unwrap();
                 assert_eq!(found.iter().map(|o| o.offset).collect::<Vec<_>>(), want);
             }
             // An index of an earlier version, whose keywords are alike now: refused for that and not for its age.
@@ -835,12 +857,15 @@ mod tests {
             let new = scan(&list, &store).unwrap().index;
             let second = [b"DM2\n", &new[4..]].concat();
             for old in [old_index(), second] {
-                assert_eq!((count(&old, &three), join_into(&old, &three, &mut [])), (Err(Error::new(17)), Err(Error::new(17))));
+                assert_eq!(
+                    (count(&old, &three), unbilled::join_into(&old, &three, &mut [])),
+                    (Err(Error::new(17)), Err(Error::new(17)))
+                );
                 assert!(!Form::of(&old).sets);
             }
             let found = |offset, keyword| Occurrence { file: 0, offset, keyword };
             let want = vec![found(1, 0), found(3, 1), found(4, 0)];
-            assert_eq!((join(&new, &three), search(&list, &store, &three)), (Ok(want.clone()), Ok(want)));
+            assert_eq!((unbilled::join(&new, &three), unbilled::search(&list, &store, &three)), (Ok(want.clone()), Ok(want)));
         });
     }
 
@@ -852,7 +877,7 @@ mod tests {
             let index = scan(&list, &store_of(&[b"A"])).unwrap().index;
             let body = [0, 0, 3, 0, 4, 6, 0, 0, 0];
             assert_eq!((find_body(&index, &[0; 20]), &index), (Ok(&body[..]), &index_of_one(b"DM3\n", &list, 1, &body)));
-            let found: Vec<u32> = join(&index, &recipes_of(&[&[0; 6]])).unwrap().iter().map(|o| o.offset).collect();
+            let found: Vec<u32> = unbilled::join(&index, &recipes_of(&[&[0; 6]])).unwrap().iter().map(|o| o.offset).collect();
             assert_eq!(found, [0, 1, 2]);
             for (mark, size, set, want) in [
                 (b"DM3\n", 1, 6, 0),
@@ -886,7 +911,7 @@ mod tests {
             let longer = [&[5][..], &alone[7..27], &[6]].concat();
             let list = keyword_list(false, &[word, b"abra"]).unwrap();
             let recipes = recipes_of(&[&alone, &alone[1..], &[&alone[..], &alone[..]].concat(), &longer]);
-            let found = search(&list, &store_of(&letters), &recipes).unwrap();
+            let found = unbilled::search(&list, &store_of(&letters), &recipes).unwrap();
             let whole: Vec<(u32, u32)> = found.iter().filter(|o| o.keyword == 0).map(|o| (o.file, o.offset)).collect();
             assert_eq!(whole, [(0, 0), (2, 0), (2, 32), (3, 1)]);
             assert_eq!(
@@ -904,7 +929,7 @@ mod tests {
             let mut old = old_index();
             assert_eq!((old.len(), check_index(&old)), (136, Ok(())));
             let new = scan(&list, &store).unwrap().index;
-            assert_eq!(join(&old, &recipes), join(&new, &recipes));
+            assert_eq!(unbilled::join(&old, &recipes), unbilled::join(&new, &recipes));
             assert_eq!(count(&old, &recipes), Ok(3));
             assert_eq!(find_body(&old, &[2; 20]), Ok(&old[120..130]));
             assert_eq!((Form::of(&old), Form::of(&new)), (forms::FORMS[0], NEWEST));
@@ -927,7 +952,7 @@ mod tests {
                 ends.iter().for_each(|end| chunk[end - 3..*end].copy_from_slice(b"aab"));
                 let want: Vec<u32> = (0..length - 2).filter(|at| chunk[*at..].starts_with(b"aab")).map(|at| at as u32).collect();
                 let recipes = [&[1, 0, 0, 0, 1, 0, 0, 0][..], &[0; 20]].concat();
-                let found = search(&list, &store_of(&[&chunk]), &recipes).unwrap();
+                let found = unbilled::search(&list, &store_of(&[&chunk]), &recipes).unwrap();
                 let of = |word: u8| found.iter().filter(move |o| o.keyword == word).map(|o| o.offset);
                 assert_eq!(of(0).collect::<Vec<_>>(), want, "{length}");
                 assert_eq!(of(1).count(), chunk.iter().filter(|b| **b == b'a').count());
@@ -969,7 +994,7 @@ mod tests {
             let code = |last: u32| check_store(&directory(last)).unwrap_err().code;
             assert_eq!((code(1_048_576), code(933_880), code(933_879), code(1_048_577)), (20, 20, 7, 7));
             let (list, _, recipes) = small();
-            assert_eq!(search(&list, &directory(933_880), &recipes), Err(Error::new(20).into()));
+            assert_eq!(unbilled::search(&list, &directory(933_880), &recipes), Err(Error::new(20).into()));
             assert_eq!(find_chunk(&directory(933_880), &[1; 20]).unwrap_err().code, 20);
         });
     }
@@ -1002,11 +1027,11 @@ mod tests {
             assert_eq!(short, [7; 137]);
             assert_eq!(count(&index, &recipes[1..]).unwrap_err().code, 14);
             let mut index_buffer = [7; 140];
-            let refused = search_into(&list, &store, &recipes, &mut index_buffer, &mut [0; 26]);
+            let refused = unbilled::search_into(&list, &store, &recipes, &mut index_buffer, &mut [0; 26]);
             assert_eq!(refused, Err(SearchError::Join { index_length: 138, error: Error::new(18) }));
             let said = "join: refused 18: the list of occurrences, or all lines of a query together, are longer than the buffer";
             assert_eq!(refused.unwrap_err().to_string(), said);
-            let refused = search_into(&list, &store[..8], &recipes, &mut index_buffer, &mut []);
+            let refused = unbilled::search_into(&list, &store[..8], &recipes, &mut index_buffer, &mut []);
             assert_eq!(refused, Err(SearchError::Scan(Error::new(6))));
         });
     }
@@ -1063,9 +1088,9 @@ mod tests {
 
     #[test]
     fn every_refusal_has_its_sentence() {
-        for code in 1..=21 {
+        for code in 1..=23 {
             assert!(!Error::new(code).meaning.contains("don't name"));
         }
-        assert!(Error::new(22).meaning.contains("don't name"));
+        assert!(Error::new(24).meaning.contains("don't name"));
     }
 }

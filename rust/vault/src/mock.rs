@@ -50,17 +50,33 @@ pub unsafe fn vault_count(
     calls::count(from_raw_parts(index, index_length), from_raw_parts(recipes, recipes_length), &mut *count)
 }
 
+/// A call on the tally behind four pointers: they are read before it and written after it, so that two that are one would show.
+unsafe fn lent(clients: [*mut u64; 4], call: impl FnOnce(&mut [u64; 4]) -> u8) -> u8 {
+    let mut tally = clients.map(|client| *client);
+    let code = call(&mut tally);
+    clients.iter().zip(tally).for_each(|(client, count)| **client = count);
+    code
+}
+
+#[allow(clippy::too_many_arguments)]
 pub unsafe fn vault_join(
     index: *const u8,
     index_length: usize,
     recipes: *const u8,
     recipes_length: usize,
+    key: *const u8,
+    key_length: usize,
     out: *mut u8,
     out_length: usize,
     count: *mut u64,
+    client0: *mut u64,
+    client1: *mut u64,
+    client2: *mut u64,
+    client3: *mut u64,
 ) -> u8 {
-    let out = from_raw_parts_mut(out, out_length);
-    calls::join(from_raw_parts(index, index_length), from_raw_parts(recipes, recipes_length), out, &mut *count)
+    let (index, recipes) = (from_raw_parts(index, index_length), from_raw_parts(recipes, recipes_length));
+    let (key, out) = (from_raw_parts(key, key_length), from_raw_parts_mut(out, out_length));
+    lent([client0, client1, client2, client3], |tally| calls::join(index, recipes, key, out, &mut *count, tally))
 }
 
 pub unsafe fn vault_query_count(
@@ -147,18 +163,28 @@ pub unsafe fn vault_search(
     store_length: usize,
     recipes: *const u8,
     recipes_length: usize,
+    key: *const u8,
+    key_length: usize,
     index: *mut u8,
     index_buffer_length: usize,
     out: *mut u8,
     out_length: usize,
     index_length: *mut u64,
     count: *mut u64,
+    client0: *mut u64,
+    client1: *mut u64,
+    client2: *mut u64,
+    client3: *mut u64,
 ) -> u8 {
-    calls::search(
-        from_raw_parts(list, list_length),
-        from_raw_parts(store, store_length),
-        from_raw_parts(recipes, recipes_length),
-        (from_raw_parts_mut(index, index_buffer_length), from_raw_parts_mut(out, out_length)),
-        (&mut *index_length, &mut *count),
-    )
+    lent([client0, client1, client2, client3], |tally| {
+        calls::search(
+            from_raw_parts(list, list_length),
+            from_raw_parts(store, store_length),
+            from_raw_parts(recipes, recipes_length),
+            from_raw_parts(key, key_length),
+            (from_raw_parts_mut(index, index_buffer_length), from_raw_parts_mut(out, out_length)),
+            (&mut *index_length, &mut *count),
+            tally,
+        )
+    })
 }

@@ -1,5 +1,6 @@
 //! The C interface as safe functions, and no more: codes as they come, numbers lent by the caller. `lib.rs` has the ones to use.
 
+use crate::clients::CLIENTS;
 use crate::ffi;
 
 pub fn check_keywords(list: &[u8]) -> u8 {
@@ -30,8 +31,26 @@ pub fn count(index: &[u8], recipes: &[u8], count: &mut u64) -> u8 {
     unsafe { ffi::vault_count(index.as_ptr(), index.len(), recipes.as_ptr(), recipes.len(), count) }
 }
 
-pub fn join(index: &[u8], recipes: &[u8], out: &mut [u8], count: &mut u64) -> u8 {
-    unsafe { ffi::vault_join(index.as_ptr(), index.len(), recipes.as_ptr(), recipes.len(), out.as_mut_ptr(), out.len(), count) }
+/// The four counts of a tally pass one by one: Rust's borrow of the array keeps them apart from each other and from the rest.
+pub fn join(index: &[u8], recipes: &[u8], key: &[u8], out: &mut [u8], count: &mut u64, counts: &mut [u64; CLIENTS]) -> u8 {
+    let [client0, client1, client2, client3] = counts;
+    unsafe {
+        ffi::vault_join(
+            index.as_ptr(),
+            index.len(),
+            recipes.as_ptr(),
+            recipes.len(),
+            key.as_ptr(),
+            key.len(),
+            out.as_mut_ptr(),
+            out.len(),
+            count,
+            client0,
+            client1,
+            client2,
+            client3,
+        )
+    }
 }
 
 pub fn query_count(index: &[u8], recipes: &[u8], query: &[u8], lines: &mut u64) -> u8 {
@@ -65,14 +84,17 @@ pub fn compact(store: &[u8], recipes: &[u8], out: &mut [u8], length: &mut u64) -
     unsafe { ffi::vault_compact(s, n, r, m, out.as_mut_ptr(), out.len(), length) }
 }
 
-/// Scan and join: the buffers of the index and the list, the index's length and the count.
+/// Scan and join: the buffers of the index and the list, the index's length and the count, the tally's counts.
 pub fn search(
     list: &[u8],
     store: &[u8],
     recipes: &[u8],
+    key: &[u8],
     (index, out): (&mut [u8], &mut [u8]),
     (index_length, count): (&mut u64, &mut u64),
+    counts: &mut [u64; CLIENTS],
 ) -> u8 {
+    let [client0, client1, client2, client3] = counts;
     unsafe {
         ffi::vault_search(
             list.as_ptr(),
@@ -81,12 +103,18 @@ pub fn search(
             store.len(),
             recipes.as_ptr(),
             recipes.len(),
+            key.as_ptr(),
+            key.len(),
             index.as_mut_ptr(),
             index.len(),
             out.as_mut_ptr(),
             out.len(),
             index_length,
             count,
+            client0,
+            client1,
+            client2,
+            client3,
         )
     }
 }

@@ -1,5 +1,6 @@
 //! The command line, taken apart. An option that the command doesn't use, or that is given twice, is refused.
 
+use crate::bill::Client;
 use crate::failure::Failure;
 use crate::text;
 use std::ffi::OsString;
@@ -20,6 +21,9 @@ pub struct Arguments {
     /// A query by keyword numbers, or by keywords.
     pub order: Option<Vec<u8>>,
     pub then: Vec<Vec<u8>>,
+    /// Who the keywords are for, and the file of the running counts.
+    pub clients: Vec<Client>,
+    pub tally: Option<PathBuf>,
     pub output: Option<PathBuf>,
     pub format: Option<String>,
     pub cut: Option<String>,
@@ -34,9 +38,12 @@ pub struct Arguments {
 
 /// The options that each command uses.
 const USED: [(&str, &[&str]); 8] = [
-    ("search", &["--word", "--list", "--words", "--fold", "--format", "--names", "--count", "-o", "--quiet"]),
+    (
+        "search",
+        &["--word", "--list", "--words", "--fold", "--client", "--tally", "--format", "--names", "--count", "-o", "--quiet"],
+    ),
     ("scan", &["--word", "--list", "--words", "--fold", "-o", "--quiet"]),
-    ("join", &["--format", "--names", "--count", "-o", "--quiet"]),
+    ("join", &["--client", "--tally", "--format", "--names", "--count", "-o", "--quiet"]),
     ("query", &["--order", "--then", "--format", "--names", "--count", "-o", "--quiet"]),
     ("check", &["--store", "--index", "--recipes", "--word", "--list", "--words", "--fold", "--entries", "--quiet"]),
     ("lookup", &["--store", "--index", "-o", "--quiet"]),
@@ -74,7 +81,7 @@ impl Arguments {
 
     fn option(&mut self, option: &str, words: &mut impl Iterator<Item = OsString>) -> Result<(), Failure> {
         let name = first_name(option).ok_or_else(|| Failure::Usage(format!("no such option: {option}")))?;
-        if self.given.contains(&name) && !["--word", "--then"].contains(&name) {
+        if self.given.contains(&name) && !["--word", "--then", "--client"].contains(&name) {
             return Err(Failure::Usage(format!("{option} is given twice")));
         }
         self.given.push(name);
@@ -89,6 +96,12 @@ impl Arguments {
             "--names" => self.names = Some(value()?.into()),
             "--order" => self.order = Some(numbers(option, &value()?)?),
             "--then" => self.then.push(value()?.into_encoded_bytes()),
+            "--client" => {
+                let value = value()?;
+                let wrong = || Failure::Usage(format!("{option} wants NAME=TEXT or NAME, not {}", shown(&value)));
+                self.clients.push(Client::of(value.as_encoded_bytes()).ok_or_else(wrong)?);
+            }
+            "--tally" => self.tally = Some(value()?.into()),
             "-o" => self.output = Some(value()?.into()),
             "--format" => self.format = Some(shown(&value()?)),
             "--cut" => self.cut = Some(shown(&value()?)),
@@ -137,6 +150,15 @@ impl Arguments {
         }
         if self.order.is_some() && !self.then.is_empty() {
             return wrong("give the order by one of --order and --then");
+        }
+        if self.tally.is_some() && self.clients.is_empty() {
+            return wrong("--tally is for the clients' counts: give --client NAME=TEXT too");
+        }
+        if self.count && !self.clients.is_empty() {
+            return wrong("--count makes no list, and so no bill: leave --client out");
+        }
+        if self.format.as_deref() == Some("raw") && !self.clients.is_empty() && self.tally.is_none() {
+            return wrong("the format raw has no place for the clients' counts: give --tally FILE too");
         }
         if self.entries && self.store.is_none() && self.index.is_none() {
             return wrong("--entries lists the chunks of --store FILE or --index FILE");

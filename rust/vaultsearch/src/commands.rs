@@ -1,6 +1,7 @@
 //! The commands search, scan, join, query, compact and make-vault; `inspect.rs` has check and lookup.
 
 use crate::arguments::{self, Arguments};
+use crate::bill::Bill;
 use crate::failure::Failure;
 use crate::input::{self, Kind};
 use crate::lines::{self, Answer};
@@ -8,6 +9,7 @@ use crate::progress::{size, Progress};
 use crate::rows::{self, Format, Labels};
 use crate::{identity, inspect, make_vault, names, output, text};
 use std::ffi::OsString;
+use std::io::Write;
 use std::path::{Path, PathBuf};
 
 pub type Done = Result<(), Failure>;
@@ -59,6 +61,7 @@ fn recipes_refused(whole: &str, recipes: &Path) -> impl FnOnce(vault::Error) -> 
         14..=17 => Failure::Refused(recipes, error),
         18 => Failure::Refused("the list".into(), error),
         21 => Failure::Refused("the query".into(), error),
+        22 | 23 => Failure::Refused("the tally".into(), error),
         _ => Failure::Refused(whole, error),
     }
 }
@@ -96,17 +99,21 @@ impl Recipes {
     }
 }
 
-/// The numbers of these keywords in an index, by which they compare as the index's fold flag says.
+/// The number of a keyword in a good list, which may have more behind it: they compare as the list's fold flag says.
+pub fn number_of(word: &[u8], list: &[u8]) -> Option<u8> {
+    // Two keywords are one if a list of both is refused for it.
+    let same = |keyword: &[u8]| vault::keyword_list(list[1] == 1, &[keyword, word]).is_err_and(|error| error.code == 4);
+    vault::keywords_of(list).into_iter().position(same).map(|k| k as u8)
+}
+
+/// The numbers of these keywords in an index.
 fn numbers_of(words: &[Vec<u8>], index: &[u8], path: &Path) -> Result<Vec<u8>, Failure> {
     vault::check_index(index).map_err(refused(text::path(path)))?;
     let list = vault::keywords_in_index(index);
-    let keywords = vault::keywords_of(list);
-    // Two keywords are one if a list of both is refused for it.
-    let same = |a: &[u8], b: &[u8]| vault::keyword_list(list[1] == 1, &[a, b]).is_err_and(|error| error.code == 4);
     let number = |word: &Vec<u8>| {
-        let known = keywords.iter().map(|keyword| text::ascii(keyword)).collect::<Vec<_>>().join(", ");
+        let known = vault::keywords_of(list).into_iter().map(text::ascii).collect::<Vec<_>>().join(", ");
         let unknown = || Failure::Usage(format!("--then {}: no keyword of {} ({known})", text::ascii(word), text::path(path)));
-        keywords.iter().position(|keyword| same(keyword, word)).map(|k| k as u8).ok_or_else(unknown)
+        number_of(word, list).ok_or_else(unknown)
     };
     words.iter().map(number).collect()
 }
@@ -126,8 +133,19 @@ impl Session<'_> {
     pub fn keep_apart(&self, inputs: &[&Path]) -> Done {
         let a = self.arguments;
         let options = [&a.list, &a.words_file, &a.store, &a.index, &a.recipes, &a.names];
+        let all = || inputs.iter().copied().chain(options.into_iter().flatten().map(PathBuf::as_path));
         let output: Vec<&Path> = a.output.as_deref().into_iter().collect();
-        identity::keep_apart(&output, inputs.iter().copied().chain(options.into_iter().flatten().map(PathBuf::as_path)))
+        let Some(tally) = a.tally.as_deref() else { return identity::keep_apart(&output, all()) };
+        // A tally is read and written: no other input, and no other output.
+        if let Some(output) = output.iter().find(|output| identity::is_one(output, tally)) {
+            return Err(Failure::Usage(format!(
+                "{} is the tally {}: name another output",
+                text::path(output),
+                text::path(tally)
+            )));
+        }
+        identity::keep_apart(&output, all().chain([tally]))?;
+        identity::keep_apart(&[tally], all())
     }
 
     /// The keyword list that the options say, or none.
@@ -177,8 +195,15 @@ impl Session<'_> {
         scanned.map_err(unmade("the index", scan_refused(path)))
     }
 
-    /// Joins and writes the list, or only counts.
-    fn joined(&self, index: &[u8], index_name: &str, recipes: Recipes, format: Format) -> Done {
+    /// The bill that the options ask for, of these keywords.
+    fn bill(&self, list: &[u8], whose: &str) -> Result<Option<Bill<'_>>, Failure> {
+        let a = self.arguments;
+        let bill = || Bill::new(self.progress, &a.clients, a.tally.as_deref(), list, whose);
+        (!a.clients.is_empty()).then(bill).transpose()
+    }
+
+    /// Joins and writes the list, with the bill behind it, or only counts.
+    fn joined(&self, index: &[u8], index_name: &str, recipes: Recipes, format: Format, mut bill: Option<Bill>) -> Done {
         let output = self.arguments.output.as_deref();
         let (bytes, told) = (&recipes.bytes, recipes_refused(index_name, &recipes.path));
         let step = format!("joining {} of index with {} of recipes", size(index.len() as u64), size(bytes.len() as u64));
@@ -186,11 +211,22 @@ impl Session<'_> {
             let count = self.progress.step(&step, 0, || vault::count(index, bytes)).map_err(told)?;
             return output::write(output, |out| writeln!(out, "{count}"));
         }
-        let joined = self.progress.step(&step, 0, || vault::join_bytes(index, bytes));
+        let joined = self.progress.step(&step, 0, || match &mut bill {
+            Some(bill) => vault::join_bytes(index, bytes, &bill.key, &mut bill.tally),
+            None => vault::unbilled::join_bytes(index, bytes),
+        });
         let list = joined.map_err(unmade("the list", told))?;
         let labels = recipes.labels(index);
+        let fill = |out: &mut dyn Write| {
+            rows::write(out, format, &list, &labels)?;
+            bill.as_ref().map_or(Ok(()), |bill| bill.write(out, format))
+        };
+        let stored = bill.as_ref().map_or(Ok(None), |bill| bill.stored(self.progress))?;
         let step = format!("writing {} occurrences", list.len() / vault::ROW);
-        self.progress.step(&step, 0, || output::write(output, |out| rows::write(out, format, &list, &labels)))
+        self.progress.step(&step, 0, || match &stored {
+            Some((path, text)) => output::write_with(output, fill, (path, text)),
+            None => output::write(output, fill),
+        })
     }
 
     fn search(&self) -> Done {
@@ -198,11 +234,12 @@ impl Session<'_> {
         let format = self.format()?;
         self.keep_apart(&[store_path, recipes_path])?;
         let list = self.keywords()?;
+        let bill = self.bill(&list, "the list")?;
         let recipes = self.recipes(recipes_path)?;
         let store = self.read(store_path, &input::STORE)?;
         let index = self.scanned(&list, &store, store_path)?.index;
         drop(store);
-        self.joined(&index, "the index", recipes, format)
+        self.joined(&index, "the index", recipes, format, bill)
     }
 
     fn scan(&self) -> Done {
@@ -235,7 +272,15 @@ impl Session<'_> {
         self.keep_apart(&[index_path, recipes_path])?;
         let recipes = self.recipes(recipes_path)?;
         let index = self.read(index_path, &input::INDEX)?;
-        self.joined(&index, &text::path(index_path), recipes, format)
+        let name = text::path(index_path);
+        let bill = match self.arguments.clients.is_empty() {
+            true => None,
+            false => {
+                vault::check_index(&index).map_err(refused(&name))?;
+                self.bill(vault::keywords_in_index(&index), &name)?
+            }
+        };
+        self.joined(&index, &name, recipes, format, bill)
     }
 
     fn query(&self) -> Done {

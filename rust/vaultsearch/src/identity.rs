@@ -51,3 +51,16 @@ pub fn keep_apart<'a>(outputs: &[&Path], inputs: impl Iterator<Item = &'a Path>)
     }
     Ok(())
 }
+
+/// Whether two paths are one file: by identity, or where there is none yet, by the folder in which it would be and its name.
+pub fn is_one(a: &Path, b: &Path) -> bool {
+    let place = |path: &Path| {
+        let folder = path.parent().filter(|folder| !folder.as_os_str().is_empty()).unwrap_or(Path::new("."));
+        Some((fs::metadata(folder).ok().map(|about| identity(&about))?, path.file_name()?.to_os_string()))
+    };
+    match (fs::metadata(a), fs::metadata(b)) {
+        (Ok(a), Ok(b)) => identity(&a) == identity(&b),
+        (Err(_), Err(_)) => a == b || place(a).is_some_and(|of_a| place(b) == Some(of_a)),
+        _ => false,
+    }
+}

@@ -16,6 +16,13 @@ pub struct Kind {
     decided: fn(&[u8]) -> bool,
 }
 
+impl Kind {
+    /// A text of at most so many bytes.
+    pub const fn text(what: &'static str, most: u64) -> Kind {
+        Kind { what, most, decided: |_| false }
+    }
+}
+
 /// The most files that recipes have.
 pub const MOST_FILES: u32 = 65_535;
 

@@ -1,6 +1,7 @@
 //! The command line for real sizes. `help.txt` is its guide; what is proved is the library behind `vault`.
 
 mod arguments;
+mod bill;
 mod collect;
 mod commands;
 mod failure;

@@ -324,7 +324,7 @@ mod tests {
             builder.write_store(&mut store).unwrap();
             builder.write_recipes(&mut recipes).unwrap();
             let list = vault::keyword_list(false, &[b"the keyword here"]).unwrap();
-            let found = vault::search(&list, &store, &recipes).unwrap();
+            let found = vault::unbilled::search(&list, &store, &recipes).unwrap();
             let places: Vec<(u32, u32)> = found.iter().map(|o| (o.file, o.offset)).collect();
             assert_eq!(places, [(0, 5000), (2, 4997)]);
         })

@@ -22,6 +22,22 @@ pub fn write(path: Option<&Path>, fill: impl FnOnce(&mut dyn Write) -> io::Resul
     }
 }
 
+/// The same, and to a second file, a regular one: it is replaced when all of the first is written.
+pub fn write_with(
+    path: Option<&Path>,
+    fill: impl FnOnce(&mut dyn Write) -> io::Result<()>,
+    (second, text): (&Path, &str),
+) -> Done {
+    let second = prepare(second, |out| out.write_all(text.as_bytes()))?;
+    match path {
+        Some(path) if !identity::is_standard_output(path) => put_in_place(vec![prepare(path, fill)?, second]),
+        _ => {
+            standard(fill)?;
+            put_in_place(vec![second])
+        }
+    }
+}
+
 pub fn standard(fill: impl FnOnce(&mut dyn Write) -> io::Result<()>) -> Done {
     let mut out = BufWriter::new(io::stdout().lock());
     fill(&mut out).and_then(|()| out.flush()).map_err(|error| Failure::File(format!("standard output: {error}")))

@@ -341,7 +341,7 @@ fn a_store_that_ends_beyond_32_bits() {
     folder.write("beyond.bin", &directory(933_879));
     folder.refuses("check --store beyond.bin", 7, "the last chunk ends beyond the store");
     let (_, help, _) = folder.run("--help");
-    assert!(help.contains("1 to 21  refused") && help.contains("part the backup into several stores"));
+    assert!(help.contains("1 to 23  refused") && help.contains("part the backup into several stores"));
 }
 
 #[test]

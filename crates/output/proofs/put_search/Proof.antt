@@ -20,7 +20,7 @@ use Rattle.output.proofs.put_search.Tie as tie
 -- once `search` has answered
 module _ (s : tie.After-search) where
   abbrev start : tie.Start
-  start = s .before .before .before .before .before .before .before .before .before
+  start = s .before .before .before .before .before .before .before .before .before .before
 
   abbrev store : List ℕ
   store = now (start .args .store)
@@ -38,38 +38,38 @@ module _ (s : tie.After-search) where
   text = searchText store words recipes
 
   abbrev index : List ℕ
-  index = s .before .before .before .before .large-buffer .result
+  index = s .before .before .before .before .before .large-buffer .result
 
   abbrev list : List ℕ
-  list = s .before .before .before .large-buffer2 .result
+  list = s .before .before .before .before .large-buffer2 .result
 
   abbrev list′ : List ℕ
-  list′ = s .search .last .1 .1 .1 .1 .0
+  list′ = s .search .last .1 .1 .1 .1 .1 .0
 
-  module _ (o : Searched) (k : s .search .result ≡ o) where
+  module _ (o : Searched) (k : s .search .result .searched ≡ o) where
     refusal-room : isFound o ≡ false → Room out 0 (refusedText (searchedCode o))
     refusal-room =
         refused-room store words recipes out index list
-        (s .before .before .before .before .large-buffer .ensures) (s .before .before .before .large-buffer2 .ensures)
-        (start .pre) o (s .search .result) k (s .search .ensures .0)
+        (s .before .before .before .before .before .large-buffer .ensures) (s .before .before .before .before .large-buffer2 .ensures)
+        (start .pre) o (s .search .result .searched) k (s .search .ensures .0)
 
     refusal-puts : isFound o ≡ false → (out′ : List ℕ) (n : ℕ) → Puts out out′ 0 (refusedText (searchedCode o)) n → Puts out out′ 0 text n
     refusal-puts =
         refused-puts store words recipes out index list
-        (s .before .before .before .before .large-buffer .ensures) (s .before .before .before .large-buffer2 .ensures)
-        (start .pre) o (s .search .result) k (s .search .ensures .0)
+        (s .before .before .before .before .before .large-buffer .ensures) (s .before .before .before .before .large-buffer2 .ensures)
+        (start .pre) o (s .search .result .searched) k (s .search .ensures .0)
 
     found-room : isFound o ≡ true → (9 * searchedCount o ≤ length list′) × Room out 0 (listText (readList (searchedCount o) list′))
     found-room f =
         list-room store words recipes out index list
-        (s .before .before .before .before .large-buffer .ensures) (s .before .before .before .large-buffer2 .ensures)
-        (start .pre) o (s .search .result) k (s .search .ensures .0) f list′ (s .search .ensures .2)
+        (s .before .before .before .before .before .large-buffer .ensures) (s .before .before .before .before .large-buffer2 .ensures)
+        (start .pre) o (s .search .result .searched) k (s .search .ensures .0) f list′ (s .search .ensures .2)
 
     found-puts : isFound o ≡ true → (out′ : List ℕ) (n : ℕ) → Puts out out′ 0 (listText (readList (searchedCount o) list′)) n → Puts out out′ 0 text n
     found-puts f =
         list-puts store words recipes out index list
-        (s .before .before .before .before .large-buffer .ensures) (s .before .before .before .large-buffer2 .ensures)
-        (start .pre) o (s .search .result) k (s .search .ensures .0) f list′ (s .search .ensures .2)
+        (s .before .before .before .before .before .large-buffer .ensures) (s .before .before .before .before .large-buffer2 .ensures)
+        (start .pre) o (s .search .result .searched) k (s .search .ensures .0) f list′ (s .search .ensures .2)
 
 large-buffer-requires : tie.Need-large-buffer-requires
 large-buffer-requires c κs = search needs
@@ -83,27 +83,30 @@ slice-aggregate-search c = search needs
 slice-aggregate-search-2 : tie.Need-slice-aggregate-search-2
 slice-aggregate-search-2 c = search needs
 
+slice-aggregate-search-3 : tie.Need-slice-aggregate-search-3
+slice-aggregate-search-3 c = search needs
+
 search-requires : tie.Need-search-requires
 search-requires c κs = search needs
 
-enum-known-code : tie.Need-enum-known-code
-enum-known-code c = search needs
+enum-known-searched : tie.Need-enum-known-searched
+enum-known-searched c = search needs
 
 put-refused-requires : tie.Need-put-refused-requires
 put-refused-requires c κs =
     let m = c .before .before in
-    refusal-room (m .before .before .before .before) (ScanRefused (m .code .given .0 .0)) (m .code .given .1) refl
+    refusal-room (m .before .before .before .before) (ScanRefused (m .searched .given .0 .0)) (m .searched .given .1) refl
 
-enum-known-code-2 : tie.Need-enum-known-code-2
-enum-known-code-2 c = search needs
+enum-known-searched-2 : tie.Need-enum-known-searched-2
+enum-known-searched-2 c = search needs
 
 put-refused-requires-2 : tie.Need-put-refused-requires-2
 put-refused-requires-2 c κs =
     let m = c .before .before in
-    refusal-room (m .before .before .before .before) (JoinRefused (m .code2 .given .0 .0) (m .code2 .given .0 .1 .0)) (m .code2 .given .1) refl
+    refusal-room (m .before .before .before .before) (JoinRefused (m .searched2 .given .0 .0) (m .searched2 .given .0 .1 .0)) (m .searched2 .given .1) refl
 
-enum-known-count : tie.Need-enum-known-count
-enum-known-count c = search needs
+enum-known-searched-3 : tie.Need-enum-known-searched-3
+enum-known-searched-3 c = search needs
 
 slice-aggregate-put-list : tie.Need-slice-aggregate-put-list
 slice-aggregate-put-list c = search needs
@@ -111,7 +114,7 @@ slice-aggregate-put-list c = search needs
 put-list-requires : tie.Need-put-list-requires
 put-list-requires c κs =
     let m = c .before .before .before in
-    found-room (m .before .before .before .before) (Found (m .count .given .0 .0) (m .count .given .0 .1 .0)) (m .count .given .1) refl
+    found-room (m .before .before .before .before) (Found (m .searched3 .given .0 .0) (m .searched3 .given .0 .1 .0)) (m .searched3 .given .1) refl
 
 same-length : tie.Need-same-length
 same-length c = search needs
@@ -120,7 +123,7 @@ returns : tie.Need-returns
 returns c =
     let p = c .before .before in
     let m = p .before .before .before in
-    refusal-puts (m .before .before .before .before) (ScanRefused (m .code .given .0 .0)) (m .code .given .1) refl
+    refusal-puts (m .before .before .before .before) (ScanRefused (m .searched .given .0 .0)) (m .searched .given .1) refl
     (p .put-refused .last .0) (p .put-refused .result) (p .put-refused .ensures)
 
 same-length-2 : tie.Need-same-length-2
@@ -130,7 +133,7 @@ returns-2 : tie.Need-returns-2
 returns-2 c =
     let p = c .before .before in
     let m = p .before .before .before in
-    refusal-puts (m .before .before .before .before) (JoinRefused (m .code2 .given .0 .0) (m .code2 .given .0 .1 .0)) (m .code2 .given .1) refl
+    refusal-puts (m .before .before .before .before) (JoinRefused (m .searched2 .given .0 .0) (m .searched2 .given .0 .1 .0)) (m .searched2 .given .1) refl
     (p .put-refused2 .last .0) (p .put-refused2 .result) (p .put-refused2 .ensures)
 
 same-length-3 : tie.Need-same-length-3
@@ -140,7 +143,7 @@ returns-3 : tie.Need-returns-3
 returns-3 c =
     let p = c .before .before in
     let m = p .before .before .before .before in
-    found-puts (m .before .before .before .before) (Found (m .count .given .0 .0) (m .count .given .0 .1 .0)) (m .count .given .1) refl
+    found-puts (m .before .before .before .before) (Found (m .searched3 .given .0 .0) (m .searched3 .given .0 .1 .0)) (m .searched3 .given .1) refl
     (p .put-list .last .0) (p .put-list .result) (p .put-list .ensures)
 
 pub put-search-spec : {M : Type 1} → statement M
@@ -151,12 +154,13 @@ put-search-spec =
     large-buffer-requires-2
     slice-aggregate-search
     slice-aggregate-search-2
+    slice-aggregate-search-3
     search-requires
-    enum-known-code
+    enum-known-searched
     put-refused-requires
-    enum-known-code-2
+    enum-known-searched-2
     put-refused-requires-2
-    enum-known-count
+    enum-known-searched-3
     slice-aggregate-put-list
     put-list-requires
     same-length
