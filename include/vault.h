@@ -18,13 +18,13 @@
  * 4): bit p of 4 bytes, least significant first, says that the chunk is the keyword's bytes from p on, for p from 1 to n - 1 - the chunk's length. By these a
  * join lists keywords over any number of chunks. An index with an older mark is read too by every call that takes an index: 44 4D 32 0A (DM2) has the same
  * fields and no sets, 44 4D 31 0A (DM1) no sets, fields of 2 bytes and chunks of at most 65,535. These two know a keyword over two chunks only, so
- * a join, a query, a recipe check or a listing of files of them refuses with 17 where a chunk that is neither first nor last in its file is shorter than the
- * longest keyword less one byte. With the newest mark 17 never comes.
+ * a join or a query of them refuses with 17 where a chunk that is neither first nor last in its file is shorter than the longest keyword less one byte. With
+ * the newest mark 17 never comes.
  * A call keeps nothing behind and touches only what it is lent, so calls may run at once from several threads, each with buffers of its own.
  * Stack that a call needs, about:
  *   600 KB   a check of a store or an index, a lookup
  *   650 KB   a compaction, a compaction's size
- *   1.2 MB   a recipe check, a count, a join, a listing of files, a query, a query's count
+ *   1.2 MB   a count, a join, a query, a query's count
  *   1.3 MB   a scan, a scan's size
  *            a search: the larger of a scan's and a join's
  */
@@ -50,10 +50,6 @@ uint8_t vault_check_store(const uint8_t *store, size_t store_length);
 
 /* A match index, under any of the three marks: 10, 1 to 4, 11 to 13. */
 uint8_t vault_check_index(const uint8_t *index, size_t index_length);
-
-/* The recipe check: recipes against an index, as each count, join, listing and query of them begins. The index check, 14, then file by file 15, 16, and 17 of
- * an index with an older mark. No list is made and nothing is counted. */
-uint8_t vault_check_recipes(const uint8_t *index, size_t index_length, const uint8_t *recipes, size_t recipes_length);
 
 /* ---- scan: the match index of a store, for a keyword list */
 
@@ -100,24 +96,6 @@ uint8_t vault_count(const uint8_t *index, size_t index_length, const uint8_t *re
 uint8_t vault_join(const uint8_t *index, size_t index_length, const uint8_t *recipes, size_t recipes_length,
                    const uint8_t *key, size_t key_length, uint8_t *out, size_t out_length, uint64_t *count,
                    uint64_t *client0, uint64_t *client1, uint64_t *client2, uint64_t *client3);
-
-/* ---- the lists of single files, by their numbers, from an index alone */
-
-/* The files are first, first + 1, .., first + many - 1, numbered from 0 as the recipes have them; many of 1 is one file by its number. The full join's list is
- * the lists of all files one after the other. Both calls begin with the whole recipe check: what is wrong with any file refuses the listing of every other.
- *   24  first + many is above the file count, so that one of these numbers is no file's; tested after 17. The sum does not wrap: it is 24 for every large
- *       number. With many of 0 nothing is listed, and 24 is a first above the file count.
- * They have no key and no tally: neither 22 nor 23 comes, and nothing is added to any count. */
-
-/* How many occurrences these files have together: 0 with the count; or the recipe check's numbers, then 24, and the count stays. */
-uint8_t vault_count_files(const uint8_t *index, size_t index_length, const uint8_t *recipes, size_t recipes_length,
-                          size_t first, size_t many, uint64_t *count);
-
-/* Writes the lists of these files, one after the other, to the start of the buffer, 9 bytes an occurrence as vault_join has them, with the file's own number:
- * 0 with the count; or the recipe check's numbers, then 24, then 18 (the lists of these files together exceed the buffer, whatever the other files have), and
- * the count stays. No occurrences fit a buffer of 0. Bytes behind the lists are unchanged. */
-uint8_t vault_list_files(const uint8_t *index, size_t index_length, const uint8_t *recipes, size_t recipes_length,
-                         size_t first, size_t many, uint8_t *out, size_t out_length, uint64_t *count);
 
 /* ---- query: the files that have several keywords in order, from an index alone */
 

@@ -1,2 +1,2 @@
-pub mod AllFiles
+pub mod Turns
 pub mod Answers

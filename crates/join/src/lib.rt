@@ -1,10 +1,45 @@
 // The join: the logical phase of the search, over a match index and recipes alone (document 01, "Recipes and the join"). It is given no
-// store. It is in two parts (request #111): the recipe check, in which the plan counts all files, so that a refusal changes no byte; then the lists of the
-// files, one after the other. What is listed is added to the tally of the clients, by a key (request #110).
-ghost use Rattle.std.specs.Prelude.{◌≡◌, length};
+// store. The plan tests and counts each file first, so that a refusal changes no byte; then the files that have occurrences are listed. What is
+// listed is added to the tally of the clients, by a key (request #110).
+ghost use Rattle.std.specs.Prelude.{◌≡◌, [], ◌*◌, ◌≤◌, length};
+ghost use Rattle.spec.specs.Bytes.{splice};
 ghost use Rattle.spec.specs.Form.{form_of};
 ghost use Rattle.spec.specs.declared.Outcome.TheVariants.{Refused};
-ghost use Rattle.spec.specs.Join.{counts_of, lent, count_outcome, join_outcome, join_buffer, join_tally};
+ghost use Rattle.spec.specs.Join.{counts_of, lent, join_list, list_bytes, count_outcome, join_outcome, join_buffer, join_tally};
+ghost use Rattle.plan.specs.Plans.{Planned};
+
+// Lists the occurrences of all files.
+fn list_files(
+    index: &[u8],
+    recipes: &[u8],
+    made: plan::Plan,
+    chains: &[u32],
+    tables: &[[[u32; 32]; 32]; 16],
+    out: &mut [u8],
+)
+    requires planned { Planned index.now recipes.now [] made chains.now tables.now }
+    requires recipes_in_bounds { 9 * length (join_list (form_of index.now) index.now recipes.now) ≤ length out.old }
+    ensures { out.new
+        ≡ splice out.old 0 (list_bytes (join_list (form_of index.now) index.now recipes.now)) }
+{
+    let files = recipes::count_at(recipes, 0);
+    let mut place: usize = 0;
+    let mut at: usize = 4;
+    let mut number: usize = 0;
+    while number < files {
+        let file = recipes::file_at(recipes, at);
+        let mark = made.marks[number];
+        let listing = walk::Listing {
+            opened: made.opened,
+            number: number,
+            place: place,
+            mark: mark,
+        };
+        place = walk::list_file(index, listing, chains, tables, file, out);
+        at = at + 4 + file.len();
+        number += 1;
+    }
+}
 
 // The count that a join would report, whatever the buffer, or the refusal.
 pub fn count(index: &[u8], recipes: &[u8]) -> spec::Outcome
@@ -12,12 +47,8 @@ pub fn count(index: &[u8], recipes: &[u8]) -> spec::Outcome
 {
     let mut chains = [0u32; 130536];
     let mut tables = [[[0u32; 32]; 32]; 16];
-    let query = [0u8; 0];
-    let all = plan::Wanted {
-        first: 0,
-        many: 65535,
-    };
-    let counted = plan::make(index, recipes, &query, &mut chains, &mut tables, all);
+    let all = [0u8; 0];
+    let counted = plan::make(index, recipes, &all, &mut chains, &mut tables);
     if counted.code != 0 {
         return spec::Outcome::Refused(counted.code);
     }
@@ -25,7 +56,7 @@ pub fn count(index: &[u8], recipes: &[u8]) -> spec::Outcome
 }
 
 // The answer of a join, and the tally after it.
-#[derive(Drop)]
+#[derive(Clone, Copy)]
 pub struct Joined {
     pub outcome: spec::Outcome,
     pub tally: spec::Tally,
@@ -54,12 +85,8 @@ pub fn tallied(
 {
     let mut chains = [0u32; 130536];
     let mut tables = [[[0u32; 32]; 32]; 16];
-    let query = [0u8; 0];
-    let all = plan::Wanted {
-        first: 0,
-        many: 65535,
-    };
-    let p = plan::make(index, recipes, &query, &mut chains, &mut tables, all);
+    let all = [0u8; 0];
+    let p = plan::make(index, recipes, &all, &mut chains, &mut tables);
     if p.code != 0 {
         return refused(p.code, before);
     }
@@ -72,7 +99,7 @@ pub fn tallied(
         return refused(t.code, before);
     }
     let after = t.tally;
-    file_lists::put(index, recipes, p, &chains, &tables, out);
+    list_files(index, recipes, p, &chains, &tables, out);
     Joined {
         outcome: spec::Outcome::Done(p.total),
         tally: after,

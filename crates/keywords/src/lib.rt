@@ -7,7 +7,7 @@ ghost use Rattle.keywords.specs.Parsed.{ReadableList, Places, parsed_of};
 
 // A list that was read: how many keywords, the fold flag, the list's length, the longest keyword's length; for each keyword its first
 // byte's place in the list and its length.
-#[derive(Drop)]
+#[derive(Clone, Copy)]
 pub struct Keywords {
     pub count: usize,
     pub flag: u8,

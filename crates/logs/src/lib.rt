@@ -6,7 +6,7 @@ ghost use Rattle.logs.specs.Tallies.{CanCount, OneMore, Kept, tally_of, tally_bo
 
 // ---- the tally: how many offsets each keyword has, and the first
 
-#[derive(Drop)]
+#[derive(Clone, Copy)]
 pub struct Tally {
     pub counts: [usize; 16],
     // 0 where there is none

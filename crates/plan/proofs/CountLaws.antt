@@ -4,21 +4,22 @@ use mathlib.Core.Path.{◌≡◌, refl, sym, ap, ap₂, ◌∙◌}
 use mathlib.Core.Logic.{◌≢◌}
 use mathlib.Core.Bool.{Bool, true, false, cond}
 use mathlib.Core.List.{List, [], ◌∷◌, ◌++◌}
-use Prim.Native.Nat.{ℕ, suc, ◌+◌, ◌-◌, ◌*◌, ◌^◌, ◌≤◌, ◌<◌}
+use Prim.Native.Nat.{ℕ, ◌+◌, ◌*◌, ◌^◌, ◌≤◌, ◌<◌}
 use native.Mathlib.Nat.{zero-add, add-zero}
-use native.Mathlib.Numerals.{add-one}
 use native.Mathlib.Omega.{arith}
 use borrow.Author.Tests.{eq-eqb, ne_eqb}
 use lib.Dec.{eqb}
 use lib.ListN.{length, get_or, replicate, length-replicate, get_or-replicate}
 use lib.Seq.{ext_get_or}
+use Rattle.spec.specs.Bytes.{part, field_at}
+use Rattle.spec.specs.Form.{form_of}
 use Rattle.spec.specs.Recipes.{file_count}
-use Rattle.spec.specs.Join.{Occurrence, counts_by, sums}
-use Rattle.spec.proofs.Each.{each_step}
+use Rattle.spec.specs.Join.{Occurrence, counts_by, sums, join_list}
 use Rattle.spec.proofs.Clients.{length-sums, sums_at, sums-assoc, length-counts, count_at, count_none, counts-append, count_most}
-use Rattle.walk.specs.Walking.{keyword_counts}
-use Rattle.plan.specs.declared.Wanted.{Wanted}
-use Rattle.plan.specs.Plans.{counted, wanted_of, wanted_from}
+use Rattle.recipes.proofs.Files.{Walk}
+use Rattle.walk.specs.Walking.{file_list, keyword_counts}
+use Rattle.plan.specs.Plans.{counted}
+use Rattle.plan.proofs.FileLaws.{left, left-start, left_end, left_step}
 
 -- ---- counts of nothing
 
@@ -81,22 +82,13 @@ module _ (query : List ℕ) where
 
   -- ---- the files from k on
 
-  module _ (index recipes : List ℕ) (wanted : Wanted) where
+  module _ (index recipes : List ℕ) where
     -- the counts of the files from k on, and of all
     abbrev counts_from : ℕ → List ℕ
-    counts_from k = keyword_counts (counted query (wanted_from index recipes wanted k))
+    counts_from k = keyword_counts (counted query (left index recipes k))
 
     abbrev counts_all : List ℕ
-    counts_all = counts_from 0
-
-    wanted-step : (k : ℕ) → k < file_count recipes
-        → wanted_from index recipes wanted k ≡ wanted_of index recipes wanted k ++ wanted_from index recipes wanted (k + 1)
-    unfolding wanted_from
-    wanted-step k h = rw (add-one k) (each_step (wanted_of index recipes wanted) k (file_count recipes) h)
-
-    wanted-end : (k : ℕ) → file_count recipes ≤ k → wanted_from index recipes wanted k ≡ []
-    unfolding wanted_from
-    wanted-end k h = let z : file_count recipes - k ≡ 0 = omega arith in rw z
+    counts_all = keyword_counts (counted query (join_list (form_of index) index recipes))
 
     -- before file k: what was counted and what is left are the whole
     pub record CountingFiles (counts : List ℕ) (k : ℕ) : Type 0 where
@@ -108,21 +100,21 @@ module _ (query : List ℕ) where
     counts_start =
         record {
           long = length-replicate {A = ℕ} 16 0;
-          all = sums-zeros (counted query (wanted_from index recipes wanted 0));
+          all = sums-zeros (counted query (left index recipes 0)) ∙ ap (λ (l : List Occurrence). keyword_counts (counted query l)) (left-start index recipes);
           small = λ c h. omega (arith, get_or-replicate {A = ℕ} 16 c 0 0 h);
         }
 
-    pub counts-on : (k : ℕ) → k < file_count recipes → (list : List Occurrence) → wanted_of index recipes wanted k ≡ list
-        → (counts counts' : List ℕ) → CountingFiles counts k → counts' ≡ sums counts (keyword_counts (counted query list))
-        → length list < 2 ^ 36 → CountingFiles counts' (k + 1)
-    counts-on k turn list is counts counts' g e few =
-        let behind : List Occurrence = wanted_from index recipes wanted (k + 1) in
+    pub counts-on : (k at : ℕ) → Walk recipes k at → k < file_count recipes → (file : List ℕ) → file ≡ part recipes (at + 4) (20 * field_at recipes at 4)
+        → (counts counts' : List ℕ) → CountingFiles counts k → counts' ≡ sums counts (keyword_counts (counted query (file_list k index file)))
+        → length (file_list k index file) < 2 ^ 36 → CountingFiles counts' (k + 1)
+    counts-on k at w turn file f counts counts' g e few =
+        let list : List Occurrence = file_list k index file in
         let here : List ℕ = keyword_counts (counted query list) in
         let ten : length here ≡ 16 = length-counts (λ j. j) 16 (counted query list) in
         let step : counts_from k ≡ sums here (counts_from (k + 1)) =
-        ap (λ (l : List Occurrence). keyword_counts (counted query l)) (wanted-step k turn ∙ ap (λ (l : List Occurrence). l ++ behind) is)
-        ∙ ap (λ (l : List Occurrence). keyword_counts l) (counted-append list behind)
-        ∙ counts-append (λ j. j) 16 (counted query list) (counted query behind) in
+        ap (λ (l : List Occurrence). keyword_counts (counted query l)) (left_step index recipes k at w turn file f)
+        ∙ ap (λ (l : List Occurrence). keyword_counts l) (counted-append list (left index recipes (k + 1)))
+        ∙ counts-append (λ j. j) 16 (counted query list) (counted query (left index recipes (k + 1))) in
         record {
           long = ap length e ∙ length-sums counts here ∙ g.long;
           all = ap (λ (l : List ℕ). sums l (counts_from (k + 1))) e
@@ -140,7 +132,7 @@ module _ (query : List ℕ) where
               );
         }
 
-    pub counts_end : (k : ℕ) → file_count recipes ≤ k → (counts : List ℕ) → CountingFiles counts k → counts ≡ counts_all
-    counts_end k done counts g =
-        let nothing : counted query (wanted_from index recipes wanted k) ≡ [] = ap (counted query) (wanted-end k done) ∙ counted-nil in
+    pub counts_end : (k at : ℕ) → Walk recipes k at → file_count recipes ≤ k → (counts : List ℕ) → CountingFiles counts k → counts ≡ counts_all
+    counts_end k at w done counts g =
+        let nothing : counted query (left index recipes k) ≡ [] = ap (counted query) (left_end index recipes k at w done) ∙ counted-nil in
         sym (ap (λ (l : List Occurrence). sums counts (keyword_counts l)) nothing ∙ sums_none counts g.long) ∙ g.all

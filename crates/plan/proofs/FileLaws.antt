@@ -1,8 +1,7 @@
--- The files one after the other: what is left to test and to query from file k on, that it starts with file k, and that an accepted file can be walked,
--- and so can the empty file that stands for one that is not wanted. A file's slice is the definition's file (its fingerprints are read alike); what 15 and 16
--- test is what the walk asks. Assumes nothing.
-use mathlib.Core.Path.{◌≡◌, refl, sym, ap, ◌∙◌, subst}
-use mathlib.Core.Bool.{Bool, true, false, cond}
+-- The files one after the other: what is left to test, to list and to query from file k on, that it starts with file k, and that an accepted file can
+-- be walked. A file's slice is the definition's file (its fingerprints are read alike); what 15 and 16 test is what the walk asks.
+-- Assumes nothing.
+use mathlib.Core.Path.{◌≡◌, refl, sym, ap, ◌∙◌}
 use mathlib.Core.List.{List, [], ◌∷◌, ◌++◌, map}
 use Prim.Native.Nat.{ℕ, ◌+◌, ◌*◌, ◌/◌, ◌≤◌, ◌<◌}
 use native.Mathlib.Nat.{add-zero}
@@ -17,8 +16,7 @@ use Rattle.spec.specs.Directory.{keys_of, size_at}
 use Rattle.spec.specs.Form.{form_of}
 use Rattle.spec.specs.Index.{list_in, lengths_in, index_layout, index_keys, index_records}
 use Rattle.spec.specs.Recipes.{named, file_count, files_of, sizes_in, file_code, files_code}
-use Rattle.spec.specs.Join.{Occurrence, join_file, join_from, file_records, inner_least}
-use Rattle.spec.specs.FileLists.{file_occurrences}
+use Rattle.spec.specs.Join.{Occurrence, join_file, join_files, file_records, join_list, inner_least}
 use Rattle.spec.specs.Query.{Line, line_of, lines_from, query_lines}
 use Rattle.spec.proofs.EntryLaws.{length-keys, key-at}
 use Rattle.spec.proofs.IndexChecks.{length-index_keys}
@@ -26,9 +24,8 @@ use Rattle.spec.proofs.FileLaws.{file-accepted, files-cons, files-drop}
 use Rattle.recipes.proofs.Files.{Walk, walk-files, walk_end}
 use Rattle.recipes.proofs.Slices.{file-length, file-names}
 use Rattle.files.specs.Measures.{Slotted}
-use Rattle.walk.specs.Walking.{chunks_in, file_list, size_of, File}
-use Rattle.plan.specs.declared.Wanted.{Wanted}
-use Rattle.plan.specs.Plans.{all_files_code, is_wanted, list_of, wanted_of}
+use Rattle.walk.specs.Walking.{chunks_in, size_of, File}
+use Rattle.plan.specs.Plans.{all_files_code, list_of}
 
 -- the sizes of a file's chunks
 sizes-are : (index : List ℕ) (file : List (List ℕ))
@@ -36,29 +33,6 @@ sizes-are : (index : List ℕ) (file : List (List ℕ))
 unfolding file_records index_records
 sizes-are index [] = refl
 sizes-are index (key ∷ file) = ap (λ (m : ℕ). size_at (index_layout index) index (position_of key (index_keys index)) + m) (sizes-are index file)
-
--- an empty file
-pub no_chunks : (index : List ℕ) (k : ℕ) → file_list k index [] ≡ []
-unfolding chunks_in file_records join_from
-no_chunks index k = refl
-
-pub empty-file : (index slots : List ℕ) → File index [] slots
-unfolding chunks_in file_records
-empty-file index slots =
-    record {
-      whole = refl;
-      found = λ n h. let z : ⊥ = omega arith in absurd z;
-      small = omega arith;
-      slotted = record { each = λ j h l. let z : ⊥ = omega arith in absurd z };
-    }
-
--- the file that is counted can be walked, wanted or not
-pub counted-walks : (index file slots : List ℕ) → File index file slots → (b : Bool) (counted : List ℕ) → counted ≡ cond b file [] → File index counted slots
-counted-walks index file slots w b counted e = subst (λ (l : List ℕ). File index l slots) (sym e) (go b)
-  where
-    go : (b : Bool) → File index (cond b file []) slots
-    go true = w
-    go false = empty-file index slots
 
 -- a file's code
 abbrev pub code_of : List ℕ → List (List ℕ) → ℕ
@@ -69,6 +43,17 @@ code_of index file = file_code (index_keys index) (size_at (index_layout index) 
 module _ (index recipes : List ℕ) where
   abbrev pub keywords : List (List ℕ)
   keywords = folded_keywords (list_in index)
+
+  unfoldable pub left : ℕ → List Occurrence
+  left k = join_files k keywords (map (file_records (form_of index) index) (drop k (files_of recipes)))
+
+  pub left-start : left 0 ≡ join_list (form_of index) index recipes
+  unfolding left join_list
+  left-start = refl
+
+  pub left_end : (k at : ℕ) → Walk recipes k at → file_count recipes ≤ k → left k ≡ []
+  unfolding left join_files
+  left_end k at w h = rw (walk_end recipes k at w h)
 
   -- a query's lines of the files from k on
   unfoldable pub lines_left : List ℕ → ℕ → List Line
@@ -112,18 +97,8 @@ module _ (index recipes : List ℕ) where
         ap (λ (i : ℕ). get_or (files_of recipes) i []) (sym (add-zero k)) ∙ sym (get_or-drop k (files_of recipes) 0 [])
         ∙ ap (λ (files : List (List (List ℕ))). get_or files 0 []) (walk-files recipes k at n w turn refl)
 
-    pub list-is : list_of index recipes k ≡ file_list k index file
-    unfolding file_occurrences
+    pub list-is : list_of index recipes k ≡ join_file k keywords (chunks_in index file)
     list-is = ap (λ (l : List (List ℕ)). join_file k keywords (file_records (form_of index) index l)) names-are ∙ ap (join_file k keywords) (sym chunks-are)
-
-    -- the occurrences that are counted are those of the file that is counted
-    pub wanted-is : (wanted : Wanted) (counted : List ℕ) → counted ≡ cond (is_wanted wanted k) file [] → wanted_of index recipes wanted k ≡ file_list k index counted
-    unfolding wanted_of
-    wanted-is wanted counted e = go (is_wanted wanted k) ∙ ap (file_list k index) (sym e)
-      where
-        go : (b : Bool) → cond b (list_of index recipes k) [] ≡ file_list k index (cond b file [])
-        go true = list-is
-        go false = sym (no_chunks index k)
 
     file-size : size_of (chunks_in index file) ≡ sum (sizes_in (index_keys index) (size_at (index_layout index) index) (named file))
     unfolding chunks_in
@@ -157,6 +132,13 @@ module _ (index recipes : List ℕ) where
     codes-step =
         ap (files_code (index_keys index) (size_at (index_layout index) index) (inner_least (form_of index) (list_in index))) (walk-files recipes k at n w turn refl)
         ∙ ap (λ (x : ℕ). first_code (x ∷ map (code_of index) (drop (k + 1) (files_of recipes)))) (sym (ap (code_of index) names-read))
+
+    -- file k's list, and then the files behind it
+    pub left_step : left k ≡ join_file k keywords (chunks_in index file) ++ left (k + 1)
+    unfolding left join_files
+    left_step =
+        ap (λ (files : List (List (List ℕ))). join_files k keywords (map (file_records (form_of index) index) files)) (walk-files recipes k at n w turn refl)
+        ∙ rw (← chunks-are, ← add-one k)
 
     -- file k's line, and then those of the files behind it
     pub lines_step : (query : List ℕ)

@@ -1,7 +1,6 @@
 pub mod FileLaws
 pub mod LengthLaws
 pub mod RowLaws
-pub mod WantedLaws
 pub mod CountLaws
 pub mod Surveys
 pub mod Stages

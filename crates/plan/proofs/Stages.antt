@@ -17,7 +17,7 @@ use Rattle.spec.specs.Store.{chunk_count}
 use Rattle.spec.specs.Index.{list_in, index_keys, index_code}
 use Rattle.spec.specs.Opened.{opened_of}
 use Rattle.spec.specs.Recipes.{file_count, recipes_code}
-use Rattle.spec.specs.Join.{joinable_code, inner_least}
+use Rattle.spec.specs.Join.{join_list, joinable_code, inner_least}
 use Rattle.spec.proofs.Codes.{passed-whole, refused-whole, next-whole, last-whole}
 use Rattle.spec.proofs.IndexChecks.{index-good}
 use Rattle.spec.proofs.Splices.{splice-read}
@@ -30,8 +30,7 @@ use Rattle.index.specs.Stages.{examined_chains}
 use Rattle.walk.specs.Walking.{keyword_counts}
 use Rattle.index.proofs.CheckLaws.{list-is, index-chains}
 use Rattle.plan.specs.declared.Plan.{Plan}
-use Rattle.plan.specs.declared.Wanted.{Wanted}
-use Rattle.plan.specs.Plans.{all_files_code, front_code, wanted_list, all_rows, counted, mark_of, marks_of, refused_plan, plan_of, planned_tables}
+use Rattle.plan.specs.Plans.{all_files_code, front_code, rows_of, all_rows, counted, mark_of, marks_of, refused_plan, plan_of, planned_tables}
 use Rattle.plan.specs.Plans.{Prepared, Joinable, Marked, Planned}
 
 zero_or : (n : ℕ) → (n ≡ 0) ⊎ (n ≢ 0)
@@ -137,24 +136,26 @@ module _ (index recipes : List ℕ) where
         tabled = t;
       }
 
-module _ (index recipes : List ℕ) (wanted : Wanted) (query : List ℕ) where
+module _ (index recipes query : List ℕ) where
   -- ---- the marks
 
-  length-marks : length (marks_of index recipes wanted query) ≡ file_count recipes
+  length-marks : length (marks_of index recipes query) ≡ file_count recipes
   unfolding marks_of
-  length-marks = length-tabulated (mark_of index recipes wanted query) 0 (file_count recipes)
+  length-marks = length-tabulated (mark_of index recipes query) 0 (file_count recipes)
 
-  marks-mark : (marks : List ℕ) → marks ≡ written (replicate 65535 0) (marks_of index recipes wanted query) → Marked index recipes wanted query marks
+  marks-mark : (marks : List ℕ) → marks ≡ written (replicate 65535 0) (marks_of index recipes query) → Marked index recipes query marks
   unfolding marks_of
   marks-mark marks e =
-      let v = marks_of index recipes wanted query in
+      let v = marks_of index recipes query in
       record {
-        each = λ k h.
+        none = λ k h z.
             let first : take (length v) marks ≡ v = ap (take (length v)) e ∙ splice-read (replicate 65535 0) 0 v (omega arith) in
+            let here : get_or marks k 0 ≡ mark_of index recipes query k =
             sym (get_or-take (length v) marks k 0 (omega (arith, length-marks)))
             ∙ ap (λ (x : List ℕ). get_or x k 0) first
-            ∙ tabulated-at (mark_of index recipes wanted query) 0 (file_count recipes) k 0 h
-            ∙ ap (mark_of index recipes wanted query) (zero-add k);
+            ∙ tabulated-at (mark_of index recipes query) 0 (file_count recipes) k 0 h
+            ∙ ap (mark_of index recipes query) (zero-add k) in
+            omega (arith, here, z);
       }
 
   -- ---- the plan, by its code
@@ -162,33 +163,33 @@ module _ (index recipes : List ℕ) (wanted : Wanted) (query : List ℕ) where
   abbrev code : ℕ
   code = joinable_code (form_of index) index recipes
 
-  plan-refused : code ≢ 0 → plan_of index recipes wanted query ≡ refused_plan code
+  plan-refused : code ≢ 0 → plan_of index recipes query ≡ refused_plan code
   unfolding plan_of
   plan-refused h = rw (ne_eqb code 0 h)
 
-  pub refused-plan : (n : ℕ) (plan : Plan) → n ≡ code → n ≢ 0 → plan ≡ refused_plan n → plan ≡ plan_of index recipes wanted query
+  pub refused-plan : (n : ℕ) (plan : Plan) → n ≡ code → n ≢ 0 → plan ≡ refused_plan n → plan ≡ plan_of index recipes query
   refused-plan n plan e h p = p ∙ ap refused_plan e ∙ sym (plan-refused (λ z. h (e ∙ z)))
 
   abbrev accepted-plan : ℕ → List ℕ → Opened → List ℕ → Plan
   accepted-plan total counts opened marks = record { code = 0; total = total; counts = counts; opened = opened; marks = marks }
 
   abbrev all_counts : List ℕ
-  all_counts = keyword_counts (counted query (wanted_list index recipes wanted))
+  all_counts = keyword_counts (counted query (join_list (form_of index) index recipes))
 
   plan-accepted : code ≡ 0
-      → plan_of index recipes wanted query
-      ≡ accepted-plan (all_rows index recipes wanted query) all_counts (opened_of index) (written (replicate 65535 0) (marks_of index recipes wanted query))
+      → plan_of index recipes query
+      ≡ accepted-plan (all_rows index recipes query) all_counts (opened_of index) (written (replicate 65535 0) (marks_of index recipes query))
   unfolding plan_of
   plan-accepted z = rw (eq-eqb code 0 z)
 
-  pub done-plan : (total : ℕ) (counts : List ℕ) (opened : Opened) (marks : List ℕ) → code ≡ 0 → total ≡ all_rows index recipes wanted query → counts ≡ all_counts
-      → opened ≡ opened_of index → marks ≡ written (replicate 65535 0) (marks_of index recipes wanted query)
-      → accepted-plan total counts opened marks ≡ plan_of index recipes wanted query
+  pub done-plan : (total : ℕ) (counts : List ℕ) (opened : Opened) (marks : List ℕ) → code ≡ 0 → total ≡ all_rows index recipes query → counts ≡ all_counts
+      → opened ≡ opened_of index → marks ≡ written (replicate 65535 0) (marks_of index recipes query)
+      → accepted-plan total counts opened marks ≡ plan_of index recipes query
   done-plan total counts opened marks z t n o m =
       ap {B = Plan} (λ (x : ℕ). accepted-plan x counts opened marks) t
-      ∙ ap {B = Plan} (λ (x : List ℕ). accepted-plan (all_rows index recipes wanted query) x opened marks) n
-      ∙ ap {B = Plan} (λ (x : Opened). accepted-plan (all_rows index recipes wanted query) all_counts x marks) o
-      ∙ ap {B = Plan} (accepted-plan (all_rows index recipes wanted query) all_counts (opened_of index)) m
+      ∙ ap {B = Plan} (λ (x : List ℕ). accepted-plan (all_rows index recipes query) x opened marks) n
+      ∙ ap {B = Plan} (λ (x : Opened). accepted-plan (all_rows index recipes query) all_counts x marks) o
+      ∙ ap {B = Plan} (accepted-plan (all_rows index recipes query) all_counts (opened_of index)) m
       ∙ sym (plan-accepted z)
 
   refused-number : (n : ℕ) → (refused_plan n).code ≡ n
@@ -197,7 +198,7 @@ module _ (index recipes : List ℕ) (wanted : Wanted) (query : List ℕ) where
 
   -- ---- what a plan without refusal gives who lists
 
-  module _ (plan : Plan) (p : plan ≡ plan_of index recipes wanted query) where
+  module _ (plan : Plan) (p : plan ≡ plan_of index recipes query) where
     pub plan-number : plan.code ≡ code
     plan-number = go (zero_or code)
       where
@@ -205,11 +206,11 @@ module _ (index recipes : List ℕ) (wanted : Wanted) (query : List ℕ) where
         go (inl z) = ap (λ (x : Plan). x.code) (p ∙ plan-accepted z) ∙ sym z
         go (inr h) = ap (λ (x : Plan). x.code) (p ∙ plan-refused h) ∙ refused-number code
 
-    pub plan-total : plan.code ≡ 0 → plan.total ≡ all_rows index recipes wanted query
+    pub plan-total : plan.code ≡ 0 → plan.total ≡ all_rows index recipes query
     plan-total z = ap (λ (x : Plan). x.total) (p ∙ plan-accepted (sym plan-number ∙ z))
 
     pub planned : (chains₀ chains : List ℕ) (tables₀ tables : List (List (List ℕ))) → plan.code ≡ 0 → Empty chains₀ → chains ≡ examined_chains index chains₀
-        → tables ≡ planned_tables index recipes tables₀ → Planned index recipes wanted query plan chains tables
+        → tables ≡ planned_tables index recipes tables₀ → Planned index recipes query plan chains tables
     planned chains₀ chains tables₀ tables z e x t =
         let a : code ≡ 0 = sym plan-number ∙ z in
         let q = p ∙ plan-accepted a in

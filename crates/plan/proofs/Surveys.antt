@@ -2,7 +2,6 @@
 -- so that what was found is the plan's. Assumes nothing.
 use mathlib.Core.Path.{◌≡◌, refl, sym, ap, ◌∙◌}
 use mathlib.Core.Logic.{◌≢◌}
-use mathlib.Core.Bool.{cond}
 use mathlib.Core.List.{List, [], ◌∷◌, map}
 use Prim.Native.Nat.{ℕ, suc, ◌+◌, ◌-◌, ◌*◌, ◌^◌, ◌≤◌, ◌<◌, min}
 use native.Mathlib.Nat.{zero-add, sub-zero}
@@ -17,27 +16,26 @@ use Rattle.spec.proofs.Codes.{refused-code, next-code}
 use Rattle.spec.proofs.Splices.{splice-nil, splice-cons}
 use Rattle.recipes.proofs.Files.{Walk, accepted}
 use Rattle.walk.specs.Walking.{file_list}
-use Rattle.plan.specs.declared.Wanted.{Wanted}
-use Rattle.plan.specs.Plans.{all_files_code, is_wanted, rows, rows_of, rows_from, all_rows, mark_of, marks_of}
+use Rattle.plan.specs.Plans.{all_files_code, rows, rows_of, all_rows, mark_of, marks_of}
 use Rattle.recipes.proofs.Slices.{file-next}
-use Rattle.plan.proofs.FileLaws.{code_of, codes, codes-step, codes-end, wanted-is}
-use Rattle.plan.proofs.RowLaws.{rows_end, rows_step}
+use Rattle.plan.proofs.FileLaws.{code_of, codes, codes-step, codes-end, list-is}
+use Rattle.plan.proofs.RowLaws.{rows_left, rows_start, rows_end, rows_step}
 
-module _ (index recipes : List ℕ) (wanted : Wanted) (query : List ℕ) where
+module _ (index recipes query : List ℕ) where
   -- ---- before file k, which is at `at`: the files before it passed, what was counted and what is left are the whole count, and so for the marks
 
   -- the marks of the files from k on
   abbrev marks_from : ℕ → List ℕ
-  marks_from k = each (λ j. mark_of index recipes wanted query j ∷ []) k (file_count recipes - k)
+  marks_from k = each (λ j. mark_of index recipes query j ∷ []) k (file_count recipes - k)
 
   pub record Surveying (marks : List ℕ) (k at total : ℕ) : Type 0 where
     pub walk : Walk recipes k at
     pub few : file_count recipes ≤ 65535
     pub coded : codes index recipes k ≡ all_files_code index recipes
-    pub sums : total + rows_from index recipes wanted query k ≡ all_rows index recipes wanted query
+    pub sums : total + rows_left index recipes query k ≡ all_rows index recipes query
     pub small : total ≤ 68719476736 * k
     pub wide : length marks ≡ 65535
-    pub marked : splice marks k (marks_from k) ≡ written (replicate 65535 0) (marks_of index recipes wanted query)
+    pub marked : splice marks k (marks_from k) ≡ written (replicate 65535 0) (marks_of index recipes query)
 
   pub survey-start : recipes_code recipes ≡ 0 → Surveying (replicate 65535 0) 0 4 0
   unfolding marks_of
@@ -47,10 +45,10 @@ module _ (index recipes : List ℕ) (wanted : Wanted) (query : List ℕ) where
         walk = a.start;
         few = a.few;
         coded = refl;
-        sums = zero-add (rows_from index recipes wanted query 0);
+        sums = zero-add (rows_left index recipes query 0) ∙ rows_start index recipes query;
         small = omega arith;
         wide = length-replicate {A = ℕ} 65535 0;
-        marked = ap (λ (n : ℕ). splice (replicate 65535 0) 0 (each (λ j. mark_of index recipes wanted query j ∷ []) 0 n)) (sub-zero (file_count recipes));
+        marked = ap (λ (n : ℕ). splice (replicate 65535 0) 0 (each (λ j. mark_of index recipes query j ∷ []) 0 n)) (sub-zero (file_count recipes));
       }
 
   -- a turn, with file k's slice and its code
@@ -63,7 +61,7 @@ module _ (index recipes : List ℕ) (wanted : Wanted) (query : List ℕ) where
     step = codes-step index recipes k at g.walk turn file f
 
     -- file k's mark, and then the marks of the files behind it
-    marks-step : (mark : ℕ) → mark ≡ mark_of index recipes wanted query k → marks_from k ≡ mark ∷ marks_from (k + 1)
+    marks-step : (mark : ℕ) → mark ≡ mark_of index recipes query k → marks_from k ≡ mark ∷ marks_from (k + 1)
     marks-step mark e =
         let s : file_count recipes - k ≡ suc (file_count recipes - (k + 1)) = omega arith in
         rw (s, ← e, add-one)
@@ -71,15 +69,14 @@ module _ (index recipes : List ℕ) (wanted : Wanted) (query : List ℕ) where
     pub survey-refused : n ≢ 0 → n ≡ all_files_code index recipes
     survey-refused h = c ∙ refused-code (code_of index (named file)) rest (λ z. h (c ∙ z)) ∙ sym step ∙ g.coded
 
-    pub survey-on : n ≡ 0 → (counted : List ℕ) → counted ≡ cond (is_wanted wanted k) file []
-        → (many mark : ℕ) → many ≡ rows (lengths_in index) query k (file_list k index counted) → many < 2 ^ 36 → mark ≡ min many 1
+    pub survey-on : n ≡ 0 → (many mark : ℕ) → many ≡ rows (lengths_in index) query k (file_list k index file) → many < 2 ^ 36 → mark ≡ min many 1
         → Surveying (set marks k mark) (k + 1) (at + 4 + length file) (total + many)
     unfolding files_code
-    survey-on z counted w many mark m few e =
-        let listed : rows_of index recipes wanted query k ≡ many
-        = ap (rows (lengths_in index) query k) (wanted-is index recipes k at g.walk turn file f wanted counted w) ∙ sym m in
-        let s : rows_from index recipes wanted query k ≡ many + rows_from index recipes wanted query (k + 1)
-        = rows_step index recipes wanted query k turn ∙ ap (λ (x : ℕ). x + rows_from index recipes wanted query (k + 1)) listed in
+    survey-on z many mark m few e =
+        let listed : rows_of index recipes query k ≡ many
+        = ap (rows (lengths_in index) query k) (list-is index recipes k at g.walk turn file f) ∙ sym m in
+        let s : rows_left index recipes query k ≡ many + rows_left index recipes query (k + 1)
+        = rows_step index recipes query k at g.walk turn file f ∙ ap (λ (x : ℕ). x + rows_left index recipes query (k + 1)) (sym m) in
         record {
           walk = file-next recipes k at g.walk turn file f;
           few = g.few;
@@ -97,10 +94,10 @@ module _ (index recipes : List ℕ) (wanted : Wanted) (query : List ℕ) where
     pub survey-passed : all_files_code index recipes ≡ 0
     survey-passed = sym g.coded ∙ codes-end index recipes k at g.walk done
 
-    pub survey-total : total ≡ all_rows index recipes wanted query
-    survey-total = omega (arith, g.sums, rows_end index recipes wanted query k done)
+    pub survey-total : total ≡ all_rows index recipes query
+    survey-total = omega (arith, g.sums, rows_end index recipes query k at g.walk done)
 
-    pub survey-marks : marks ≡ written (replicate 65535 0) (marks_of index recipes wanted query)
+    pub survey-marks : marks ≡ written (replicate 65535 0) (marks_of index recipes query)
     survey-marks =
         let z : file_count recipes - k ≡ 0 = omega arith in
-        sym (splice-nil marks k) ∙ ap (λ (n : ℕ). splice marks k (each (λ j. mark_of index recipes wanted query j ∷ []) k n)) (sym z) ∙ g.marked
+        sym (splice-nil marks k) ∙ ap (λ (n : ℕ). splice marks k (each (λ j. mark_of index recipes query j ∷ []) k n)) (sym z) ∙ g.marked

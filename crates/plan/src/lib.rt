@@ -1,7 +1,7 @@
-// The recipe check (request #111), which every operation on an index and recipes starts with: the index check, the chains of its fingerprints, the
-// keywords' tables, 14, and a survey of the files, which tests each (15, 16, 17). Of the files that are wanted it also counts the rows, while their entries are
-// at hand: occurrences, or for a query lines. It writes no list: who lists goes by the plan, and a refusal has changed no byte of a list's buffer.
-ghost use Rattle.std.specs.Prelude.{◌≡◌, ℕ, min, ◌^◌, ◌≤◌, ◌<◌, [], cond, length, replicate, get_or};
+// What the operations on an index and recipes share: the index check, the chains of its fingerprints, the keywords' tables, 14, and a survey of the
+// files, which tests each and counts its rows: its occurrences, or for a query its line. It writes no list: who lists goes by the plan, and a
+// refusal has changed no byte of a list's buffer.
+ghost use Rattle.std.specs.Prelude.{◌≡◌, ℕ, min, ◌^◌, ◌≤◌, ◌<◌, length, replicate, get_or};
 ghost use Rattle.spec.specs.Bytes.{written};
 ghost use Rattle.spec.specs.Keywords.{folded_keywords};
 ghost use Rattle.spec.specs.Index.{list_in, lengths_in};
@@ -10,18 +10,11 @@ ghost use Rattle.spec.specs.Join.{sums};
 ghost use Rattle.walk.specs.Walking.{file_list, keyword_counts, Directory, File};
 ghost use Rattle.index.specs.Stages.{examined_chains};
 ghost use Rattle.directory.specs.Chains.{Empty};
-ghost use Rattle.plan.specs.Plans.{is_wanted, refused_plan, rows, counted, plan_of, planned_tables, Prepared, Joinable};
+ghost use Rattle.plan.specs.Plans.{refused_plan, rows, counted, plan_of, planned_tables, Prepared, Joinable};
 
-// The files whose rows are counted: `many` from number `first` on. None for a recipe check, those that are listed for a listing, all for who asks for all.
-#[derive(Drop)]
-pub struct Wanted {
-    pub first: usize,
-    pub many: usize,
-}
-
-// The refusals before 18 (but a query's 21, and 24) and, where there is none, the count of the wanted files' rows, how many occurrences of each keyword they
-// have (where there is no query), the opened index, and a mark for each file: 1 where it is wanted and has a row, so that who lists looks at no place of the others.
-#[derive(Drop)]
+// The refusals before 18 (but a query's 21) and, where there is none, the count of all rows, how many occurrences each keyword has (where there is no
+// query), the opened index, and a mark for each file: 1 where it has a row, so that who lists looks at no place of the others.
+#[derive(Clone, Copy)]
 pub struct Plan {
     pub code: u8,
     pub total: usize,
@@ -111,29 +104,15 @@ fn rows_in(
     0
 }
 
-// The file whose rows are counted: file k itself where it is wanted, else an empty one.
-fn wanted_file<'a>(file: &'a [u8], wanted: Wanted, k: usize) -> &'a [u8]
-    ensures { result.now ≡ cond (is_wanted wanted k) file.now [] }
-{
-    if k < wanted.first {
-        return &file[..0];
-    }
-    if wanted.many <= k - wanted.first {
-        return &file[..0];
-    }
-    file
-}
-
-// What a survey goes by: the opened index, the keywords' lengths, and the files that are wanted.
+// What a survey goes by: the opened index, and the keywords' lengths.
 #[derive(Drop)]
 struct Survey {
     opened: spec::Opened,
     lengths: [usize; 16],
-    wanted: Wanted,
 }
 
-// Tests each file, wanted or not, and counts the rows of those that are, file by file. A file is counted right after it is tested, while its slots hold its
-// entries; it is marked if it has a row.
+// Tests each file and counts its rows, file by file. A file is counted right after it is tested, while its slots hold its entries; it is marked if
+// it has a row.
 fn survey_files(
     index: &[u8],
     recipes: &[u8],
@@ -144,11 +123,10 @@ fn survey_files(
 ) -> Plan
     requires joinable { Joinable index.now recipes.now survey.opened chains.now tables.now }
     requires query_len_bound { (length query.now ≤ 8) × (survey.lengths ≡ written (replicate 16 0) (lengths_in index.now)) }
-    ensures { result ≡ plan_of index.now recipes.now survey.wanted query.now }
+    ensures { result ≡ plan_of index.now recipes.now query.now }
 {
     let opened = survey.opened;
     let lengths = survey.lengths;
-    let wanted = survey.wanted;
     let mut slots = [0u32; 65536];
     let mut marks = [0u8; 65535];
     let mut counts = [0usize; 16];
@@ -158,7 +136,6 @@ fn survey_files(
     let mut k: usize = 0;
     while k < files {
         let file = recipes::file_at(recipes, at);
-        let counted = wanted_file(file, wanted, k);
         let code = files::file_code(file, index, opened, chains, &mut slots);
         if code != 0 {
             return refused(code);
@@ -173,7 +150,7 @@ fn survey_files(
             choosing,
             chains,
             tables,
-            counted,
+            file,
             &slots,
             query,
             &mut counts,
@@ -192,18 +169,17 @@ fn survey_files(
     }
 }
 
-// The plan of an index, recipes, a query and the files that are wanted; an empty query asks for all occurrences. It leaves the chains of the index's
-// fingerprints and the keywords' tables in the arrays.
+// The plan of an index, recipes and a query; an empty query asks for all occurrences. It leaves the chains of the index's fingerprints and the
+// keywords' tables in the arrays.
 pub fn make(
     index: &[u8],
     recipes: &[u8],
     query: &[u8],
     chains: &mut [u32],
     tables: &mut [[[u32; 32]; 32]; 16],
-    wanted: Wanted,
 ) -> Plan
     requires { Empty chains.old × (length query.now ≤ 8) }
-    ensures { (result ≡ plan_of index.now recipes.now wanted query.now)
+    ensures { (result ≡ plan_of index.now recipes.now query.now)
         × (chains.new ≡ examined_chains index.now chains.old)
         × (tables.new ≡ planned_tables index.now recipes.now tables.old) }
 {
@@ -219,7 +195,6 @@ pub fn make(
     let survey = Survey {
         opened: opened,
         lengths: lengths,
-        wanted: wanted,
     };
     survey_files(index, recipes, survey, chains, tables, query)
 }

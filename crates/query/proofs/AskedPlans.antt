@@ -19,17 +19,17 @@ use Rattle.spec.specs.Query.{is_query, query_lines, queryable_code}
 use Rattle.spec.proofs.Tests.{le-or-lt}
 use Rattle.spec.proofs.Codes.{refused-whole}
 use Rattle.plan.specs.declared.Plan.{Plan}
-use Rattle.plan.specs.Plans.{all_wanted, plan_of}
-use Rattle.plan.proofs.Stages.{joinable-passed, plan-number, plan-total}
+use Rattle.plan.specs.Plans.{plan_of}
+use Rattle.plan.proofs.Stages.{plan-number, plan-total}
 use Rattle.asking.proofs.Queries.{asked, asked-few, query-asked, query-two, query-eight, code-passed}
-use Rattle.query.proofs.Turns.{all_lines}
+use Rattle.query.proofs.Turns.{rows-lines}
 
 pub few-asked : (query taken : List ℕ) → taken ≡ asked query → length taken ≤ 8
 few-asked query taken a = omega (arith, ap length a, asked-few query)
 
-module _ (index recipes query taken : List ℕ) (a : taken ≡ asked query) (plan : Plan) (p : plan ≡ plan_of index recipes all_wanted taken) where
+module _ (index recipes query taken : List ℕ) (a : taken ≡ asked query) (plan : Plan) (p : plan ≡ plan_of index recipes taken) where
   number : plan.code ≡ joinable_code (form_of index) index recipes
-  number = plan-number index recipes all_wanted taken plan p
+  number = plan-number index recipes taken plan p
 
   abbrev count : ℕ
   count = plan.opened.keywords
@@ -65,8 +65,8 @@ module _ (index recipes query taken : List ℕ) (a : taken ≡ asked query) (pla
       pub asked-accepted : plan.code ≡ 0
       asked-accepted = passes.0
 
-      pub asked-plan : plan ≡ plan_of index recipes all_wanted query
-      asked-plan = p ∙ ap (plan_of index recipes all_wanted) (a ∙ query-asked query count passes.1)
+      pub asked-plan : plan ≡ plan_of index recipes query
+      asked-plan = p ∙ ap (plan_of index recipes) (a ∙ query-asked query count passes.1)
 
       pub asked-two : 2 ≤ length query
       asked-two = query-two count query passes.1
@@ -75,6 +75,4 @@ module _ (index recipes query taken : List ℕ) (a : taken ≡ asked query) (pla
       asked-eight = query-eight count query passes.1
 
       pub asked-total : plan.total ≡ length (query_lines (form_of index) index recipes query)
-      asked-total =
-          plan-total index recipes all_wanted query plan asked-plan asked-accepted
-          ∙ all_lines index recipes query (omega (arith, asked-two)) (joinable-passed index recipes (sym number ∙ asked-accepted)).1
+      asked-total = plan-total index recipes query plan asked-plan asked-accepted ∙ rows-lines index recipes query (omega (arith, asked-two))

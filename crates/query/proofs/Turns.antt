@@ -17,19 +17,19 @@ use Rattle.spec.proofs.Writing.{Going, going_start, going-room, going_on, going_
 use Rattle.recipes.proofs.Files.{Walk, accepted}
 use Rattle.recipes.proofs.Slices.{file-next}
 use Rattle.walk.specs.Walking.{file_list}
-use Rattle.plan.specs.Plans.{all_wanted, wanted_of, rows, all_rows, Marked}
-use Rattle.plan.proofs.WantedLaws.{all_here, rows-lines}
+use Rattle.plan.specs.Plans.{rows, all_rows, Marked}
 use Rattle.plan.proofs.FileLaws.{list-is, lines_left, lines_start, lines_end, lines_step}
 use Rattle.query.proofs.LineBytes.{lines-nil, lines-append, line-size, query-size, Lined}
 
 -- ---- the plan's rows are lines
 
-module _ (index recipes query : List ℕ) (some : 1 ≤ length query) (good : recipes_code recipes ≡ 0) where
+module _ (index recipes query : List ℕ) (some : 1 ≤ length query) where
   asks : length query ≢ 0
   asks e = let z : ⊥ = omega arith in absurd z
 
-  pub all_lines : all_rows index recipes all_wanted query ≡ length (query_lines (form_of index) index recipes query)
-  all_lines = rows-lines index recipes query asks (accepted recipes good).few
+  pub rows-lines : all_rows index recipes query ≡ length (query_lines (form_of index) index recipes query)
+  unfolding all_rows
+  rows-lines = rw (ne_eqb (length query) 0 asks)
 
   none : (l : List Line) → length l ≡ 0 → l ≡ []
   none [] e = refl
@@ -42,14 +42,11 @@ module _ (index recipes query : List ℕ) (some : 1 ≤ length query) (good : re
       none (line_of (lengths_in index) query k list) e
 
   -- a file whose mark is 0 has no line
-  pub unmarked : (marks : List ℕ) → Marked index recipes all_wanted query marks → (k at : ℕ) → Walk recipes k at → k < file_count recipes → (file : List ℕ)
+  pub unmarked : (marks : List ℕ) → Marked index recipes query marks → (k at : ℕ) → Walk recipes k at → k < file_count recipes → (file : List ℕ)
       → file ≡ part recipes (at + 4) (20 * field_at recipes at 4) → get_or marks k 0 ≡ 0
       → line_of (lengths_in index) query k (file_list k index file) ≡ []
   unmarked marks m k at w turn file f z =
-      let here : wanted_of index recipes all_wanted k ≡ file_list k index file
-      = all_here index recipes k turn (accepted recipes good).few ∙ list-is index recipes k at w turn file f in
-      let none : rows (lengths_in index) query k (wanted_of index recipes all_wanted k) ≡ 0 = omega (arith, m.each k turn) in
-      no_rows k (file_list k index file) (ap (rows (lengths_in index) query k) (sym here) ∙ none)
+      no_rows k (file_list k index file) (ap (rows (lengths_in index) query k) (sym (list-is index recipes k at w turn file f)) ∙ m.none k turn z)
 
 -- ---- the loop
 

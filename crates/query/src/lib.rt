@@ -8,7 +8,7 @@ ghost use Rattle.spec.specs.Keywords.{folded_keywords};
 ghost use Rattle.spec.specs.Query.{lines_bytes, line_size, query_lines, query_outcome, query_buffer, query_count};
 ghost use Rattle.tables.specs.Tabled.{tables_of};
 ghost use Rattle.walk.specs.Walking.{Directory, File};
-ghost use Rattle.plan.specs.Plans.{all_wanted, Planned};
+ghost use Rattle.plan.specs.Plans.{Planned};
 ghost use Rattle.query.specs.FileLines.{file_line};
 
 // Writes n offsets, 4 bytes each.
@@ -87,7 +87,7 @@ fn write_lines(
     query: &[u8],
     out: &mut [u8],
 )
-    requires planned { Planned index.now recipes.now all_wanted query.now made chains.now tables.now × (1 ≤ length query.now) × (length query.now ≤ 8) }
+    requires planned { Planned index.now recipes.now query.now made chains.now tables.now × (1 ≤ length query.now) × (length query.now ≤ 8) }
     requires query_in_bounds { line_size query.now * length (query_lines (form_of index.now) index.now recipes.now query.now) ≤ length out.old }
     ensures { out.new ≡ splice out.old 0
         (lines_bytes (query_lines (form_of index.now) index.now recipes.now query.now)) }
@@ -120,17 +120,12 @@ pub fn count(index: &[u8], recipes: &[u8], query: &[u8]) -> spec::Outcome
 {
     let mut chains = [0u32; 130536];
     let mut tables = [[[0u32; 32]; 32]; 16];
-    let all = plan::Wanted {
-        first: 0,
-        many: 65535,
-    };
     let counted = plan::make(
         index,
         recipes,
         asking::askable(query),
         &mut chains,
         &mut tables,
-        all,
     );
     let refusal = asking::query_code(counted.code, query, counted.opened.keywords);
     if refusal != 0 {
@@ -147,17 +142,12 @@ pub fn query(index: &[u8], recipes: &[u8], query: &[u8], out: &mut [u8]) -> spec
 {
     let mut chains = [0u32; 130536];
     let mut tables = [[[0u32; 32]; 32]; 16];
-    let all = plan::Wanted {
-        first: 0,
-        many: 65535,
-    };
     let p = plan::make(
         index,
         recipes,
         asking::askable(query),
         &mut chains,
         &mut tables,
-        all,
     );
     let code = asking::query_code(p.code, query, p.opened.keywords);
     if code != 0 {

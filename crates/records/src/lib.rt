@@ -10,7 +10,7 @@ ghost use Rattle.records.specs.Summaries.{summary_of, empty_in, tiny_in, tiny_pa
 
 // ---- summaries: what decides how a record is written
 
-#[derive(Drop)]
+#[derive(Clone, Copy)]
 struct Summary {
     prefix: usize,
     suffix: usize,
@@ -275,7 +275,7 @@ pub fn body_size(
 }
 
 // A body that is begun: its length, and where the list of offsets of each keyword goes.
-#[derive(Drop)]
+#[derive(Clone, Copy)]
 pub struct Started {
     pub size: usize,
     pub cursors: [usize; 16],

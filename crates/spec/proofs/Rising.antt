@@ -61,7 +61,7 @@ passing-member (suc n) a [] r b h = each_none _ a (suc n) (λ p l m. refl)
 passing-member (suc n) a (x ∷ xs) r b h =
     go (eq-or-lt_of_le (h (zero-lt-suc _)))
     (λ e. passing-member n (suc a) xs (rising-tail x xs r) (rw (← sum) (and_right (ltb x (a + suc n)) (all_below (a + suc n) xs) b)) (λ l. omega (arith, rising-next x xs r l)))
-    (λ l. passing-member n (suc a) (x ∷ xs) r (rw (← sum) b) (λ _. l))
+    (λ l. passing-member n (suc a) (x ∷ xs) r (subst (λ (t : ℕ). all_below t (x ∷ xs) ≡ true) sum b) (λ _. l))
   where
     sum : a + suc n ≡ suc a + n
     sum = omega arith

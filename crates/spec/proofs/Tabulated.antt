@@ -32,7 +32,7 @@ module _ {ℓ} {A : Type ℓ} where
       (λ i h. tabulated-at (λ k. get_or xs k d) 0 n i d (omega (arith, length-tabulated (λ k. get_or xs k d) 0 n)) ∙ rw zero-add)
 
   pub tabulated-same : (f g : ℕ → A) (n : ℕ) → ((k : ℕ) → k < n → f k ≡ g k) → tabulated f 0 n ≡ tabulated g 0 n
-  tabulated-same f g n h = each-match _ _ 0 0 n (λ k l. rw zero-add (ap (λ (x : A). x ∷ []) (h k l)))
+  tabulated-same f g n h = each-match (λ k. f k ∷ []) (λ k. g k ∷ []) 0 0 n (λ k l. ap (λ (x : A). x ∷ []) (rw zero-add (h k l)))
 
 pub map-tabulated {ℓ ℓ'} : {A : Type ℓ} {B : Type ℓ'} (g : A → B) (f : ℕ → A) (at n : ℕ) → map g (tabulated f at n) ≡ tabulated (λ k. g (f k)) at n
 map-tabulated g f at zero = refl

@@ -162,7 +162,7 @@ read_list (suc n) bytes = record { file = field_at bytes 0 4; offset = field_at 
 unfoldable pub inner_least : Form → List ℕ → ℕ
 inner_least f list = cond f.sets 0 (longest (keywords_of list) - 1)
 
--- The "recipe check" (request #111), and the join's refusals before 18: the index check, 14, then file by file 15, 16, 17.
+-- The join's refusals before 18: the index check, 14, then file by file 15, 16, 17.
 unfoldable pub joinable_code : Form → List ℕ → List ℕ → ℕ
 joinable_code f index recipes =
     first_number

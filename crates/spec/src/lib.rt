@@ -1,6 +1,6 @@
 // The answer of an operation that writes or counts. What its cases mean in document 01's numbers is said by `code_of` and `value_of` in
 // specs/Outcome.antt; the definitions of this crate are what every contract of the other crates cites.
-#[derive(Drop)]
+#[derive(Clone, Copy)]
 pub enum Outcome {
     // The length written, or the count.
     Done(usize),
@@ -9,7 +9,7 @@ pub enum Outcome {
 }
 
 // The answer of a scan. specs/Scan.antt says what its cases mean.
-#[derive(Drop)]
+#[derive(Clone, Copy)]
 pub enum Scanned {
     // The index's length, and the moves of the walk over the trie, summed over all chunks (request #103).
     Done(usize, u64),
@@ -18,7 +18,7 @@ pub enum Scanned {
 }
 
 // The answer of a search, which is a scan and then a join of the index that it wrote. specs/Search.antt says what its cases mean.
-#[derive(Drop)]
+#[derive(Clone, Copy)]
 pub enum Searched {
     // The scan is refused, with document 01's number.
     ScanRefused(u8),
@@ -29,7 +29,7 @@ pub enum Searched {
 }
 
 // What differs between the marks of an index, as far as the code reads it. specs/Form.antt says which form it is.
-#[derive(Drop)]
+#[derive(Clone, Copy)]
 pub struct Format {
     // The digit in the mark.
     pub number: u8,
@@ -42,7 +42,7 @@ pub struct Format {
 }
 
 // An index that passed its check: what its readers go by. specs/Opened.antt says which numbers they are.
-#[derive(Drop)]
+#[derive(Clone, Copy)]
 pub struct Opened {
     // Where the directory starts.
     pub directory: usize,
@@ -56,7 +56,7 @@ pub struct Opened {
 
 // The counts of four clients (request #110): how many occurrences of each one's keywords have been listed. A join adds to it.
 // specs/Join.antt says what it adds.
-#[derive(Drop)]
+#[derive(Clone, Copy)]
 pub struct Tally {
     pub client0: u64,
     pub client1: u64,

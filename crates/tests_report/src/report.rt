@@ -73,7 +73,7 @@ const KIND_NAMES: [u8; 1200] = *b"\
     - with keywords alike by an accent      \
     - with an occurrence by an accent       ";
 
-const OPERATION_NAMES: [u8; 680] = *b"\
+const OPERATION_NAMES: [u8; 560] = *b"\
     keyword checks                          \
     store checks                            \
     scan sizes                              \
@@ -87,10 +87,7 @@ const OPERATION_NAMES: [u8; 680] = *b"\
     compaction sizes                        \
     compactions                             \
     query counts                            \
-    queries                                 \
-    recipe checks                           \
-    counts of files by number               \
-    lists of files by number                ";
+    queries                                 ";
 
 const BUFFER_NAMES: [u8; 320] = *b"\
     exact buffers, scan                     \
@@ -119,7 +116,7 @@ const STORE_NAMES: [u8; 240] = *b"\
     - refused with 8                        \
     - refused with 20                       ";
 
-const NUMBER_NAMES: [u8; 1000] = *b"\
+const NUMBER_NAMES: [u8; 960] = *b"\
     answered 0                              \
     answered 1                              \
     answered 2                              \
@@ -143,8 +140,7 @@ const NUMBER_NAMES: [u8; 1000] = *b"\
     answered 20                             \
     answered 21                             \
     answered 22                             \
-    answered 23                             \
-    answered 24                             ";
+    answered 23                             ";
 
 // The first n kinds by the holes.
 fn holes(counts: &mut [u64], n: usize) {
@@ -488,42 +484,10 @@ pub fn clients(counts: &[u64]) {
     lines(&CLIENT_NAMES, counts, tally::CLIENTS, 29);
 }
 
-const FILE_NAMES: [u8; 600] = *b"\
-    - of one file with occurrences          \
-    - of one file without                   \
-    - of several files                      \
-    - of no file                            \
-    - refused for the index                 \
-    - refused with 14                       \
-    - refused with 15                       \
-    - refused with 16                       \
-    - refused with 17                       \
-    - refused with 24                       \
-    - with a sum that would wrap            \
-    - with 17 before 24                     \
-    - with 24 before 18                     \
-    - that fit where all files do not       \
-    - of a file number above 255            ";
-
-const FILE_BUFFER_NAMES: [u8; 280] = *b"\
-    lists of files into longer buffers      \
-    lists of files into exact buffers       \
-    lists of files a byte short             \
-    occurrences into an empty buffer        \
-    no occurrence into an empty buffer      \
-    lists of files refused for any buffer   \
-    single files compared with a join       ";
-
-// The lists of files by their numbers.
-pub fn files(counts: &[u64]) {
-    lines(&FILE_NAMES, counts, tally::FILES, 15);
-    lines(&FILE_BUFFER_NAMES, counts, tally::FILE_BUFFERS, 7);
-}
-
 pub fn totals(counts: &[u64]) {
     lines(&MOVE_NAMES, counts, tally::MOVES, 11);
     lines(&BUFFER_NAMES, counts, tally::BUFFERS, 8);
-    lines(&OPERATION_NAMES, counts, tally::OPERATIONS, 17);
-    lines(&NUMBER_NAMES, counts, 0, 25);
+    lines(&OPERATION_NAMES, counts, tally::OPERATIONS, 14);
+    lines(&NUMBER_NAMES, counts, 0, 24);
     line(b"not as expected", count_at(counts, tally::DIFFERENCES));
 }

@@ -10,9 +10,9 @@ pub fn store_place(code: u8) -> usize {
     plus(STORES, less(code as usize, 4))
 }
 
-// Places of the counters: numbers 0 to 24, operations, differences, cases since the last line, kinds of cases (those of long chunks 64 behind,
+// Places of the counters: numbers 0 to 23, operations, differences, cases since the last line, kinds of cases (those of long chunks 64 behind,
 // those of chunks longer than a window 96 behind, those by holes 112 behind), kinds of buffers.
-pub(crate) const OPERATIONS: usize = 26;
+pub(crate) const OPERATIONS: usize = 32;
 
 pub(crate) const DIFFERENCES: usize = 46;
 
@@ -74,15 +74,8 @@ pub const QUERY_BUFFERS: usize = 288;
 // joins into one tally.
 pub const CLIENTS: usize = 296;
 
-// Lists of files by their numbers (request #111): by what is due, by the tests that fail together, by the files; then calls by their buffers:
-// longer, exact, a byte short, empty with occurrences, empty without; refused whatever the buffer; then the lists of single files compared with
-// a join's.
-pub const FILES: usize = 328;
-
-pub const FILE_BUFFERS: usize = 343;
-
 // Room for the counters.
-pub const ALL: usize = 352;
+pub const ALL: usize = 328;
 
 // The operations.
 pub const KEYWORD_CHECK: usize = 0;
@@ -113,12 +106,6 @@ pub const QUERY_COUNT: usize = 12;
 
 pub const QUERY: usize = 13;
 
-pub const RECIPE_CHECK: usize = 14;
-
-pub const FILE_COUNT: usize = 15;
-
-pub const FILE_LIST: usize = 16;
-
 pub fn bump(counts: &mut [u64], i: usize) {
     if i < counts.len() {
         counts[i] = std::num::wrapping_add_u64(counts[i], 1);
@@ -145,7 +132,7 @@ fn answer(got: u8, expected: u8, rest: bool) -> usize {
 // A call of an operation: `got` is the number that it answered, `expected` the one that is due, and `rest` says whether its value and its
 // bytes are the ones due.
 pub fn compared(counts: &mut [u64], operation: usize, got: u8, expected: u8, rest: bool) {
-    bump(counts, OPERATIONS + operation % 17);
+    bump(counts, OPERATIONS + operation % 14);
     bump(counts, answer(got, expected, rest));
 }
 

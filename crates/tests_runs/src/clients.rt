@@ -102,7 +102,7 @@ pub fn search_for_pair(
 }
 
 // An answer, and the tally after it.
-#[derive(Drop)]
+#[derive(Clone, Copy)]
 pub struct Counted {
     pub answer: usize,
     pub tally: Tally,

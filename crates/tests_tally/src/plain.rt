@@ -87,7 +87,7 @@ pub(crate) fn full(t: Tally) -> usize {
 // ---- what is due
 
 // The number; the tally after; the clients whose sums pass 64 bits.
-#[derive(Drop)]
+#[derive(Clone, Copy)]
 pub(crate) struct Due {
     pub(crate) code: u8,
     pub(crate) tally: Tally,

@@ -4,7 +4,7 @@ use mathlib.Core.Path.{◌≡◌, refl, sym, ap, ◌∙◌}
 use mathlib.Core.Logic.{◌≢◌, ⊎_elim}
 use mathlib.Core.Bool.{Bool, true, false, not}
 use mathlib.Core.List.{List, [], ◌∷◌, map}
-use Prim.Native.Nat.{ℕ, zero, suc, ◌+◌, ◌*◌, ◌<◌}
+use Prim.Native.Nat.{ℕ, zero, suc, ◌*◌, ◌<◌}
 use native.Mathlib.Omega.{arith}
 use borrow.Author.Tests.{lt-ltb}
 use lib.Dec.{ltb}
@@ -15,10 +15,9 @@ use Rattle.spec.specs.Keywords.{flag_of, folded, keywords_of, folded_keywords}
 use Rattle.spec.specs.Directory.{size_at}
 use Rattle.spec.specs.Store.{store_layout, chunk_count, store_keys}
 use Rattle.spec.specs.Form.{Form, newest, form_of}
-use Rattle.spec.specs.Recipes.{file_count, file_code, files_code, files_of, recipes_code}
+use Rattle.spec.specs.Recipes.{file_code, files_code, files_of, recipes_code}
 use Rattle.spec.specs.Join.{Occurrence, Clients, clients_code, tally_with, join_list, list_bytes, inner_least, join_code, join_outcome, join_buffer, join_tally}
-use Rattle.spec.specs.Join.{read_list, joinable_code}
-use Rattle.spec.specs.FileLists.{listing_outcome, listing_buffer}
+use Rattle.spec.specs.Join.{read_list}
 use Rattle.spec.specs.Query.{Line, line_size, lines_bytes, is_query, query_outcome, query_buffer}
 use Rattle.spec.specs.Scan.{scan_code}
 use Rattle.spec.specs.Search.{chunk_named, restored, direct_search, occurrences_in_all, search_join_code}
@@ -29,13 +28,10 @@ use Rattle.spec.proofs.FileLaws.{every-at, file-accepted, files-cons}
 use Rattle.spec.proofs.StoreLaws.{StoreGood, length-store_keys, chunk-length}
 use Rattle.theory.specs.Demand3.{scanned}
 use Rattle.theory.specs.Queries.{lines_in, search_lines, search_query_code}
-use Rattle.theory.specs.FileLists.{of_files, search_check_code, search_listing_code}
-use Rattle.theory.specs.SameChunks.{JoinsAlike, QueriesAlike, ListingsAlike}
+use Rattle.theory.specs.SameChunks.{JoinsAlike, QueriesAlike}
 use Rattle.theory.proofs.ScanThenJoin.{position_in, answer-same, buffer-same}
 use Rattle.theory.proofs.QuerySearch.{query-outcome, query-buffer}
-use Rattle.theory.proofs.ListingSearch.{passed-listing, recipe-check, listing-outcome, listing-buffer}
-use Rattle.theory.proofs.Listings.{listing-code, listing-found}
-use Rattle.theory.proofs.Demand3.{code-of-answer, scan-number, join-outcome, join-buffer, join-tally, scanned-is, join-of-scan}
+use Rattle.theory.proofs.Demand3.{code-of-answer, join-outcome, join-buffer, join-tally, scanned-is, join-of-scan}
 
 -- A store has the fingerprint; the entry that does.
 abbrev pub knows : List ℕ → List ℕ → Bool
@@ -169,32 +165,6 @@ module _ (store other : List ℕ) (P : List ℕ → Bool) (a : Agree store other
         let c = passed-whole (recipes_code recipes) _ e in
         same_lines 0 list recipes query p (passed-whole (files_test store 0 (files_of recipes)) _ c.1).0
 
-  -- ---- a recipe check's and a listing's part
-
-  module _ (recipes : List ℕ) (p : every (every P) (files_of recipes) ≡ true) where
-    same_check : search_check_code store recipes ≡ search_check_code other recipes
-    unfolding search_check_code
-    same_check = ap (λ (c : ℕ). first_number (whole (recipes_code recipes) ∷ whole c ∷ [])) (same-files 0 (files_of recipes) p)
-
-    -- where the check passes, the rows of some files are the same
-    same_rows : (list : List ℕ) (first many : ℕ) → search_check_code store recipes ≡ 0
-        → of_files first many (direct_search list store recipes) ≡ of_files first many (direct_search list other recipes)
-    unfolding search_check_code
-    same_rows list first many e =
-        let c = passed-whole (recipes_code recipes) _ e in
-        ap (of_files first many) (same-search 0 list recipes p (passed-whole (files_test store 0 (files_of recipes)) _ c.1).0)
-
-    same-listing-code : (list : List ℕ) (first many room : ℕ)
-        → search_listing_code list store recipes first many room ≡ search_listing_code list other recipes first many room
-    unfolding search_listing_code
-    same-listing-code list first many room =
-        last-two 0 (search_check_code store recipes) (search_check_code other recipes) 24 18 (ltb (file_count recipes) (first + many)) _ _ same_check
-        (λ z. ap (λ (l : List Occurrence). ltb room (9 * length l)) (same_rows list first many z))
-
-    same-listing-rows : (list : List ℕ) (first many room : ℕ) → search_listing_code list store recipes first many room ≡ 0
-        → of_files first many (direct_search list store recipes) ≡ of_files first many (direct_search list other recipes)
-    same-listing-rows list first many room e = same_rows list first many (passed-listing list store recipes first many room e).0
-
   -- ---- the join's part of a search
 
   module _ (f : Form) (list recipes : List ℕ) (clients : Clients) (room : ℕ) (p : every (every P) (files_of recipes) ≡ true) where
@@ -281,48 +251,6 @@ module _ (store other : List ℕ) (P : List ℕ → Bool) (a : Agree store other
 
     pub agreed-queries : QueriesAlike index other_index recipes
     agreed-queries = record { outcome = agreed-query; bytes = agreed-query-buffer }
-
-    -- recipe checks and listings of these indexes
-    agreed-check : joinable_code (form_of index) index recipes ≡ joinable_code (form_of other_index) other_index recipes
-    agreed-check =
-        recipe-check list store (length buffer) e index (scanned-is list store buffer e) recipes
-        ∙ same_check recipes p
-        ∙ sym (recipe-check list other (length buffer₂) e₂ other_index (scanned-is list other buffer₂ e₂) recipes)
-
-    agreed-listing : (first many room : ℕ)
-        → listing_outcome (form_of index) index recipes first many room ≡ listing_outcome (form_of other_index) other_index recipes first many room
-    agreed-listing first many room =
-        listing-outcome list store (length buffer) e index (scanned-is list store buffer e) recipes first many room
-        ∙ answer-same _ _ _ _ (same-listing-code recipes p list first many room)
-        (λ z. ap length (same-listing-rows recipes p list first many room (same-listing-code recipes p list first many room ∙ z)))
-        ∙ sym (listing-outcome list other (length buffer₂) e₂ other_index (scanned-is list other buffer₂ e₂) recipes first many room)
-
-    agreed-listing-buffer : (first many : ℕ) (out : List ℕ)
-        → listing_buffer (form_of index) index recipes first many out ≡ listing_buffer (form_of other_index) other_index recipes first many out
-    agreed-listing-buffer first many out =
-        listing-buffer list store (length buffer) e index (scanned-is list store buffer e) recipes first many out
-        ∙ buffer-same _ _ _ _ out (same-listing-code recipes p list first many (length out))
-        (λ z. ap (λ (l : List Occurrence). written out (list_bytes l))
-        (same-listing-rows recipes p list first many (length out) (same-listing-code recipes p list first many (length out) ∙ z)))
-        ∙ sym (listing-buffer list other (length buffer₂) e₂ other_index (scanned-is list other buffer₂ e₂) recipes first many out)
-
-    agreed-listed : (first many : ℕ) (out out₂ : List ℕ) → length out ≡ length out₂
-        → code_of (listing_outcome (form_of index) index recipes first many (length out)) ≡ 0
-        → read_list (value_of (listing_outcome (form_of index) index recipes first many (length out))) (listing_buffer (form_of index) index recipes first many out)
-        ≡ read_list (value_of (listing_outcome (form_of other_index) other_index recipes first many (length out₂)))
-        (listing_buffer (form_of other_index) other_index recipes first many out₂)
-    agreed-listed first many out out₂ l z =
-        let o : listing_outcome (form_of index) index recipes first many (length out)
-        ≡ listing_outcome (form_of other_index) other_index recipes first many (length out₂) =
-        agreed-listing first many (length out) ∙ ap (listing_outcome (form_of other_index) other_index recipes first many) l in
-        let s = scan-number list store (length buffer) ∙ e in
-        let c : search_listing_code list store recipes first many (length out) ≡ 0 = listing-code list store recipes first many buffer out s z in
-        listing-found list store recipes first many buffer out s z
-        ∙ same-listing-rows recipes p list first many (length out) c
-        ∙ sym (listing-found list other recipes first many buffer₂ out₂ (scan-number list other (length buffer₂) ∙ e₂) (ap code_of (sym o) ∙ z))
-
-    pub agreed-listings : ListingsAlike index other_index recipes
-    agreed-listings = record { check = agreed-check; outcome = agreed-listing; bytes = agreed-listing-buffer; listed = agreed-listed }
 
     -- all of a join, into list buffers of equal length
     pub agreed-joins : (clients : Clients) (out out₂ : List ℕ) → length out ≡ length out₂

@@ -33,7 +33,7 @@ use Rattle.theory.specs.Compaction.{SameNamed, Compaction, CompactionCases}
 use Rattle.theory.proofs.Cases.{definitions}
 use Rattle.theory.proofs.AnyOrder.{weigh, weigh-le, weigh-same}
 use Rattle.theory.proofs.ScanThenJoin.{buffer-same}
-use Rattle.theory.proofs.Agreeing.{knows, place_of, place_in, Agree, same-join-code, same-list, agreed-joins, agreed-queries, agreed-listings}
+use Rattle.theory.proofs.Agreeing.{knows, place_of, place_in, Agree, same-join-code, same-list, agreed-joins, agreed-queries}
 use Rattle.theory.proofs.SameChunks.{by-fingerprint, join_is, buffer-is, tally-is}
 use Rattle.theory.proofs.Demand3.{code-of-answer, value-of-answer, written-front, scan-number}
 use Rattle.theory.proofs.WrittenStores.{laid_bytes, length-written, store-read, store-accepted}
@@ -437,9 +437,6 @@ compaction store recipes e =
           );
       queries = λ list buffer buffer₂ a b.
           agreed-queries store new (λ key. contains key (named_in recipes)) (agrees store recipes e) list buffer buffer₂
-          (sym (scan-number list store (length buffer)) ∙ a) (sym (scan-number list new (length buffer₂)) ∙ b) recipes (all_named store recipes e);
-      listings = λ list buffer buffer₂ a b.
-          agreed-listings store new (λ key. contains key (named_in recipes)) (agrees store recipes e) list buffer buffer₂
           (sym (scan-number list store (length buffer)) ∙ a) (sym (scan-number list new (length buffer₂)) ∙ b) recipes (all_named store recipes e);
       shortest = compacted-shortest store recipes e;
       within = omega (arith, length-new store recipes e, kept-total (named_in recipes) (stored_chunks store), (store-holds store (store-good store e)).0);

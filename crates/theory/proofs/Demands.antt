@@ -21,7 +21,6 @@ use Rattle.spec.specs.Form.{newest, form_of}
 use Rattle.spec.specs.Recipes.{files_of}
 use Rattle.spec.specs.Index.{index_layout, index_keys, index_code}
 use Rattle.spec.specs.Join.{Occurrence, keyword_at, Clients, tally_with, join_list, list_bytes, read_list, join_code, join_outcome, join_buffer, join_tally}
-use Rattle.spec.specs.FileLists.{files_list, listing_code, listing_outcome, listing_buffer}
 use Rattle.spec.specs.Query.{query_lines, lines_bytes, query_code, query_outcome, query_buffer}
 use Rattle.spec.specs.Lookup.{lookup_code, lookup_start, lookup_length, find_chunk, chunk_start, chunk_length, chunk_of, find_body, body_start, body_length, body_of}
 use Rattle.spec.specs.Trie.{scan_moves}
@@ -95,7 +94,7 @@ lookup-answered code layout bytes keys key =
     record { empty = λ d. (rw (ne_eqb (lookup_code code keys key) 0 d), rw (ne_eqb (lookup_code code keys key) 0 d)) }
 
 pub demand-1 : Demand1
-unfolding scan_buffer join_outcome join_buffer join_tally listing_outcome listing_buffer query_outcome query_buffer search_buffer search_tally compact_outcome compact_buffer find_chunk chunk_start chunk_length chunk_of find_body body_start body_length body_of
+unfolding scan_buffer join_outcome join_buffer join_tally query_outcome query_buffer search_buffer search_tally compact_outcome compact_buffer find_chunk chunk_start chunk_length chunk_of find_body body_start body_length body_of
 demand-1 =
     record {
       scan = scan-answered;
@@ -103,9 +102,6 @@ demand-1 =
           answered (join_code (form_of index) index recipes clients (length buffer)) (length (join_list (form_of index) index recipes))
           (written buffer (list_bytes (join_list (form_of index) index recipes))) buffer;
       tallies = λ index recipes clients room. tallied (join_code (form_of index) index recipes clients room) clients (join_list (form_of index) index recipes);
-      listing = λ index recipes first many buffer.
-          answered (listing_code (form_of index) index recipes first many (length buffer)) (length (files_list (form_of index) index recipes first many))
-          (written buffer (list_bytes (files_list (form_of index) index recipes first many))) buffer;
       query = λ index recipes query buffer.
           answered (query_code (form_of index) index recipes query (length buffer)) (length (query_lines (form_of index) index recipes query))
           (written buffer (lines_bytes (query_lines (form_of index) index recipes query))) buffer;
@@ -177,7 +173,7 @@ module _ (list store recipes : List ℕ) (accept : keyword_code list ≡ 0) (o :
   abbrev d : Bool
   d = occurs_at (keyword_at (folded_keywords list) o.keyword) (get_or (restored_files list store recipes) o.file []) o.offset
 
-  pub stands-there : occurs_in (folded_keywords list) (restored_files list store recipes) o ≡ true → StandsIn list store recipes o
+  stands-there : occurs_in (folded_keywords list) (restored_files list store recipes) o ≡ true → StandsIn list store recipes o
   stands-there e =
       let abc : (a && b && c) ≡ true = and_left (a && b && c) d e in
       let f : o.file < length (files_of recipes) =
@@ -188,7 +184,7 @@ module _ (list store recipes : List ℕ) (accept : keyword_code list ≡ 0) (o :
       let t = (occurs-text flag word text o.offset (nonempty k)).0 s in
       record { file = f; keyword = k; stands = record { within = t.0; alike = t.1 } }
 
-  pub stands-back : StandsIn list store recipes o → occurs_in (folded_keywords list) (restored_files list store recipes) o ≡ true
+  stands-back : StandsIn list store recipes o → occurs_in (folded_keywords list) (restored_files list store recipes) o ≡ true
   stands-back s =
       let t : occurs_at (folded flag word) (folded flag text) o.offset ≡ true =
       (occurs-text flag word text o.offset (nonempty s.keyword)).1 (s.stands.within, s.stands.alike) in

@@ -1,7 +1,6 @@
 pub mod Cases
 pub mod SetCases
 pub mod QueryCases
-pub mod ListingCases
 pub mod SearchList
 pub mod PlaceText
 pub mod IndexTheorems
@@ -20,9 +19,6 @@ pub mod AnyOrder
 pub mod Agreeing
 pub mod SameChunks
 pub mod Numbers
-pub mod FileLists
-pub mod ListingSearch
-pub mod Listings
 pub mod Demand2
 pub mod OccursText
 pub mod Demands

@@ -16,7 +16,6 @@ use Rattle.spec.specs.Form.{Form, newest, form_of}
 use Rattle.spec.specs.Index.{list_in, lengths_in, index_layout, index_keys, all_good, header_code, directory_code, laid_code, index_code}
 use Rattle.spec.specs.Recipes.{most_files, file_count, files_whole, inner_long, sizes_in, files_of, recipes_code, file_code, files_code}
 use Rattle.spec.specs.Join.{Occurrence, Clients, is_key, fit64, tally_with, clients_code, join_list, inner_least, joinable_code, join_code}
-use Rattle.spec.specs.FileLists.{files_list, listable_code, listing_code}
 use Rattle.spec.specs.Query.{query_lines, line_size, is_query, queryable_code, query_code}
 use Rattle.spec.specs.Lookup.{lookup_code, find_chunk, find_body}
 use Rattle.spec.specs.Scan.{scan_index, scannable_code, scan_code}
@@ -195,56 +194,42 @@ clients-number n clients found =
     test_in of_clients (not (is_key n clients.key)) 22 _ refl (test_in of_clients (not (fit64 (tally_with clients found))) 23 0 refl refl)
 
 -- the numbers of the files' tests are among those of the whole
-module _ (numbers : List ℕ) (has : every (λ x. member x numbers) (14 ∷ of_index) ≡ true) where
+module _ (numbers : List ℕ) (has : every (λ x. member x numbers) (14 ∷ 18 ∷ of_index) ≡ true) where
   joinable-number : (f : Form) (index recipes : List ℕ)
       → member (files_code (index_keys index) (size_at (index_layout index) index) (inner_least f (list_in index)) (files_of recipes)) numbers ≡ true
       → member (joinable_code f index recipes) numbers ≡ true
   unfolding joinable_code
   joinable-number f index recipes files =
       whole_in numbers (index_code f index) _
-      (wider (index_code f index) (14 ∷ of_index) numbers has (wider (index_code f index) of_index (14 ∷ of_index) refl (index_number f index)))
+      (wider (index_code f index) (14 ∷ 18 ∷ of_index) numbers has (wider (index_code f index) of_index (14 ∷ 18 ∷ of_index) refl (index_number f index)))
       (whole_in numbers (recipes_code recipes) _
-      (wider (recipes_code recipes) (14 ∷ of_index) numbers has (wider (recipes_code recipes) of_recipes (14 ∷ of_index) refl (recipes-number recipes)))
+      (wider (recipes_code recipes) (14 ∷ 18 ∷ of_index) numbers has (wider (recipes_code recipes) of_recipes (14 ∷ 18 ∷ of_index) refl (recipes-number recipes)))
       (whole_in numbers (files_code (index_keys index) (size_at (index_layout index) index) (inner_least f (list_in index)) (files_of recipes)) 0 files
-      (wider 0 (14 ∷ of_index) numbers has refl)))
+      (wider 0 (14 ∷ 18 ∷ of_index) numbers has refl)))
 
-  join-number : (f : Form) (index recipes : List ℕ) (clients : Clients) (room : ℕ) → every (λ x. member x numbers) (18 ∷ of_clients) ≡ true
+  join-number : (f : Form) (index recipes : List ℕ) (clients : Clients) (room : ℕ) → every (λ x. member x numbers) of_clients ≡ true
       → member (files_code (index_keys index) (size_at (index_layout index) index) (inner_least f (list_in index)) (files_of recipes)) numbers ≡ true
       → member (join_code f index recipes clients room) numbers ≡ true
   unfolding join_code
   join-number f index recipes clients room more files =
       let last = clients_code (length (keywords_of (list_in index))) clients (join_list f index recipes) in
       whole_in numbers (joinable_code f index recipes) _ (joinable-number f index recipes files)
-      (test_in numbers (ltb room (9 * length (join_list f index recipes))) 18 _ (wider 18 (18 ∷ of_clients) numbers more refl)
+      (test_in numbers (ltb room (9 * length (join_list f index recipes))) 18 _ (wider 18 (14 ∷ 18 ∷ of_index) numbers has refl)
       (whole_in numbers last 0
-      (wider last (18 ∷ of_clients) numbers more
-      (wider last of_clients (18 ∷ of_clients) refl (clients-number (length (keywords_of (list_in index))) clients (join_list f index recipes))))
-      (wider 0 (14 ∷ of_index) numbers has refl)))
+      (wider last of_clients numbers more (clients-number (length (keywords_of (list_in index))) clients (join_list f index recipes)))
+      (wider 0 (14 ∷ 18 ∷ of_index) numbers has refl)))
 
   -- a query has 21 too
-  query-number : (f : Form) (index recipes query : List ℕ) (room : ℕ) → every (λ x. member x numbers) (18 ∷ 21 ∷ []) ≡ true
+  query-number : (f : Form) (index recipes query : List ℕ) (room : ℕ) → member 21 numbers ≡ true
       → member (files_code (index_keys index) (size_at (index_layout index) index) (inner_least f (list_in index)) (files_of recipes)) numbers ≡ true
       → member (query_code f index recipes query room) numbers ≡ true
   unfolding query_code queryable_code
   query-number f index recipes query room more files =
-      let zero_in : member 0 numbers ≡ true = wider 0 (14 ∷ of_index) numbers has refl in
+      let zero_in : member 0 numbers ≡ true = wider 0 (14 ∷ 18 ∷ of_index) numbers has refl in
       whole_in numbers (queryable_code f index recipes query) _
       (whole_in numbers (joinable_code f index recipes) _ (joinable-number f index recipes files)
-      (test_in numbers (not (is_query (length (lengths_in index)) query)) 21 0 (wider 21 (18 ∷ 21 ∷ []) numbers more refl) zero_in))
-      (test_in numbers (ltb room (line_size query * length (query_lines f index recipes query))) 18 0
-      (wider 18 (18 ∷ 21 ∷ []) numbers more refl) zero_in)
-
-  -- a listing has 24 too
-  listing-number : (f : Form) (index recipes : List ℕ) (first many room : ℕ) → every (λ x. member x numbers) (18 ∷ 24 ∷ []) ≡ true
-      → member (files_code (index_keys index) (size_at (index_layout index) index) (inner_least f (list_in index)) (files_of recipes)) numbers ≡ true
-      → member (listing_code f index recipes first many room) numbers ≡ true
-  unfolding listing_code listable_code
-  listing-number f index recipes first many room more files =
-      let zero_in : member 0 numbers ≡ true = wider 0 (14 ∷ of_index) numbers has refl in
-      whole_in numbers (listable_code f index recipes first many) _
-      (whole_in numbers (joinable_code f index recipes) _ (joinable-number f index recipes files)
-      (test_in numbers (ltb (file_count recipes) (first + many)) 24 0 (wider 24 (18 ∷ 24 ∷ []) numbers more refl) zero_in))
-      (test_in numbers (ltb room (9 * length (files_list f index recipes first many))) 18 0 (wider 18 (18 ∷ 24 ∷ []) numbers more refl) zero_in)
+      (test_in numbers (not (is_query (length (lengths_in index)) query)) 21 0 more zero_in))
+      (test_in numbers (ltb room (line_size query * length (query_lines f index recipes query))) 18 0 (wider 18 (14 ∷ 18 ∷ of_index) numbers has refl) zero_in)
 
 abbrev of_join : List ℕ
 of_join = 0 ∷ 1 ∷ 2 ∷ 3 ∷ 4 ∷ 10 ∷ 11 ∷ 12 ∷ 13 ∷ 14 ∷ 15 ∷ 16 ∷ 17 ∷ 18 ∷ 22 ∷ 23 ∷ []
@@ -257,18 +242,6 @@ of_query = 0 ∷ 1 ∷ 2 ∷ 3 ∷ 4 ∷ 10 ∷ 11 ∷ 12 ∷ 13 ∷ 14 ∷ 15 �
 
 abbrev of_set_query : List ℕ
 of_set_query = 0 ∷ 1 ∷ 2 ∷ 3 ∷ 4 ∷ 10 ∷ 11 ∷ 12 ∷ 13 ∷ 14 ∷ 15 ∷ 16 ∷ 18 ∷ 21 ∷ []
-
-abbrev pub of_recipe_check : List ℕ
-of_recipe_check = 0 ∷ 1 ∷ 2 ∷ 3 ∷ 4 ∷ 10 ∷ 11 ∷ 12 ∷ 13 ∷ 14 ∷ 15 ∷ 16 ∷ 17 ∷ []
-
-abbrev of_set_recipe_check : List ℕ
-of_set_recipe_check = 0 ∷ 1 ∷ 2 ∷ 3 ∷ 4 ∷ 10 ∷ 11 ∷ 12 ∷ 13 ∷ 14 ∷ 15 ∷ 16 ∷ []
-
-abbrev of_listing : List ℕ
-of_listing = 0 ∷ 1 ∷ 2 ∷ 3 ∷ 4 ∷ 10 ∷ 11 ∷ 12 ∷ 13 ∷ 14 ∷ 15 ∷ 16 ∷ 17 ∷ 18 ∷ 24 ∷ []
-
-abbrev of_set_listing : List ℕ
-of_set_listing = 0 ∷ 1 ∷ 2 ∷ 3 ∷ 4 ∷ 10 ∷ 11 ∷ 12 ∷ 13 ∷ 14 ∷ 15 ∷ 16 ∷ 18 ∷ 24 ∷ []
 
 -- the files' tests of an index, among the numbers of the whole
 module _ (f : Form) (index recipes numbers : List ℕ) where
@@ -297,21 +270,6 @@ any-query f index recipes query room = query-number of_query refl f index recipe
 set-query : (f : Form) (index recipes query : List ℕ) (room : ℕ) → f.sets ≡ true → member (query_code f index recipes query room) of_set_query ≡ true
 set-query f index recipes query room q =
     query-number of_set_query refl f index recipes query room refl (set-index-files f index recipes of_set_query refl q)
-
-pub any-check : (f : Form) (index recipes : List ℕ) → member (joinable_code f index recipes) of_recipe_check ≡ true
-any-check f index recipes = joinable-number of_recipe_check refl f index recipes (any-index-files f index recipes of_recipe_check refl)
-
-set-check : (f : Form) (index recipes : List ℕ) → f.sets ≡ true → member (joinable_code f index recipes) of_set_recipe_check ≡ true
-set-check f index recipes q = joinable-number of_set_recipe_check refl f index recipes (set-index-files f index recipes of_set_recipe_check refl q)
-
-any-listing : (f : Form) (index recipes : List ℕ) (first many room : ℕ) → member (listing_code f index recipes first many room) of_listing ≡ true
-any-listing f index recipes first many room =
-    listing-number of_listing refl f index recipes first many room refl (any-index-files f index recipes of_listing refl)
-
-set-listing : (f : Form) (index recipes : List ℕ) (first many room : ℕ) → f.sets ≡ true
-    → member (listing_code f index recipes first many room) of_set_listing ≡ true
-set-listing f index recipes first many room q =
-    listing-number of_set_listing refl f index recipes first many room refl (set-index-files f index recipes of_set_listing refl q)
 
 abbrev pub of_search : List ℕ
 of_search = 0 ∷ 1 ∷ 2 ∷ 3 ∷ 4 ∷ 5 ∷ 6 ∷ 7 ∷ 8 ∷ 9 ∷ 14 ∷ 15 ∷ 16 ∷ 18 ∷ 20 ∷ 22 ∷ 23 ∷ []
@@ -376,10 +334,6 @@ numbers = record {
   index = λ index. index_number (form_of index) index;
   join = λ index. any-join (form_of index) index;
   join_sets = λ index. set-join (form_of index) index;
-  recipes = λ index. any-check (form_of index) index;
-  recipes_sets = λ index. set-check (form_of index) index;
-  listing = λ index. any-listing (form_of index) index;
-  listing_sets = λ index. set-listing (form_of index) index;
   query = λ index. any-query (form_of index) index;
   query_sets = λ index. set-query (form_of index) index;
   searches = search-number newest refl;

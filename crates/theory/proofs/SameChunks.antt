@@ -43,7 +43,7 @@ use Rattle.theory.specs.Demands.{Calls}
 use Rattle.theory.specs.SameChunks.{same_chunk, among, held_by, same_chunks, Reordered, AnswerAlike, SameChunks, SameCalls, SmallReordered}
 use Rattle.theory.proofs.AnyOrder.{weigh, weigh-le, weigh-same, weigh-one}
 use Rattle.theory.proofs.Agreeing.{knows, place_of, place_in, join_kept, every_true, Agree, same-join-code, same-list}
-use Rattle.theory.proofs.Agreeing.{agreed-outcome, agreed-buffer, agreed-tally, agreed-list, agreed-queries, agreed-listings}
+use Rattle.theory.proofs.Agreeing.{agreed-outcome, agreed-buffer, agreed-tally, agreed-list, agreed-queries}
 use Rattle.theory.proofs.ScanThenJoin.{position_in, buffer-same}
 use Rattle.theory.proofs.Cases.{definitions}
 use Rattle.theory.proofs.Demand3.{code-of-answer, value-of-answer, scan-number, scanned-is, scanned-form, join-of-scan}
@@ -387,7 +387,6 @@ module _ (store other : List ℕ) (a : Alike store other) where
           tally = λ recipes. agreed-tally store other (λ key. true) agrees list buffer buffer₂ e e₂ recipes (all_named recipes);
           listed = λ recipes. agreed-list store other (λ key. true) agrees list buffer buffer₂ e e₂ recipes (all_named recipes);
           queries = λ recipes. agreed-queries store other (λ key. true) agrees list buffer buffer₂ e e₂ recipes (all_named recipes);
-          listings = λ recipes. agreed-listings store other (λ key. true) agrees list buffer buffer₂ e e₂ recipes (all_named recipes);
         }
 
 -- ---- the claim

@@ -24,7 +24,7 @@ use Rattle.theory.specs.SearchList.{same_occurrence, is_in, lexical, before, in_
 
 -- ---- the order
 
-pub lexical-less : (m n : ℕ) (b : Bool) → m < n → lexical m n b ≡ true
+lexical-less : (m n : ℕ) (b : Bool) → m < n → lexical m n b ≡ true
 lexical-less m n b h = rw (lt-ltb m n h)
 
 lexical-same : (n : ℕ) (b : Bool) → lexical n n b ≡ b
@@ -77,7 +77,7 @@ order-once (o ∷ list) e (suc i) (suc j) none l h q = order-once list (order-ta
 
 -- ---- members
 
-pub same-is : (a b : Occurrence) → same_occurrence a b ≡ true → a ≡ b
+same-is : (a b : Occurrence) → same_occurrence a b ≡ true → a ≡ b
 same-is a b e =
     let x : Bool = eqb a.file b.file in
     let y : Bool = eqb a.offset b.offset in
@@ -91,11 +91,11 @@ same-is a b e =
 pub same_self : (a : Occurrence) → same_occurrence a a ≡ true
 same_self a = rw (eqb_same a.file, eqb_same a.offset, eqb_same a.keyword)
 
-pub in-append : (o : Occurrence) (s t : List Occurrence) → is_in o (s ++ t) ≡ (is_in o s || is_in o t)
+in-append : (o : Occurrence) (s t : List Occurrence) → is_in o (s ++ t) ≡ (is_in o s || is_in o t)
 in-append o [] t = refl
 in-append o (a ∷ s) t = rw (in-append o s t, or_assoc)
 
-pub in-keep : (o p : Occurrence) (b : Bool) → is_in o (keep b p) ≡ (b && same_occurrence o p)
+in-keep : (o p : Occurrence) (b : Bool) → is_in o (keep b p) ≡ (b && same_occurrence o p)
 in-keep o p true = or-false (same_occurrence o p)
 in-keep o p false = refl
 
@@ -125,7 +125,7 @@ module _ (f : ℕ → List Occurrence) (part : Occurrence → ℕ) (own : (p : �
       go true e = absurd (h (own p o e))
       go false e = refl
 
-  pub in-each : (o : Occurrence) (a n : ℕ) → is_in o (each f a n) ≡ (leb a (part o) && ltb (part o) (a + n) && is_in o (f (part o)))
+  in-each : (o : Occurrence) (a n : ℕ) → is_in o (each f a n) ≡ (leb a (part o) && ltb (part o) (a + n) && is_in o (f (part o)))
   in-each o a zero = go (le-or-lt a (part o))
     where
       go : (a ≤ part o) ⊎ (part o < a) → false ≡ (leb a (part o) && ltb (part o) (a + 0) && is_in o (f (part o)))
@@ -150,7 +150,7 @@ module _ (f : ℕ → List Occurrence) (part : Occurrence → ℕ) (own : (p : �
 
   module _ (each-ordered : (p : ℕ) → in_order (f p) ≡ true)
       (apart : (p q : ℕ) (x y : Occurrence) → p < q → is_in x (f p) ≡ true → is_in y (f q) ≡ true → before x y ≡ true) where
-    pub order-each : (a n : ℕ) → in_order (each f a n) ≡ true
+    order-each : (a n : ℕ) → in_order (each f a n) ≡ true
     order-each a zero = refl
     order-each a (suc n) =
         order-append (f a) (each f (suc a) n) (each-ordered a) (order-each (suc a) n)
@@ -378,7 +378,7 @@ module _ (keywords : List (List ℕ)) (file : ℕ) where
         let g : o.offset ≡ base + place = listed-offset place o b in
         (listed-file place o b, omega arith, omega arith)
 
-  pub from_member : (base : ℕ) (chunks : List ChunkRecords) (o : Occurrence) → is_in o (join_from file keywords base chunks) ≡ true
+  from_member : (base : ℕ) (chunks : List ChunkRecords) (o : Occurrence) → is_in o (join_from file keywords base chunks) ≡ true
       → (o.file ≡ file) × (base ≤ o.offset)
   unfolding join_from
   from_member base [] o e = absurd (false≢true e)
@@ -392,7 +392,7 @@ module _ (keywords : List (List ℕ)) (file : ℕ) where
       (either (is_in o (each (listed_at here rest base) 0 here.size)) (is_in o (join_from file keywords (base + here.size) rest))
       (sym (in-append o (each (listed_at here rest base) 0 here.size) (join_from file keywords (base + here.size) rest)) ∙ e))
 
-  pub from-ordered : (base : ℕ) (chunks : List ChunkRecords) → in_order (join_from file keywords base chunks) ≡ true
+  from-ordered : (base : ℕ) (chunks : List ChunkRecords) → in_order (join_from file keywords base chunks) ≡ true
   unfolding join_from
   from-ordered base [] = refl
   from-ordered base (here ∷ rest) =

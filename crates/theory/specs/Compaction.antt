@@ -15,7 +15,7 @@ use Rattle.spec.specs.Compact.{named_in, named_among, compacted, compact_outcome
 use Rattle.theory.specs.Cases.{store, keywords, recipes, recipes_of}
 use Rattle.theory.specs.Demand3.{scanned}
 use Rattle.theory.specs.Demands.{Calls}
-use Rattle.theory.specs.SameChunks.{WrittenInFull, JoinsAlike, QueriesAlike, ListingsAlike}
+use Rattle.theory.specs.SameChunks.{WrittenInFull, JoinsAlike, QueriesAlike}
 use Rattle.theory.specs.Holes.{store_of, holed_store}
 
 -- Each fingerprint that these recipes name has the same bytes in the other store.
@@ -54,11 +54,6 @@ pub record Compaction (store recipes : List ℕ) : Type 0 where
       → scanned_code (scan_answer newest list store (length buffer)) ≡ 0
       → scanned_code (scan_answer newest list (compacted store recipes) (length buffer₂)) ≡ 0
       → QueriesAlike (scanned list store buffer) (scanned list (compacted store recipes) buffer₂) recipes
-  -- a recipe check and a listing of files by number (request #111), likewise
-  pub listings : (list buffer buffer₂ : List ℕ)
-      → scanned_code (scan_answer newest list store (length buffer)) ≡ 0
-      → scanned_code (scan_answer newest list (compacted store recipes) (length buffer₂)) ≡ 0
-      → ListingsAlike (scanned list store buffer) (scanned list (compacted store recipes) buffer₂) recipes
   -- every other accepted store in which each fingerprint these recipes name has the same bytes is at least as long
   pub shortest : (other : List ℕ) → store_code other ≡ 0 → SameNamed store recipes other → length (compacted store recipes) ≤ length other
   -- it is no longer than the old store, so a buffer of that length is enough

@@ -13,9 +13,7 @@ use Rattle.spec.specs.Form.{Form, newest, form_of}
 use Rattle.spec.specs.Records.{record_at}
 use Rattle.spec.specs.Index.{index_records, index_code}
 use Rattle.spec.specs.Recipes.{files_of}
-use Rattle.spec.specs.Join.{Occurrence, keyword_at, Clients, tally_with, join_list, list_bytes, read_list, joinable_code, join_code, join_outcome}
-use Rattle.spec.specs.Join.{join_buffer, join_tally}
-use Rattle.spec.specs.FileLists.{files_list, listing_code, listing_outcome, listing_buffer}
+use Rattle.spec.specs.Join.{Occurrence, keyword_at, Clients, tally_with, join_list, list_bytes, read_list, join_code, join_outcome, join_buffer, join_tally}
 use Rattle.spec.specs.Query.{query_lines, lines_bytes, query_code, query_outcome, query_buffer}
 use Rattle.spec.specs.Lookup.{find_chunk, chunk_start, chunk_of, find_body, body_start, body_of}
 use Rattle.spec.specs.Trie.{scan_moves}
@@ -78,15 +76,6 @@ pub record Numbers : Type 0 where
   -- 17 under the two older marks alone (request #108)
   pub join_sets : (index recipes : List ℕ) (clients : Clients) (room : ℕ) → (form_of index).sets ≡ true
       → member (join_code (form_of index) index recipes clients room) (0 ∷ 1 ∷ 2 ∷ 3 ∷ 4 ∷ 10 ∷ 11 ∷ 12 ∷ 13 ∷ 14 ∷ 15 ∷ 16 ∷ 18 ∷ 22 ∷ 23 ∷ []) ≡ true
-  -- request #111: the recipe check, and a listing of files by number, which has 24 too; 17 as in a join
-  pub recipes : (index recipes : List ℕ)
-      → member (joinable_code (form_of index) index recipes) (0 ∷ 1 ∷ 2 ∷ 3 ∷ 4 ∷ 10 ∷ 11 ∷ 12 ∷ 13 ∷ 14 ∷ 15 ∷ 16 ∷ 17 ∷ []) ≡ true
-  pub recipes_sets : (index recipes : List ℕ) → (form_of index).sets ≡ true
-      → member (joinable_code (form_of index) index recipes) (0 ∷ 1 ∷ 2 ∷ 3 ∷ 4 ∷ 10 ∷ 11 ∷ 12 ∷ 13 ∷ 14 ∷ 15 ∷ 16 ∷ []) ≡ true
-  pub listing : (index recipes : List ℕ) (first many room : ℕ)
-      → member (listing_code (form_of index) index recipes first many room) (0 ∷ 1 ∷ 2 ∷ 3 ∷ 4 ∷ 10 ∷ 11 ∷ 12 ∷ 13 ∷ 14 ∷ 15 ∷ 16 ∷ 17 ∷ 18 ∷ 24 ∷ []) ≡ true
-  pub listing_sets : (index recipes : List ℕ) (first many room : ℕ) → (form_of index).sets ≡ true
-      → member (listing_code (form_of index) index recipes first many room) (0 ∷ 1 ∷ 2 ∷ 3 ∷ 4 ∷ 10 ∷ 11 ∷ 12 ∷ 13 ∷ 14 ∷ 15 ∷ 16 ∷ 18 ∷ 24 ∷ []) ≡ true
   -- request #109: 21 too; 17 as in a join
   pub query : (index recipes query : List ℕ) (room : ℕ)
       → member (query_code (form_of index) index recipes query room) (0 ∷ 1 ∷ 2 ∷ 3 ∷ 4 ∷ 10 ∷ 11 ∷ 12 ∷ 13 ∷ 14 ∷ 15 ∷ 16 ∷ 17 ∷ 18 ∷ 21 ∷ []) ≡ true
@@ -109,10 +98,6 @@ pub record Demand1 : Type 0 where
   pub tallies : (index recipes : List ℕ) (clients : Clients) (room : ℕ)
       → Tallied (join_code (form_of index) index recipes clients room) clients (join_list (form_of index) index recipes)
       (join_tally (form_of index) index recipes clients room)
-  pub listing : (index recipes : List ℕ) (first many : ℕ) (buffer : List ℕ)
-      → Answered (listing_code (form_of index) index recipes first many (length buffer)) (length (files_list (form_of index) index recipes first many))
-      (written buffer (list_bytes (files_list (form_of index) index recipes first many))) buffer
-      (listing_outcome (form_of index) index recipes first many (length buffer)) (listing_buffer (form_of index) index recipes first many buffer)
   pub query : (index recipes query buffer : List ℕ)
       → Answered (query_code (form_of index) index recipes query (length buffer)) (length (query_lines (form_of index) index recipes query))
       (written buffer (lines_bytes (query_lines (form_of index) index recipes query))) buffer

@@ -2,7 +2,6 @@ pub mod Cases
 pub mod SetCases
 pub mod Tallies
 pub mod QueryCases
-pub mod ListingCases
 pub mod Spans
 pub mod SearchList
 pub mod PlaceText
@@ -12,7 +11,6 @@ pub mod Published
 pub mod RecordSets
 pub mod Demands
 pub mod Queries
-pub mod FileLists
 pub mod SameChunks
 pub mod Holes
 pub mod Compaction

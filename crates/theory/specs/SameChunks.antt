@@ -11,8 +11,7 @@ use Rattle.spec.specs.Store.{Chunk, store_bytes, chunk_count, store_code, stored
 use Rattle.spec.specs.Form.{form1, newest, form_of}
 use Rattle.spec.specs.Index.{index_keys}
 use Rattle.spec.specs.Lookup.{find_chunk, chunk_start, chunk_of, find_body, body_of}
-use Rattle.spec.specs.Join.{Clients, one_client, joinable_code, join_outcome, join_buffer, join_tally, read_list}
-use Rattle.spec.specs.FileLists.{listing_outcome, listing_buffer}
+use Rattle.spec.specs.Join.{Clients, one_client, join_outcome, join_buffer, join_tally, read_list}
 use Rattle.spec.specs.Query.{query_outcome, query_buffer}
 use Rattle.spec.specs.Scan.{scan_index, scan_answer, scanned_code}
 use Rattle.spec.specs.Search.{search_code, search_outcome, search_buffer, search_tally, searched_count}
@@ -51,20 +50,6 @@ pub record QueriesAlike (index other recipes : List ℕ) : Type 0 where
       → query_outcome (form_of index) index recipes query room ≡ query_outcome (form_of other) other recipes query room
   pub bytes : (query out : List ℕ) → query_buffer (form_of index) index recipes query out ≡ query_buffer (form_of other) other recipes query out
 
--- Recipe checks and listings of files by number of two index files with the same recipes (request #111): the same number; the same refusal or the same count,
--- and the same buffer after it; into two list buffers of equal length, where the listing does its work, the same list.
-pub record ListingsAlike (index other recipes : List ℕ) : Type 0 where
-  pub check : joinable_code (form_of index) index recipes ≡ joinable_code (form_of other) other recipes
-  pub outcome : (first many room : ℕ)
-      → listing_outcome (form_of index) index recipes first many room ≡ listing_outcome (form_of other) other recipes first many room
-  pub bytes : (first many : ℕ) (out : List ℕ)
-      → listing_buffer (form_of index) index recipes first many out ≡ listing_buffer (form_of other) other recipes first many out
-  pub listed : (first many : ℕ) (out out₂ : List ℕ) → length out ≡ length out₂
-      → code_of (listing_outcome (form_of index) index recipes first many (length out)) ≡ 0
-      → read_list (value_of (listing_outcome (form_of index) index recipes first many (length out))) (listing_buffer (form_of index) index recipes first many out)
-      ≡ read_list (value_of (listing_outcome (form_of other) other recipes first many (length out₂)))
-      (listing_buffer (form_of other) other recipes first many out₂)
-
 -- Two index files answer the same, each read by the form that its mark names. They have the same length; their entries may stand in another order.
 pub record AnswerAlike (index other : List ℕ) : Type 0 where
   pub size : length index ≡ length other
@@ -85,8 +70,6 @@ pub record AnswerAlike (index other : List ℕ) : Type 0 where
       ≡ read_list (value_of (join_outcome (form_of other) other recipes clients (length out₂))) (join_buffer (form_of other) other recipes clients out₂)
   -- a query (request #109)
   pub queries : (recipes : List ℕ) → QueriesAlike index other recipes
-  -- a recipe check and a listing (request #111)
-  pub listings : (recipes : List ℕ) → ListingsAlike index other recipes
 
 -- Two searches with the same key and tallies that are equal at entry answer the same, with index buffers of these two lengths.
 pub record SearchAlike (list here there : List ℕ) (index_room index_room₂ : ℕ) : Type 0 where

@@ -9,8 +9,7 @@ ghost use Rattle.spec.specs.Index.{index_code};
 ghost use Rattle.spec.specs.Lookup.{find_chunk, chunk_start, chunk_length, find_body, body_start, body_length};
 ghost use Rattle.spec.specs.Outcome.{code_of, told_value};
 ghost use Rattle.spec.specs.Scan.{size_outcome, scan_answer, scan_buffer, scanned_code, told_length, told_moves};
-ghost use Rattle.spec.specs.Join.{counts_of, tally_of, lent, joinable_code, count_outcome, join_outcome, join_buffer, join_tally};
-ghost use Rattle.spec.specs.FileLists.{listing_count, listing_outcome, listing_buffer};
+ghost use Rattle.spec.specs.Join.{counts_of, tally_of, lent, count_outcome, join_outcome, join_buffer, join_tally};
 ghost use Rattle.spec.specs.Query.{query_count, query_outcome, query_buffer};
 ghost use Rattle.spec.specs.Compact.{compact_size, compact_outcome, compact_buffer};
 ghost use Rattle.spec.specs.Search.{search_outcome, search_buffer, search_tally, searched_code, told_size, told_count};
@@ -151,45 +150,6 @@ pub extern "C" fn vault_join(
     *client2 = tally.client2;
     *client3 = tally.client3;
     told(outcome, count)
-}
-
-// ---- the join in two parts (request #111): the recipe check, and the listing of files by their numbers
-
-#[unsafe(no_mangle)]
-pub extern "C" fn vault_check_recipes(index: &[u8], recipes: &[u8]) -> u8
-    ensures { result ≡ joinable_code (form_of index.now) index.now recipes.now }
-{
-    file_lists::check(index, recipes)
-}
-
-#[unsafe(no_mangle)]
-pub extern "C" fn vault_count_files(
-    index: &[u8],
-    recipes: &[u8],
-    first: usize,
-    many: usize,
-    count: &mut u64,
-) -> u8
-    ensures { (result ≡ code_of (listing_count (form_of index.now) index.now recipes.now first many))
-        × (count.new ≡ told_value (listing_count (form_of index.now) index.now recipes.now first many) count.old) }
-{
-    told(file_lists::count(index, recipes, first, many), count)
-}
-
-#[unsafe(no_mangle)]
-pub extern "C" fn vault_list_files(
-    index: &[u8],
-    recipes: &[u8],
-    first: usize,
-    many: usize,
-    out: &mut [u8],
-    count: &mut u64,
-) -> u8
-    ensures { (result ≡ code_of (listing_outcome (form_of index.now) index.now recipes.now first many (length out.old)))
-        × (count.new ≡ told_value (listing_outcome (form_of index.now) index.now recipes.now first many (length out.old)) count.old)
-        × (out.new ≡ listing_buffer (form_of index.now) index.now recipes.now first many out.old) }
-{
-    told(file_lists::list(index, recipes, first, many, out), count)
 }
 
 // ---- queries

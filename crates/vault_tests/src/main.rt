@@ -3,7 +3,6 @@
 // answered, and how often something was not as expected: never.
 use tests_cases::{limits, vaults, wide};
 use tests_compact::cases;
-use tests_files::cases as files;
 use tests_outputs::printed;
 use tests_pairs::orders;
 use tests_query::cases as queries;
@@ -22,6 +21,5 @@ fn main() {
     cases::all_compactions(&mut counts);
     queries::all_queries(&mut counts);
     tallies::all_tallies(&mut counts);
-    files::all_files(&mut counts);
     report::totals(&counts);
 }

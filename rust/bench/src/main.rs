@@ -6,7 +6,6 @@
 //!     bench --places [ROUNDS] [--few]
 //!     bench --query [ROUNDS] [--few]
 //!     bench --tally [ROUNDS] [--few]
-//!     bench --files [ROUNDS] [--few]
 //!
 //! Every row's methods run one after the other in each round, so that a row's ratios are of one run; times are medians of
 //! the rounds, in processor time of the thread. With each row stands the time of a fixed loop: rows whose loop took longer
@@ -15,7 +14,7 @@
 use bench::clock::{self, calibration, median, timed};
 use bench::generate::{self, index_of, key, recipes, recipes_of, store_of, vault, Vault};
 use bench::peers::{plain, restore_each, Automaton, Chunks};
-use bench::{clients, compaction, files, places, queries, scan};
+use bench::{clients, compaction, places, queries, scan};
 use std::hint::black_box;
 
 struct Options {
@@ -52,19 +51,17 @@ fn main() {
         Some("--places") => return places::main(words.collect()),
         Some("--query") => return queries::main(words.collect()),
         Some("--tally") => return clients::main(words.collect()),
-        Some("--files") => return files::main(words.collect()),
         _ => (),
     }
     let Some(options) = options() else {
         eprintln!(
             "usage: bench [MEGABYTES] [ROUNDS] [--fresh] [--no-plain] [--directories]\n       bench --scan {}\n       bench --compact {}\n       \
-             bench --places {}\n       bench --query {}\n       bench --tally {}\n       bench --files {}",
+             bench --places {}\n       bench --query {}\n       bench --tally {}",
             scan::USAGE,
             compaction::USAGE,
             places::USAGE,
             queries::USAGE,
-            clients::USAGE,
-            files::USAGE
+            clients::USAGE
         );
         std::process::exit(64);
     };

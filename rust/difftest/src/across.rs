@@ -149,7 +149,6 @@ impl Vault {
             keys: inputs::lookups(rng, &keys),
             queries: vec![],
             lents: vec![],
-            ranges: vec![],
         }
     }
 

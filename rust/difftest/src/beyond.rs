@@ -57,7 +57,6 @@ fn case(kind: &'static str, store: Vec<u8>) -> Case {
         keys,
         queries: vec![],
         lents: vec![],
-        ranges: vec![],
     }
 }
 

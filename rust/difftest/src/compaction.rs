@@ -125,7 +125,6 @@ impl Comparison<'_> {
             self.pair_lists(pair, indexes, room)?;
             self.pair_searches(pair, length, room)?;
         }
-        self.pair_files(pair, indexes)?;
         self.pair_queries(pair, indexes)
     }
 }

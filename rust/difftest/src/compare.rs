@@ -40,8 +40,6 @@ pub struct Tally {
     pub queries: Reached,
     /// What the keys and tallies of joins and searches came upon.
     pub clients: Reached,
-    /// What lists of files by their numbers came upon.
-    pub files: Reached,
     /// Lines of queries, each query's once.
     pub lines: u64,
     /// Bytes at the fold's borders.
@@ -248,7 +246,7 @@ impl Comparison<'_> {
         Ok(want)
     }
 
-    /// Index check, the count, joins, lists of files, and queries.
+    /// Index check, the count, joins, and queries.
     fn joins(&mut self, bytes: &[u8], recipes: &[u8], case: &Case) -> Verdict {
         let index = index::read(bytes);
         self.code("check_index", raw::check_index(bytes), index.as_ref().err().copied().unwrap_or(0))?;
@@ -277,11 +275,9 @@ impl Comparison<'_> {
             let wrapped = (exact & U32) as usize;
             lengths.extend([wrapped, wrapped + 44_651].into_iter().filter(|length| *length as u64 <= self.limits.buffer));
         }
-        let made = found.is_ok() || joined.is_err();
         let found = found.unwrap_or_default();
         let listed = Listed::new(index.as_ref().ok().map(|index| &index.keywords), &found);
         self.lists(bytes, recipes, listed, &list, (lengths, &case.lents))?;
-        self.files((bytes, recipes), &index, &joined, made.then_some(&found[..]), &case.ranges)?;
         self.queries(bytes, recipes, &joined, &found, &case.queries)
     }
 

@@ -2,7 +2,7 @@
 
 use crate::inputs::{list, Case};
 use crate::rng::Rng;
-use crate::{across, beyond, clients, compaction, file_lists, folds, holes, lanes, queries, windows};
+use crate::{across, beyond, clients, compaction, folds, holes, lanes, queries, windows};
 use oracle::form::{Form, KNOWN, NEWEST};
 use oracle::records::Record;
 use oracle::{index, recipes, store, Fingerprint};
@@ -16,7 +16,7 @@ pub fn case(kind: &'static str, list: Vec<u8>, chunks: &Chunks, files: &[Vec<Fin
     let mut keys: Vec<Vec<u8>> = chunks.iter().take(2).chain(chunks.last()).map(|(key, _)| key.to_vec()).collect();
     keys.extend([vec![0x77; 20], vec![], vec![1; 19], vec![1; 21]]);
     let (store, recipes) = (store::encode(chunks), recipes::encode(files));
-    Case { kind, list, store, index: None, recipes, keys, queries: vec![], lents: vec![], ranges: vec![] }
+    Case { kind, list, store, index: None, recipes, keys, queries: vec![], lents: vec![] }
 }
 
 pub fn key(k: usize) -> Fingerprint {
@@ -102,7 +102,6 @@ pub fn small() -> Vec<Case> {
     cases.extend(across::by_hand());
     cases.extend(queries::by_hand());
     cases.extend(clients::by_hand());
-    cases.extend(file_lists::by_hand());
     cases
 }
 
@@ -442,7 +441,6 @@ pub fn large() -> Vec<(&'static str, fn(&mut Rng) -> Vec<Case>)> {
         ("compaction", compaction::large),
         ("keywords over many chunks", across::large),
         ("queries", queries::large),
-        ("lists of files", file_lists::large),
     ]
 }
 

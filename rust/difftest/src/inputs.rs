@@ -1,7 +1,6 @@
 //! Random inputs: keywords that overlap and nest, chunks made of their pieces, recipes, made-up records.
 
 use crate::clients::Lent;
-use crate::file_lists::Asked;
 use crate::folds::beside;
 use crate::holes;
 use crate::rng::Rng;
@@ -25,8 +24,6 @@ pub struct Case {
     pub queries: Vec<Vec<u8>>,
     /// Keys and tallies to join with beside random ones.
     pub lents: Vec<Lent>,
-    /// Files to list beside random ones: the first one's number, and how many.
-    pub ranges: Vec<Asked>,
 }
 
 impl Case {
@@ -319,7 +316,6 @@ pub fn vault_of(rng: &mut Rng, kind: &'static str, words: Words) -> (Case, Words
         keys: lookups(rng, &keys),
         queries: vec![],
         lents: vec![],
-        ranges: vec![],
     };
     (case, words, keys)
 }

@@ -176,6 +176,5 @@ pub fn vault(rng: &mut Rng) -> Case {
         keys: inputs::lookups(rng, &keys),
         queries: vec![],
         lents: vec![],
-        ranges: vec![],
     }
 }

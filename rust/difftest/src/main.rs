@@ -13,7 +13,6 @@ mod clients;
 mod compaction;
 mod compare;
 mod damage;
-mod file_lists;
 mod fixed;
 mod folds;
 mod holes;
@@ -181,7 +180,6 @@ fn noise(rng: &mut Rng) -> Case {
         keys: vec![bytes(&[]), vec![1; 20]],
         queries: vec![],
         lents: vec![],
-        ranges: vec![],
     }
 }
 
@@ -233,7 +231,6 @@ fn keep(folder: &str, case: &Case, other: Option<(Change, &[u8])>) -> std::io::R
     other.map_or(Ok(()), |(_, other)| write("other-store.bin", other))?;
     case.queries.iter().enumerate().try_for_each(|(k, query)| write(&format!("query{k}.bin"), query))?;
     case.lents.iter().enumerate().try_for_each(|(k, lent)| write(&format!("lent{k}.txt"), format!("{lent:?}\n").as_bytes()))?;
-    write("files.txt", format!("{:?}\n", case.ranges).as_bytes())?;
     case.keys.iter().enumerate().try_for_each(|(k, key)| write(&format!("key{k}.bin"), key))
 }
 
@@ -264,7 +261,6 @@ fn run(arguments: &Arguments) -> ExitCode {
         ("what no join came upon", run.tally.crossings.missing(&across::ALL)),
         ("what no query came upon", run.tally.queries.missing(&queries::ALL)),
         ("what no key or tally came upon", run.tally.clients.missing(&clients::ALL)),
-        ("what no list of files came upon", run.tally.files.missing(&file_lists::ALL)),
     ];
     for (what, which) in lacking.iter().filter(|(_, which)| !which.is_empty()) {
         println!("FAILED: {what}: {}", which.join(", "));
@@ -314,17 +310,14 @@ fn all(arguments: &Arguments, run: &mut Run, started: Instant) -> bool {
 }
 
 /// The codes that each operation can give.
-const REACHABLE: [(&str, &[u8]); 17] = [
+const REACHABLE: [(&str, &[u8]); 14] = [
     ("check_keywords", &[0, 1, 2, 3, 4]),
     ("check_store", &[0, 5, 6, 7, 8, 20]),
     ("check_index", &[0, 1, 2, 3, 4, 10, 11, 12, 13]),
-    ("check_recipes", &[0, 1, 2, 3, 4, 10, 11, 12, 13, 14, 15, 16, 17]),
     ("scan_size", &[0, 1, 2, 3, 4, 5, 6, 7, 8, 20]),
     ("scan", &[0, 1, 2, 3, 4, 5, 6, 7, 8, 9, 20]),
     ("count", &[0, 1, 2, 3, 4, 10, 11, 12, 13, 14, 15, 16, 17]),
     ("join", &[0, 1, 2, 3, 4, 10, 11, 12, 13, 14, 15, 16, 17, 18, 22, 23]),
-    ("count_files", &[0, 1, 2, 3, 4, 10, 11, 12, 13, 14, 15, 16, 17, 24]),
-    ("list_files", &[0, 1, 2, 3, 4, 10, 11, 12, 13, 14, 15, 16, 17, 18, 24]),
     ("query_count", &[0, 1, 2, 3, 4, 10, 11, 12, 13, 14, 15, 16, 17, 21]),
     ("query", &[0, 1, 2, 3, 4, 10, 11, 12, 13, 14, 15, 16, 17, 18, 21]),
     ("find_chunk", &[0, 5, 6, 7, 8, 15, 19, 20]),
@@ -362,7 +355,6 @@ fn report(tally: &Tally, time: Duration) {
     println!("keywords across chunks: {}", tally.crossings.report(&across::ALL));
     println!("queries: {}", tally.queries.report(&queries::ALL));
     println!("keys and tallies: {}", tally.clients.report(&clients::ALL));
-    println!("lists of files: {}", tally.files.report(&file_lists::ALL));
     let calls: u64 = tally.codes.values().sum();
     println!(
         "\n{} cases, {calls} answers compared, {} bytes of buffers, {} occurrences listed, {} lines of queries,",

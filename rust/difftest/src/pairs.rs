@@ -137,7 +137,6 @@ impl Comparison<'_> {
         for room in [room, room.saturating_sub(1)] {
             self.pair_lists(pair, indexes, room)?;
         }
-        self.pair_files(pair, indexes)?;
         self.pair_queries(pair, indexes)?;
         Ok(room)
     }

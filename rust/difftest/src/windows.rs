@@ -246,7 +246,6 @@ fn random(rng: &mut Rng) -> Case {
         keys: inputs::lookups(rng, &keys),
         queries: vec![],
         lents: vec![],
-        ranges: vec![],
     }
 }
 

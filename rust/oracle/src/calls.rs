@@ -6,7 +6,7 @@ use crate::form::NEWEST;
 use crate::index::Index;
 use crate::join::Joined;
 use crate::store::Chunk;
-use crate::{clients, compact, file_lists, index, join, keywords, moves, query, store, Code, U32};
+use crate::{clients, compact, index, join, keywords, moves, query, store, Code, U32};
 use std::ops::Range;
 
 /// A call's code; its length or count goes to the lent number where the call is done.
@@ -34,10 +34,6 @@ pub fn check_store(bytes: &[u8]) -> Code {
 
 pub fn check_index(bytes: &[u8]) -> Code {
     code(index::read(bytes))
-}
-
-pub fn check_recipes(bytes: &[u8], recipes: &[u8]) -> Code {
-    code(file_lists::check(bytes, recipes))
 }
 
 /// The index that a scan writes, whatever its length: refusals 1 to 8 and 20.
@@ -112,17 +108,6 @@ pub fn join(bytes: &[u8], recipes: &[u8], key: &[u8], out: &mut [u8], count: &mu
         Ok(found)
     };
     told(run(), count)
-}
-
-/// The files' first number, and how many they are.
-pub fn count_files(bytes: &[u8], recipes: &[u8], files: (usize, usize), count: &mut u64) -> Code {
-    told(file_lists::counted(bytes, recipes, files), count)
-}
-
-/// 18 is the last test: the lists of these files together.
-pub fn list_files(bytes: &[u8], recipes: &[u8], files: (usize, usize), out: &mut [u8], count: &mut u64) -> Code {
-    let found = file_lists::listed(bytes, recipes, files, out.len());
-    told(found.and_then(|found| put(out, &join::encode(&found), 18)).map(|length| length / 9), count)
 }
 
 /// The lines of a query, whatever their length: refusals of the index check, 14 to 17, 21.

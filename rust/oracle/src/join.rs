@@ -72,7 +72,7 @@ impl Joined<'_> {
     }
 
     /// The crossing finds that start in the first of these places, which go on to their file's end: the word, and its bytes in that chunk.
-    pub(crate) fn crossings<'b>(&'b self, places: &'b [usize]) -> impl Iterator<Item = (usize, usize)> + 'b {
+    fn crossings<'b>(&'b self, places: &'b [usize]) -> impl Iterator<Item = (usize, usize)> + 'b {
         (0..self.index.keywords.words.len()).flat_map(move |k| {
             let crosses = move |a: &usize| match self.index.form.sets {
                 true => matches!(self.trial(k, *a, places), Trial::Whole(_)),
@@ -124,7 +124,7 @@ impl Joined<'_> {
     }
 
     /// The finds of one file, in the list's order.
-    pub(crate) fn of_file(&self, file: usize) -> Vec<Occurrence> {
+    fn of_file(&self, file: usize) -> Vec<Occurrence> {
         let mut list = Vec::new();
         let places = &self.files[file];
         let mut base = 0;

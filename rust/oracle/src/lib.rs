@@ -11,7 +11,6 @@
 //! * [`index`]: "Notes file", with the notes check;
 //! * [`recipes`]: "Recipes", with refusals 14 to 17;
 //! * [`join`]: "Joining two notes", request 108's crossings over any number of chunks, and the join;
-//! * [`file_lists`]: request 111, the recipe check, and the lists of files by their numbers;
 //! * [`clients`]: request 110, a key that says which client each word is of, and a tally of each client's finds;
 //! * [`query`]: request 109, the files that have several words in order;
 //! * [`compact`]: request 107, a store's chunks that some recipe names, without holes;
@@ -22,7 +21,6 @@ pub mod calls;
 pub mod clients;
 pub mod compact;
 pub mod direct;
-pub mod file_lists;
 pub mod form;
 pub mod index;
 pub mod join;
@@ -33,7 +31,7 @@ pub mod recipes;
 pub mod records;
 pub mod store;
 
-/// The number of a refusal, 1 to 24.
+/// The number of a refusal, 1 to 23.
 pub type Code = u8;
 
 /// A fingerprint: 20 opaque bytes.

@@ -10,7 +10,7 @@ pub struct Error {
 }
 
 /// The refusals, by number from 1.
-const MEANINGS: [&str; 24] = [
+const MEANINGS: [&str; 23] = [
     "the keyword list is cut short, or has bytes left over",
     "the keyword list's count is not 1 to 16, or its fold flag is neither 0 nor 1",
     "a keyword's length is not 1 to 32",
@@ -34,14 +34,13 @@ const MEANINGS: [&str; 24] = [
     "the query is not 2 to 8 keyword numbers, or one of them is not below the index's keyword count",
     "the key is not 16 bytes, or names a client above 3 for a keyword",
     "a client's count would pass 18,446,744,073,709,551,615, the largest number of 64 bits: begin a new tally",
-    "a file number is not below the file count of the recipes",
 ];
 
 impl Error {
-    /// The refusal of that number; numbers outside 1 to 24 are not the papers', and say so.
+    /// The refusal of that number; numbers outside 1 to 23 are not the papers', and say so.
     pub fn new(code: u8) -> Error {
         let meaning = match code {
-            1..=24 => MEANINGS[usize::from(code) - 1],
+            1..=23 => MEANINGS[usize::from(code) - 1],
             _ => "a number that the papers don't name",
         };
         Error { code, meaning }

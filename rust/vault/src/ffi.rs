@@ -10,7 +10,6 @@ extern "C" {
     pub fn vault_check_keywords(list: *const u8, list_length: usize) -> u8;
     pub fn vault_check_store(store: *const u8, store_length: usize) -> u8;
     pub fn vault_check_index(index: *const u8, index_length: usize) -> u8;
-    pub fn vault_check_recipes(index: *const u8, index_length: usize, recipes: *const u8, recipes_length: usize) -> u8;
     pub fn vault_scan_size(list: *const u8, list_length: usize, store: *const u8, store_length: usize, length: *mut u64) -> u8;
     pub fn vault_scan(
         list: *const u8,
@@ -37,26 +36,6 @@ extern "C" {
         client1: *mut u64,
         client2: *mut u64,
         client3: *mut u64,
-    ) -> u8;
-    pub fn vault_count_files(
-        index: *const u8,
-        index_length: usize,
-        recipes: *const u8,
-        recipes_length: usize,
-        first: usize,
-        many: usize,
-        count: *mut u64,
-    ) -> u8;
-    pub fn vault_list_files(
-        index: *const u8,
-        index_length: usize,
-        recipes: *const u8,
-        recipes_length: usize,
-        first: usize,
-        many: usize,
-        out: *mut u8,
-        out_length: usize,
-        count: *mut u64,
     ) -> u8;
     pub fn vault_query_count(
         index: *const u8,

@@ -8,8 +8,6 @@
 //!   then offset, then keyword, each exactly once, also those that go over two chunks or more.
 //!   It takes a **key** too, which says which of up to four clients each keyword is of, and adds the occurrences of each client to a [`Tally`] that
 //!   is lent. Callers that bill nobody have the same calls without both in [`unbilled`].
-//! * [`list_file`] lists one file by its number, and [`check_recipes`] says whether an index and recipes can be joined, without a list. The join's list
-//!   is the lists of all files one after the other.
 //! * [`query`] takes the index, recipes and several keyword numbers, and gives a [`Line`] for each file that has these keywords in that order.
 //! * [`compact`] writes the store anew, without holes and with the chunks alone that recipes name: a search of these recipes lists the same.
 //!
@@ -46,7 +44,6 @@
 mod clients;
 mod error;
 mod ffi;
-mod files;
 pub mod forms;
 #[cfg(feature = "mock")]
 mod mock;
@@ -55,7 +52,6 @@ pub mod unbilled;
 
 pub use clients::{key, Tally, CLIENTS, KEY, ONE_CLIENT};
 pub use error::{Error, Failure};
-pub use files::{check_recipes, count_file, count_files, list_file, list_files, list_files_bytes, list_files_into};
 use forms::{Form, NEWEST};
 
 /// A stack that is large enough for every call, in bytes.
@@ -296,18 +292,13 @@ pub fn join_bytes(index: &[u8], recipes: &[u8], key: &[u8], tally: &mut Tally) -
 /// is added.
 pub fn join(index: &[u8], recipes: &[u8], key: &[u8], tally: &mut Tally) -> Result<Vec<Occurrence>, Failure> {
     let mut added = *tally;
-    let list = collected(&join_bytes(index, recipes, key, &mut added)?)?;
-    *tally = added;
-    Ok(list)
-}
-
-/// The occurrences of a list's bytes, where there is memory for them.
-fn collected(bytes: &[u8]) -> Result<Vec<Occurrence>, Failure> {
-    let found = occurrences(bytes);
+    let bytes = join_bytes(index, recipes, key, &mut added)?;
+    let found = occurrences(&bytes);
     let mut list = Vec::new();
     let none = Failure::Memory { bytes: (found.len() * size_of::<Occurrence>()) as u64 };
     list.try_reserve_exact(found.len()).map_err(|_| none)?;
     list.extend(found);
+    *tally = added;
     Ok(list)
 }
 
@@ -1073,7 +1064,7 @@ mod tests {
         let header = std::fs::read_to_string(concat!(env!("CARGO_MANIFEST_DIR"), "/../../include/vault.h")).unwrap();
         let header = header.replace("uint8_t vault_", "fn vault_").replace("uint64_t vault_", "fn vault_");
         let names = declared(&header, "fn vault_");
-        assert_eq!(names.len(), 21);
+        assert_eq!(names.len(), 18);
         assert_eq!(names, declared(include_str!("ffi.rs"), "fn vault_"));
     }
 
@@ -1097,9 +1088,9 @@ mod tests {
 
     #[test]
     fn every_refusal_has_its_sentence() {
-        for code in 1..=24 {
+        for code in 1..=23 {
             assert!(!Error::new(code).meaning.contains("don't name"));
         }
-        assert!(Error::new(25).meaning.contains("don't name"));
+        assert!(Error::new(24).meaning.contains("don't name"));
     }
 }

@@ -15,10 +15,6 @@ pub unsafe fn vault_check_index(index: *const u8, index_length: usize) -> u8 {
     calls::check_index(from_raw_parts(index, index_length))
 }
 
-pub unsafe fn vault_check_recipes(index: *const u8, index_length: usize, recipes: *const u8, recipes_length: usize) -> u8 {
-    calls::check_recipes(from_raw_parts(index, index_length), from_raw_parts(recipes, recipes_length))
-}
-
 pub unsafe fn vault_scan_size(
     list: *const u8,
     list_length: usize,
@@ -81,35 +77,6 @@ pub unsafe fn vault_join(
     let (index, recipes) = (from_raw_parts(index, index_length), from_raw_parts(recipes, recipes_length));
     let (key, out) = (from_raw_parts(key, key_length), from_raw_parts_mut(out, out_length));
     lent([client0, client1, client2, client3], |tally| calls::join(index, recipes, key, out, &mut *count, tally))
-}
-
-pub unsafe fn vault_count_files(
-    index: *const u8,
-    index_length: usize,
-    recipes: *const u8,
-    recipes_length: usize,
-    first: usize,
-    many: usize,
-    count: *mut u64,
-) -> u8 {
-    let (index, recipes) = (from_raw_parts(index, index_length), from_raw_parts(recipes, recipes_length));
-    calls::count_files(index, recipes, (first, many), &mut *count)
-}
-
-#[allow(clippy::too_many_arguments)]
-pub unsafe fn vault_list_files(
-    index: *const u8,
-    index_length: usize,
-    recipes: *const u8,
-    recipes_length: usize,
-    first: usize,
-    many: usize,
-    out: *mut u8,
-    out_length: usize,
-    count: *mut u64,
-) -> u8 {
-    let (index, recipes) = (from_raw_parts(index, index_length), from_raw_parts(recipes, recipes_length));
-    calls::list_files(index, recipes, (first, many), from_raw_parts_mut(out, out_length), &mut *count)
 }
 
 pub unsafe fn vault_query_count(

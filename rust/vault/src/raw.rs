@@ -17,10 +17,6 @@ pub fn check_index(index: &[u8]) -> u8 {
     unsafe { ffi::vault_check_index(index.as_ptr(), index.len()) }
 }
 
-pub fn check_recipes(index: &[u8], recipes: &[u8]) -> u8 {
-    unsafe { ffi::vault_check_recipes(index.as_ptr(), index.len(), recipes.as_ptr(), recipes.len()) }
-}
-
 pub fn scan_size(list: &[u8], store: &[u8], length: &mut u64) -> u8 {
     unsafe { ffi::vault_scan_size(list.as_ptr(), list.len(), store.as_ptr(), store.len(), length) }
 }
@@ -55,17 +51,6 @@ pub fn join(index: &[u8], recipes: &[u8], key: &[u8], out: &mut [u8], count: &mu
             client3,
         )
     }
-}
-
-/// The files' first number, and how many they are.
-pub fn count_files(index: &[u8], recipes: &[u8], (first, many): (usize, usize), count: &mut u64) -> u8 {
-    let (i, n, r, m) = (index.as_ptr(), index.len(), recipes.as_ptr(), recipes.len());
-    unsafe { ffi::vault_count_files(i, n, r, m, first, many, count) }
-}
-
-pub fn list_files(index: &[u8], recipes: &[u8], (first, many): (usize, usize), out: &mut [u8], count: &mut u64) -> u8 {
-    let (i, n, r, m) = (index.as_ptr(), index.len(), recipes.as_ptr(), recipes.len());
-    unsafe { ffi::vault_list_files(i, n, r, m, first, many, out.as_mut_ptr(), out.len(), count) }
 }
 
 pub fn query_count(index: &[u8], recipes: &[u8], query: &[u8], lines: &mut u64) -> u8 {

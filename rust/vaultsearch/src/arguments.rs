@@ -2,7 +2,6 @@
 
 use crate::bill::Client;
 use crate::failure::Failure;
-use crate::listing::Asked;
 use crate::text;
 use std::ffi::OsString;
 use std::path::PathBuf;
@@ -25,10 +24,6 @@ pub struct Arguments {
     /// Who the keywords are for, and the file of the running counts.
     pub clients: Vec<Client>,
     pub tally: Option<PathBuf>,
-    /// Which files to list.
-    pub files: Option<Asked>,
-    /// A list of more bytes is not held in memory.
-    pub memory: Option<usize>,
     pub output: Option<PathBuf>,
     pub format: Option<String>,
     pub cut: Option<String>,
@@ -45,13 +40,10 @@ pub struct Arguments {
 const USED: [(&str, &[&str]); 8] = [
     (
         "search",
-        &[
-            "--word", "--list", "--words", "--fold", "--client", "--tally", "--format", "--names", "--count", "--memory", "-o",
-            "--quiet",
-        ],
+        &["--word", "--list", "--words", "--fold", "--client", "--tally", "--format", "--names", "--count", "-o", "--quiet"],
     ),
     ("scan", &["--word", "--list", "--words", "--fold", "-o", "--quiet"]),
-    ("join", &["--file", "--client", "--tally", "--format", "--names", "--count", "--memory", "-o", "--quiet"]),
+    ("join", &["--client", "--tally", "--format", "--names", "--count", "-o", "--quiet"]),
     ("query", &["--order", "--then", "--format", "--names", "--count", "-o", "--quiet"]),
     ("check", &["--store", "--index", "--recipes", "--word", "--list", "--words", "--fold", "--entries", "--quiet"]),
     ("lookup", &["--store", "--index", "-o", "--quiet"]),
@@ -110,8 +102,6 @@ impl Arguments {
                 self.clients.push(Client::of(value.as_encoded_bytes()).ok_or_else(wrong)?);
             }
             "--tally" => self.tally = Some(value()?.into()),
-            "--file" => self.files = Some(files(option, &value()?)?),
-            "--memory" => self.memory = Some(number(option, &value()?)?),
             "-o" => self.output = Some(value()?.into()),
             "--format" => self.format = Some(shown(&value()?)),
             "--cut" => self.cut = Some(shown(&value()?)),
@@ -170,15 +160,6 @@ impl Arguments {
         if self.format.as_deref() == Some("raw") && !self.clients.is_empty() && self.tally.is_none() {
             return wrong("the format raw has no place for the clients' counts: give --tally FILE too");
         }
-        if self.files.is_some() && !self.clients.is_empty() {
-            return wrong("a bill is for the list of all files: leave --client out, or --file");
-        }
-        if self.memory.is_some() && !self.clients.is_empty() {
-            return wrong("with --client the list is made in one go: leave --memory out");
-        }
-        if self.memory.is_some() && self.count {
-            return wrong("--count makes no list: leave --memory out");
-        }
         if self.entries && self.store.is_none() && self.index.is_none() {
             return wrong("--entries lists the chunks of --store FILE or --index FILE");
         }
@@ -198,20 +179,6 @@ fn first_name(option: &str) -> Option<&'static str> {
 fn number(option: &str, value: &OsString) -> Result<usize, Failure> {
     let value = shown(value);
     value.parse().map_err(|_| Failure::Usage(format!("{option} wants a number, not {value}")))
-}
-
-/// A file's number, or the first and the last of several. One that is too large for any file is the library's to refuse.
-fn files(option: &str, value: &OsString) -> Result<Asked, Failure> {
-    let value = shown(value);
-    let wrong = || Failure::Usage(format!("{option} wants a file's number, or the first and the last one as 10-19, not {value}"));
-    let number = |digits: &str| {
-        let all = !digits.is_empty() && digits.bytes().all(|b| b.is_ascii_digit());
-        all.then(|| digits.parse().unwrap_or(usize::MAX)).ok_or_else(wrong)
-    };
-    let (first, last) = value.split_once('-').unwrap_or((&value, &value));
-    let (first, last): (usize, usize) = (number(first)?, number(last)?);
-    let more = last.checked_sub(first).ok_or_else(wrong)?;
-    Ok((first, more.saturating_add(1)))
 }
 
 /// Keyword numbers with commas between; none at all in an empty word. How many and which there may be, the library tells.

@@ -5,12 +5,11 @@ use crate::bill::Bill;
 use crate::failure::Failure;
 use crate::input::{self, Kind};
 use crate::lines::{self, Answer};
-use crate::listing::{self, Listing, Stop};
 use crate::progress::{size, Progress};
-use crate::rows::{self, Format, Labels, Rows};
+use crate::rows::{self, Format, Labels};
 use crate::{identity, inspect, make_vault, names, output, text};
 use std::ffi::OsString;
-use std::io::{self, Write};
+use std::io::Write;
 use std::path::{Path, PathBuf};
 
 pub type Done = Result<(), Failure>;
@@ -63,7 +62,6 @@ fn recipes_refused(whole: &str, recipes: &Path) -> impl FnOnce(vault::Error) -> 
         18 => Failure::Refused("the list".into(), error),
         21 => Failure::Refused("the query".into(), error),
         22 | 23 => Failure::Refused("the tally".into(), error),
-        24 => Failure::Refused("the file number".into(), error),
         _ => Failure::Refused(whole, error),
     }
 }
@@ -76,11 +74,6 @@ fn scan_refused(store: &Path) -> impl FnOnce(vault::Error) -> Failure {
         9 => Failure::Refused("the index".into(), error),
         _ => Failure::Refused(store, error),
     }
-}
-
-/// What is being joined.
-fn joining(index: &[u8], recipes: &[u8]) -> String {
-    format!("joining {} of index with {} of recipes", size(index.len() as u64), size(recipes.len() as u64))
 }
 
 /// Keywords of a text: a line each, LF or CR LF; a byte-order mark and empty lines are not keywords.
@@ -98,22 +91,12 @@ struct Recipes {
 }
 
 impl Recipes {
-    /// What a list or lines of all files are written with.
+    /// What a list or lines are written with: keywords of a good index, names of files.
     fn labels(self, index: &[u8]) -> Labels {
-        let files = self.files();
-        labels(index, self.names, files)
+        let keywords = vault::keywords_of(vault::keywords_in_index(index)).into_iter().map(text::ascii).collect();
+        let files = input::file_count(&self.bytes).unwrap_or(0) as usize;
+        Labels { keywords, names: self.names, files }
     }
-
-    /// The number of files, of good recipes.
-    fn files(&self) -> usize {
-        input::file_count(&self.bytes).unwrap_or(0) as usize
-    }
-}
-
-/// Keywords of a good index, names of all files, and how many files are listed.
-fn labels(index: &[u8], names: Vec<Vec<u8>>, files: usize) -> Labels {
-    let keywords = vault::keywords_of(vault::keywords_in_index(index)).into_iter().map(text::ascii).collect();
-    Labels { keywords, names, files }
 }
 
 /// The number of a keyword in a good list, which may have more behind it: they compare as the list's fold flag says.
@@ -219,72 +202,31 @@ impl Session<'_> {
         (!a.clients.is_empty()).then(bill).transpose()
     }
 
-    /// Joins and writes the list of all files, with the bill behind it.
-    fn billed(&self, index: &[u8], index_name: &str, recipes: Recipes, format: Format, mut bill: Bill) -> Done {
-        let told = recipes_refused(index_name, &recipes.path);
-        let step = joining(index, &recipes.bytes);
-        let joined = self.progress.step(&step, 0, || vault::join_bytes(index, &recipes.bytes, &bill.key, &mut bill.tally));
+    /// Joins and writes the list, with the bill behind it, or only counts.
+    fn joined(&self, index: &[u8], index_name: &str, recipes: Recipes, format: Format, mut bill: Option<Bill>) -> Done {
+        let output = self.arguments.output.as_deref();
+        let (bytes, told) = (&recipes.bytes, recipes_refused(index_name, &recipes.path));
+        let step = format!("joining {} of index with {} of recipes", size(index.len() as u64), size(bytes.len() as u64));
+        if self.arguments.count {
+            let count = self.progress.step(&step, 0, || vault::count(index, bytes)).map_err(told)?;
+            return output::write(output, |out| writeln!(out, "{count}"));
+        }
+        let joined = self.progress.step(&step, 0, || match &mut bill {
+            Some(bill) => vault::join_bytes(index, bytes, &bill.key, &mut bill.tally),
+            None => vault::unbilled::join_bytes(index, bytes),
+        });
         let list = joined.map_err(unmade("the list", told))?;
         let labels = recipes.labels(index);
         let fill = |out: &mut dyn Write| {
             rows::write(out, format, &list, &labels)?;
-            bill.write(out, format)
+            bill.as_ref().map_or(Ok(()), |bill| bill.write(out, format))
         };
-        let stored = bill.stored(self.progress)?;
+        let stored = bill.as_ref().map_or(Ok(None), |bill| bill.stored(self.progress))?;
         let step = format!("writing {} occurrences", list.len() / vault::ROW);
-        let output = self.arguments.output.as_deref();
         self.progress.step(&step, 0, || match &stored {
             Some((path, text)) => output::write_with(output, fill, (path, text)),
             None => output::write(output, fill),
         })
-    }
-
-    /// Lists all files or those asked for, or only counts. The count is asked for first, so that no byte is written before a refusal; by it a long list is
-    /// not held in memory, and written range by range of files.
-    fn listed(&self, index: &[u8], index_name: &str, recipes: Recipes, format: Format) -> Done {
-        let (a, output, files) = (self.arguments, self.arguments.output.as_deref(), recipes.files());
-        let Recipes { path, bytes, names } = recipes;
-        let told = || recipes_refused(index_name, &path);
-        let listing = Listing { index, recipes: &bytes, asked: a.files, files };
-        let step = joining(index, &bytes);
-        let count = self.progress.step(&step, 0, || listing.count()).map_err(told())?;
-        if a.count {
-            return output::write(output, |out| writeln!(out, "{count}"));
-        }
-        let most = a.memory.map_or(listing::MOST, |most| most as u64);
-        let held = count.saturating_mul(vault::ROW as u64) <= most;
-        let whole = held.then(|| self.progress.step(&step, 0, || listing.whole(count))).transpose();
-        let whole = whole.map_err(unmade("the list", told()))?;
-        let labels = labels(index, names, listing.many());
-        let mut failure = None;
-        let fill = |out: &mut dyn Write| {
-            let mut rows = Rows::new(format, &labels, count);
-            rows.begin(out)?;
-            match &whole {
-                Some(list) => rows.part(out, list)?,
-                None => listing.parts(count, most, |list| rows.part(out, list)).map_err(|stop| match stop {
-                    Stop::Write(error) => error,
-                    Stop::Unmade(why) => {
-                        failure = Some(why);
-                        io::Error::other("the list can't be made")
-                    }
-                })?,
-            }
-            rows.end(out)
-        };
-        let written = self.progress.step(&format!("writing {count} occurrences"), 0, || output::write(output, fill));
-        match failure {
-            Some(why) => Err(unmade("the list", told())(why)),
-            None => written,
-        }
-    }
-
-    /// Joins and writes the list, with the bill behind it if there is one, or only counts.
-    fn joined(&self, index: &[u8], index_name: &str, recipes: Recipes, format: Format, bill: Option<Bill>) -> Done {
-        match bill {
-            Some(bill) => self.billed(index, index_name, recipes, format, bill),
-            None => self.listed(index, index_name, recipes, format),
-        }
     }
 
     fn search(&self) -> Done {

@@ -84,8 +84,9 @@ impl Session<'_> {
             return Ok(());
         }
         let recipes = self.read(path, &input::RECIPES)?;
-        let verdict = self.progress.step("checking the recipes", 0, || vault::check_recipes(&index, &recipes));
-        report.tell(text::path(path), verdict.map(|()| about_recipes(&recipes)));
+        let verdict = self.progress.step("checking the recipes", 0, || vault::count(&index, &recipes));
+        let about = verdict.map(|count| format!("{} files, {count} occurrences", count_at(&recipes, 0)));
+        report.tell(text::path(path), about);
         Ok(())
     }
 
@@ -141,14 +142,6 @@ fn count_at(bytes: &[u8], at: usize) -> u32 {
 /// The number of chunks of a good store or index.
 pub fn chunk_count(bytes: &[u8]) -> u32 {
     count_at(bytes, 4)
-}
-
-/// What is to be said of good recipes: their files, and how many chunks these name, each as often as it is named.
-fn about_recipes(recipes: &[u8]) -> String {
-    let files = count_at(recipes, 0);
-    let places = recipes.len().saturating_sub(4 + 4 * files as usize) / 20;
-    let s = |one: bool| if one { "" } else { "s" };
-    format!("{files} file{} of {places} chunk{}", s(files == 1), s(places == 1))
 }
 
 /// The length of a good index's keyword list.

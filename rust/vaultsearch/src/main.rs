@@ -9,7 +9,6 @@ mod identity;
 mod input;
 mod inspect;
 mod lines;
-mod listing;
 mod make_vault;
 mod names;
 mod output;

@@ -89,73 +89,34 @@ impl Labels {
     }
 }
 
-/// A list that is written in parts of whole files, which are one after the other the whole list.
-pub struct Rows<'a> {
-    format: Format,
-    labels: &'a Labels,
-    /// The occurrences of the whole list, and the files of which some were written.
-    count: u64,
-    files: usize,
-}
-
-impl Rows<'_> {
-    pub fn new(format: Format, labels: &Labels, count: u64) -> Rows<'_> {
-        Rows { format, labels, count, files: 0 }
-    }
-
-    /// What stands before the list.
-    pub fn begin(&self, out: &mut dyn Write) -> Result<()> {
-        match self.format {
-            Format::Tsv => writeln!(out, "file\toffset\tkeyword\ttext\tname"),
-            // As document 01's program prints it.
-            Format::Plain => writeln!(out, "finds {}", self.count),
-            _ => Ok(()),
-        }
-    }
-
-    /// The next files' lists.
-    pub fn part(&mut self, out: &mut dyn Write, list: &[u8]) -> Result<()> {
-        match self.format {
-            Format::Human => self.human(out, list),
-            Format::Tsv => tsv(out, list, self.labels),
-            Format::JsonLines => json_lines(out, list, self.labels),
-            Format::Plain => plain(out, list),
-            Format::Raw => out.write_all(list),
-        }
-    }
-
-    fn human(&mut self, out: &mut dyn Write, list: &[u8]) -> Result<()> {
-        let labels = self.labels;
-        labels.each(list, text::line, |found, name, first| {
-            if first {
-                self.files += 1;
-                let gap = if labels.names.is_empty() { "" } else { "  " };
-                writeln!(out, "file {}{gap}{name}", found.file)?;
-            }
-            writeln!(out, "  {:>10}  {}", found.offset, labels.keyword(found.keyword))
-        })
-    }
-
-    /// What stands behind the list.
-    pub fn end(&self, out: &mut dyn Write) -> Result<()> {
-        if self.format != Format::Human {
-            return Ok(());
-        }
-        let (count, found, all) = (self.count, self.files, self.labels.files);
-        let s = |one: bool| if one { "" } else { "s" };
-        writeln!(out, "{count} occurrence{} in {found} of {all} file{}", s(count == 1), s(all == 1))
-    }
-}
-
 /// The whole list.
 pub fn write(out: &mut dyn Write, format: Format, list: &[u8], labels: &Labels) -> Result<()> {
-    let mut rows = Rows::new(format, labels, (list.len() / vault::ROW) as u64);
-    rows.begin(out)?;
-    rows.part(out, list)?;
-    rows.end(out)
+    match format {
+        Format::Human => human(out, list, labels),
+        Format::Tsv => tsv(out, list, labels),
+        Format::JsonLines => json_lines(out, list, labels),
+        Format::Plain => plain(out, list),
+        Format::Raw => out.write_all(list),
+    }
+}
+
+fn human(out: &mut dyn Write, list: &[u8], labels: &Labels) -> Result<()> {
+    let mut files = 0;
+    labels.each(list, text::line, |found, name, first| {
+        if first {
+            files += 1;
+            let gap = if labels.names.is_empty() { "" } else { "  " };
+            writeln!(out, "file {}{gap}{name}", found.file)?;
+        }
+        writeln!(out, "  {:>10}  {}", found.offset, labels.keyword(found.keyword))
+    })?;
+    let count = list.len() / vault::ROW;
+    let s = |n: usize| if n == 1 { "" } else { "s" };
+    writeln!(out, "{count} occurrence{} in {files} of {} file{}", s(count), labels.files, s(labels.files))
 }
 
 fn tsv(out: &mut dyn Write, list: &[u8], labels: &Labels) -> Result<()> {
+    writeln!(out, "file\toffset\tkeyword\ttext\tname")?;
     labels.each(list, text::line, |found, name, _| {
         writeln!(out, "{}\t{}\t{}\t{}\t{name}", found.file, found.offset, found.keyword, labels.keyword(found.keyword))
     })
@@ -170,7 +131,9 @@ fn json_lines(out: &mut dyn Write, list: &[u8], labels: &Labels) -> Result<()> {
     })
 }
 
+/// As document 01's program prints it.
 fn plain(out: &mut dyn Write, list: &[u8]) -> Result<()> {
+    writeln!(out, "finds {}", list.len() / vault::ROW)?;
     for found in vault::occurrences(list) {
         writeln!(out, "{} {} {}", found.file, found.offset, found.keyword)?;
     }
@@ -211,25 +174,6 @@ mod tests {
         );
         let human = written(Format::Human, &[]);
         assert_eq!(human, "file 0\n           1  AB\\\\\"A\n           3  AB\\\\\"A\nfile 1\n         256  A\\xff\n3 occurrences in 2 of 3 files\n");
-    }
-
-    /// Part by part, with parts that have nothing, each format is what it is in one go.
-    #[test]
-    fn lists_in_parts() {
-        let list: Vec<u8> = (0..7u8).flat_map(|k| [k / 3, 0, 0, 0, k, 0, 0, 0, k % 2]).collect();
-        let names = vec![b"a".to_vec(), b"b".to_vec(), b"c".to_vec()];
-        let labels = Labels { keywords: vec!["x".into(), "y".into()], names, files: 3 };
-        for format in [Format::Human, Format::Tsv, Format::JsonLines, Format::Plain, Format::Raw] {
-            let (mut whole, mut out) = (Vec::new(), Vec::new());
-            write(&mut whole, format, &list, &labels).unwrap();
-            let mut rows = Rows::new(format, &labels, 7);
-            rows.begin(&mut out).unwrap();
-            for part in [0..0, 0..27, 27..27, 27..54, 54..63, 63..63] {
-                rows.part(&mut out, &list[part]).unwrap();
-            }
-            rows.end(&mut out).unwrap();
-            assert_eq!(out, whole);
-        }
     }
 
     #[test]

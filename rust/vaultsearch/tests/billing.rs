@@ -271,7 +271,7 @@ fn the_help_tells_of_clients() {
     for said in [
         "--client NAME=TEXT",
         "--tally FILE",
-        "1 to 24 refused",
+        "1 to 23 refused",
         "23 is a tally in which a client's count would pass 18,446,744,073,709,551,615",
         "A run that is refused or fails adds nothing",
     ] {

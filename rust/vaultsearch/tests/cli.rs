@@ -120,7 +120,7 @@ fn an_index_is_kept_and_joined() {
     assert_eq!(folder.read("index.bin")[..4], *b"DM3\n");
     assert_eq!(folder.read("index.bin")[113..121], [0, 1, 2, 0, 0, 0, 0, 0]);
     folder.prints("join index.bin recipes.bin --format plain", "finds 3\n0 1 0\n0 3 0\n1 0 1\n");
-    let good = "store.bin: good, 3 chunks, 8 bytes in them, 0 bytes in holes\nindex.bin: good, 3 chunks, mark DM3\nrecipes.bin: good, 3 files of 4 chunks\n";
+    let good = "store.bin: good, 3 chunks, 8 bytes in them, 0 bytes in holes\nindex.bin: good, 3 chunks, mark DM3\nrecipes.bin: good, 3 files, 3 occurrences\n";
     folder.prints("check --store store.bin --index index.bin --recipes recipes.bin", good);
     let key = "02".repeat(20);
     folder.prints(&format!("lookup --store store.bin {key}"), "chunk of 4 bytes at 95\nABAX\n");
@@ -208,7 +208,7 @@ fn an_index_under_the_old_mark() {
     folder.write("old.bin", &old_index());
     folder.prints("join old.bin recipes.bin --format plain", "finds 3\n0 1 0\n0 3 0\n1 0 1\n");
     folder.prints("join old.bin recipes.bin --count", "3\n");
-    let good = "old.bin: good, 3 chunks, mark DM1 (older; a scan writes DM3)\nrecipes.bin: good, 3 files of 4 chunks\n";
+    let good = "old.bin: good, 3 chunks, mark DM1 (older; a scan writes DM3)\nrecipes.bin: good, 3 files, 3 occurrences\n";
     folder.prints("check --index old.bin --recipes recipes.bin", good);
     let (_, entries, _) = folder.run("check --index old.bin --entries");
     assert!(entries.ends_with(&format!("{}\t130\t6\n", "03".repeat(20))), "{entries}");
@@ -341,7 +341,7 @@ fn a_store_that_ends_beyond_32_bits() {
     folder.write("beyond.bin", &directory(933_879));
     folder.refuses("check --store beyond.bin", 7, "the last chunk ends beyond the store");
     let (_, help, _) = folder.run("--help");
-    assert!(help.contains("1 to 24  refused") && help.contains("part the backup into several stores"));
+    assert!(help.contains("1 to 23  refused") && help.contains("part the backup into several stores"));
 }
 
 #[test]

@@ -5,19 +5,23 @@ use Rattle.asking.proofs.Queries.{asked-none, asked-some}
 use Rattle.asking.proofs.askable.Statement.{statement}
 use Rattle.asking.proofs.askable.Tie as tie
 
-may-number-requires : tie.Need-may-number-requires
+may-number-requires : tie.Need-may_number-requires
 may-number-requires c κs = tt
 
-slice-aggregate-result : tie.Need-slice-aggregate-result
+slice-aggregate-result : tie.Need-slice_bounds-result-end
 slice-aggregate-result c = refl
 
-returns : tie.Need-returns
+returns : tie.Need-returns-then-not-may_number
 returns c =
-    let t = c.before in
-    asked-none t.before.before.before.args.query.now (sym t.before.may-number.ensures ∙ not-true _ t.if1.true)
+    let t = c in
+    asked-none t.args.query.now (sym t.may_number.ensures ∙ not-true _ t.if-not-may_number.true-raw)
 
-returns-2 : tie.Need-returns-2
-returns-2 c = asked-some c.before.before.before.args.query.now (sym c.before.may-number.ensures ∙ not-false _ c.if1.false)
+returns-2 : tie.Need-returns
+returns-2 c = asked-some c.args.query.now (sym c.may_number.ensures ∙ not-false _ c.if-not-may_number.false-raw)
 
-pub askable-spec : {M : Type 1} → statement M
-askable-spec = tie.close (tie.spec may-number-requires slice-aggregate-result returns returns-2)
+pub askable_spec : {M : Type 1} → statement M
+askable_spec = tie.close (tie.spec
+    may-number-requires
+    slice-aggregate-result
+    returns
+    returns-2)

@@ -4,23 +4,27 @@ use Rattle.asking.proofs.Queries.{code-planned, code-none, code-wrong}
 use Rattle.asking.proofs.query_code.Statement.{statement}
 use Rattle.asking.proofs.query_code.Tie as tie
 
-returns : tie.Need-returns
-returns c = let a = c.before.before.args in code-planned a.planned a.keywords a.query.now c.if1.true
+returns : tie.Need-returns-then-planned-ne0
+returns c = let a = c.args in code-planned a.planned a.keywords a.query.now c.if-planned-ne0.true
 
-is-query-requires : tie.Need-is-query-requires
+is-query-requires : tie.Need-is_query-requires
 is-query-requires c κs = tt
 
-returns-2 : tie.Need-returns-2
+returns-2 : tie.Need-returns-then-is_query
 returns-2 c =
-    let e = c.before.before in
-    let a = e.before.before.args in
-    code-none a.planned a.keywords a.query.now e.if1.false (sym c.before.is-query.ensures ∙ c.if2.true)
+    let e = c in
+    let a = e.args in
+    code-none a.planned a.keywords a.query.now e.if-planned-ne0.false (sym c.is_query.ensures ∙ c.if-is_query.true)
 
-returns-3 : tie.Need-returns-3
+returns-3 : tie.Need-returns
 returns-3 c =
-    let e = c.before.before in
-    let a = e.before.before.args in
-    code-wrong a.planned a.keywords a.query.now e.if1.false (sym c.before.is-query.ensures ∙ c.if2.false)
+    let e = c in
+    let a = e.args in
+    code-wrong a.planned a.keywords a.query.now e.if-planned-ne0.false (sym c.is_query.ensures ∙ c.if-is_query.false)
 
-pub query-code-spec : {M : Type 1} → statement M
-query-code-spec = tie.close (tie.spec returns is-query-requires returns-2 returns-3)
+pub query_code_spec : {M : Type 1} → statement M
+query_code_spec = tie.close (tie.spec
+    returns
+    is-query-requires
+    returns-2
+    returns-3)

@@ -13,10 +13,10 @@ use borrow.Author.Rules.{rules}
 use Rattle.field.proofs.copy.Statement.{statement}
 use Rattle.field.proofs.copy.Tie as tie
 
-abbrev invariant-loop : tie.invariant-loop
+abbrev invariant-loop : tie.invariant-loop-i
 invariant-loop out₀ at s i₀ out i = (i ≤ length s) × (length out ≡ length out₀) × (splice out (at + i) (drop i s) ≡ splice out₀ at s)
 
-abbrev decreases-loop : tie.decreases-loop
+abbrev decreases-loop : tie.decreases-loop-i
 decreases-loop out₀ at s i₀ out i = length s - i
 
 -- a turn's store is the first of the bytes that are left
@@ -28,45 +28,43 @@ turn l s at i h m =
 ended : (l s : List ℕ) (at i : ℕ) → length s ≤ i → l ≡ splice l (at + i) (drop i s)
 ended l s at i h = rw (drop_of_length-le s h) (sym (splice-nil l (at + i)))
 
-loop-holds : tie.Need-loop-init invariant-loop decreases-loop
+loop-holds : tie.Need-loop-i-init invariant-loop decreases-loop
 loop-holds c = (omega arith, refl, rw add-zero)
 
-shared-slice-read-out : tie.Need-shared-slice-read-out invariant-loop decreases-loop
+shared-slice-read-out : tie.Need-bounds-bytes-i invariant-loop decreases-loop
 shared-slice-read-out c = search rules
 
-add-out : tie.Need-overflow-add-out invariant-loop decreases-loop
+add-out : tie.Need-overflow_add-out invariant-loop decreases-loop
 add-out c = search rules
 
-slice-write-out : tie.Need-slice-write-out invariant-loop decreases-loop
+slice-write-out : tie.Need-bounds-out-at invariant-loop decreases-loop
 slice-write-out c = search rules
 
-add-i : tie.Need-overflow-add-i invariant-loop decreases-loop
+add-i : tie.Need-overflow_add-i invariant-loop decreases-loop
 add-i c = search rules
 
-loop-less : tie.Need-loop-smaller invariant-loop decreases-loop
+loop-less : tie.Need-loop-i-smaller invariant-loop decreases-loop
 loop-less c = search rules
 
-loop-again : tie.Need-loop-preserved invariant-loop decreases-loop
+loop-again : tie.Need-loop-i-preserved invariant-loop decreases-loop
 loop-again c =
-    let at = c.before.before in
-    let a = at.before.args in (
+    let at = c in
+    let a = at.args in (
       omega arith,
-      length-set at.loop.out (a.at + at.loop.i) (get_or a.bytes.now at.loop.i 0) ∙ at.loop.invariant.1,
-      turn at.loop.out a.bytes.now a.at at.loop.i c.before.loop-test.true (omega arith) ∙ at.loop.invariant.2,
+      length-set at.loop-i.out (a.at + at.loop-i.i) (get_or a.bytes.now at.loop-i.i 0) ∙ at.loop-i.invariant.1,
+      turn at.loop-i.out a.bytes.now a.at at.loop-i.i c.loop-i-test.true (omega arith) ∙ at.loop-i.invariant.2,
     )
 
-same_length : tie.Need-same-length invariant-loop decreases-loop
+same_length : tie.Need-shape_of-out invariant-loop decreases-loop
 same_length c = search rules
 
 returns : tie.Need-returns invariant-loop decreases-loop
 returns c =
-    let a = c.before.before.args in
-    ended c.before.loop.out a.bytes.now a.at c.before.loop.i c.loop-test.false ∙ c.before.loop.invariant.2
+    let a = c.args in
+    ended c.loop-i.out a.bytes.now a.at c.loop-i.i c.loop-i-test.false ∙ c.loop-i.invariant.2
 
 pub copy_spec : {M : Type 1} → statement M
-copy_spec =
-    tie.close
-    (tie.spec
+copy_spec = tie.close (tie.spec
     invariant-loop
     decreases-loop
     loop-holds

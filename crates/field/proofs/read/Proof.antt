@@ -12,10 +12,10 @@ use borrow.Author.Rules.{rules}
 use Rattle.field.proofs.read.Statement.{statement}
 use Rattle.field.proofs.read.Tie as tie
 
-abbrev invariant-loop : tie.invariant-loop
+abbrev invariant-loop : tie.invariant-loop-k
 invariant-loop bytes at width v₀ k₀ v k = (k ≤ width) × (width ≤ 8) × (v ≡ le_value (drop k (take width (drop at bytes)))) × (v < 256 ^ (width - k))
 
-abbrev decreases-loop : tie.decreases-loop
+abbrev decreases-loop : tie.decreases-loop-k
 decreases-loop bytes at width v₀ k₀ v k = k
 
 -- the bytes of the field from k on are one byte and those from k + 1 on
@@ -40,67 +40,65 @@ unfolding le_value
 none w l = rw (drop_of_length-le (take w l) {i = w} (simp length-take (min-le_left w (length l))))
 
 -- in a turn, after the byte was read
-fits : (c : tie.After-shared-slice-known invariant-loop decreases-loop)
-    → c.before.before.loop.v * 256 + get_or c.before.before.before.args.bytes.now (c.before.before.before.args.at + (c.before.before.loop.k - 1)) 0
-    < 256 ^ (c.before.before.before.args.width - (c.before.before.loop.k - 1))
+fits : (c : tie.After-shared_slice_known-1 invariant-loop decreases-loop)
+    → c.loop-k.v * 256 + get_or c.args.bytes.now (c.args.at + (c.loop-k.k - 1)) 0
+    < 256 ^ (c.args.width - (c.loop-k.k - 1))
 fits c =
-    let at = c.before.before in
-    let start = at.before.args in
-    next start.width at.loop.k at.loop.v (get_or start.bytes.now (start.at + (at.loop.k - 1)) 0) (omega arith) at.loop.invariant.0
-    (omega (arith, c.shared-slice-known.given (start.at + (at.loop.k - 1)))) at.loop.invariant.3
+    let at = c in
+    let start = at.args in
+    next start.width at.loop-k.k at.loop-k.v (get_or start.bytes.now (start.at + (at.loop-k.k - 1)) 0) (omega arith) at.loop-k.invariant.0
+    (omega (arith, c.shared_slice_known-1.given (start.at + (at.loop-k.k - 1)))) at.loop-k.invariant.3
 
-loop-holds : tie.Need-loop-init invariant-loop decreases-loop
+loop-holds : tie.Need-loop-k-init invariant-loop decreases-loop
 loop-holds c =
     (omega arith, omega arith, sym (none c.args.width (drop c.args.at c.args.bytes.now)), rw (sub_self c.args.width) (omega arith))
 
-sub-k : tie.Need-overflow-sub-k invariant-loop decreases-loop
+sub-k : tie.Need-overflow_sub-k invariant-loop decreases-loop
 sub-k c = search rules
 
-mul-v : tie.Need-overflow-mul-v invariant-loop decreases-loop
+mul-v : tie.Need-overflow_mul-v invariant-loop decreases-loop
 mul-v c =
-    let at = c.before in
-    let w = at.before.args.width in
-    omega (arith, small w (at.loop.k - 1) (at.loop.v * 256 + 0) at.loop.invariant.1 (next w at.loop.k at.loop.v 0 (omega arith) at.loop.invariant.0 (omega arith) at.loop.invariant.3))
+    let at = c in
+    let w = at.args.width in
+    omega (arith, small w (at.loop-k.k - 1) (at.loop-k.v * 256 + 0) at.loop-k.invariant.1 (next w at.loop-k.k at.loop-k.v 0 (omega arith) at.loop-k.invariant.0 (omega arith) at.loop-k.invariant.3))
 
-add-v : tie.Need-overflow-add-v invariant-loop decreases-loop
+add-v : tie.Need-overflow_add-v invariant-loop decreases-loop
 add-v c = omega arith
 
-shared-slice-read-v : tie.Need-shared-slice-read-v invariant-loop decreases-loop
+shared-slice-read-v : tie.Need-bounds-bytes-at invariant-loop decreases-loop
 shared-slice-read-v c = search rules
 
-cast-v : tie.Need-overflow-cast-v invariant-loop decreases-loop
-cast-v c = omega (arith, c.shared-slice-known.given (c.before.before.before.args.at + (c.before.before.loop.k - 1)))
+cast-v : tie.Need-overflow_cast-v invariant-loop decreases-loop
+cast-v c = omega (arith, c.shared_slice_known-1.given (c.args.at + (c.loop-k.k - 1)))
 
-add-v-2 : tie.Need-overflow-add-v-2 invariant-loop decreases-loop
-add-v-2 c = record { fits = small c.before.before.before.args.width (c.before.before.loop.k - 1) _ c.before.before.loop.invariant.1 (fits c) }
+add-v-2 : tie.Need-overflow_add-v-in-loop-k invariant-loop decreases-loop
+add-v-2 c = record { fits = small c.args.width (c.loop-k.k - 1) _ c.loop-k.invariant.1 (fits c) }
 
-loop-less : tie.Need-loop-smaller invariant-loop decreases-loop
+loop-less : tie.Need-loop-k-smaller invariant-loop decreases-loop
 loop-less c = search rules
 
-loop-again : tie.Need-loop-preserved invariant-loop decreases-loop
+loop-again : tie.Need-loop-k-preserved invariant-loop decreases-loop
 loop-again c =
-    let at = c.before.before in
-    let start = at.before.args in
-    let e : at.loop.k ≡ suc (at.loop.k - 1) = omega arith in
+    let at = c in
+    let start = at.args in
+    let e : at.loop-k.k ≡ suc (at.loop-k.k - 1) = omega arith in
     let f = take start.width (drop start.at start.bytes.now) in (
       omega arith,
-      at.loop.invariant.1,
-      ap (λ (x : ℕ). x * 256 + get_or start.bytes.now (start.at + (at.loop.k - 1)) 0) (at.loop.invariant.2 ∙ ap (λ (k : ℕ). le_value (drop k f)) e)
-          ∙ turn start.bytes.now start.at start.width (at.loop.k - 1) (omega arith) at.before.requires.1,
+      at.loop-k.invariant.1,
+      ap (λ (x : ℕ). x * 256 + get_or start.bytes.now (start.at + (at.loop-k.k - 1)) 0) (at.loop-k.invariant.2 ∙ ap (λ (k : ℕ). le_value (drop k f)) e)
+          ∙ turn start.bytes.now start.at start.width (at.loop-k.k - 1) (omega arith) at.requires.1,
       fits c,
     )
 
 returns : tie.Need-returns invariant-loop decreases-loop
 returns c =
-    let at = c.before in
-    let a = at.before.args in
-    let z : at.loop.k ≡ 0 = omega arith in
-    at.loop.invariant.2 ∙ ap (λ (k : ℕ). le_value (drop k (take a.width (drop a.at a.bytes.now)))) z
+    let at = c in
+    let a = at.args in
+    let z : at.loop-k.k ≡ 0 = omega arith in
+    at.loop-k.invariant.2 ∙ ap (λ (k : ℕ). le_value (drop k (take a.width (drop a.at a.bytes.now)))) z
 
 pub read_spec : {M : Type 1} → statement M
-read_spec =
-    tie.close
-    (tie.spec
+read_spec = tie.close (tie.spec
     invariant-loop
     decreases-loop
     loop-holds

@@ -6,20 +6,25 @@ use Rattle.spec.proofs.Folding.{fold-other, fold-plain, fold-upper, upper-most}
 use Rattle.folding.proofs.fold.Statement.{statement}
 use Rattle.folding.proofs.fold.Tie as tie
 
-returns : tie.Need-returns
+returns : tie.Need-returns-then-flag-ne1
 returns c = fold-other _ _ (omega arith)
 
-is-upper-requires : tie.Need-is-upper-requires
+is-upper-requires : tie.Need-is_upper-requires
 is-upper-requires c κs = search rules
 
-add-result : tie.Need-overflow-add-result
-add-result c = let u = c.before.is-upper in omega (arith, upper-most _ (sym u.ensures ∙ c.if2.true))
+add-result : tie.Need-overflow_add-result
+add-result c = let u = c.is_upper in omega (arith, upper-most _ (sym u.ensures ∙ c.if-is_upper.true))
 
-returns-2 : tie.Need-returns-2
-returns-2 c = let u = c.before.is-upper in fold-upper _ _ (omega arith) (sym u.ensures ∙ c.if2.true)
+returns-2 : tie.Need-returns-then-is_upper
+returns-2 c = let u = c.is_upper in fold-upper _ _ (omega arith) (sym u.ensures ∙ c.if-is_upper.true)
 
-returns-3 : tie.Need-returns-3
-returns-3 c = let u = c.before.is-upper in fold-plain _ _ (sym u.ensures ∙ c.if2.false)
+returns-3 : tie.Need-returns
+returns-3 c = let u = c.is_upper in fold-plain _ _ (sym u.ensures ∙ c.if-is_upper.false)
 
-pub fold-spec : {M : Type 1} → statement M
-fold-spec = tie.close (tie.spec returns is-upper-requires add-result returns-2 returns-3)
+pub fold_spec : {M : Type 1} → statement M
+fold_spec = tie.close (tie.spec
+    returns
+    is-upper-requires
+    add-result
+    returns-2
+    returns-3)

@@ -1,11 +1,10 @@
 -- `count` meets its contract: one law for each way out (Answers).
-use mathlib.Core.Path.{refl, sym, ◌∙◌}
+use mathlib.Core.Path.{refl, ◌∙◌}
 use mathlib.Core.List.{[]}
 use native.Mathlib.Omega.{arith}
 use Rattle.directory.proofs.ChainLaws.{zeros}
-use Rattle.plan.specs.Plans.{all_wanted}
+use Rattle.plan.proofs.RowLaws.{all-occurrences}
 use Rattle.plan.proofs.Stages.{plan-number, plan-total}
-use Rattle.join.proofs.AllFiles.{all-occurrences}
 use Rattle.join.proofs.Answers.{count-refused, count-done}
 use Rattle.join.proofs.count.Statement.{statement}
 use Rattle.join.proofs.count.Tie as tie
@@ -23,7 +22,7 @@ returns : tie.Need-returns
 returns c =
     let a = c.before.before.before.before.before.before.before.before.before.args in
     let p = c.before.before.before.make in
-    let number = plan-number a.index.now a.recipes.now all_wanted [] p.result p.ensures.0 in
+    let number = plan-number a.index.now a.recipes.now [] p.result p.ensures.0 in
     count-refused a.index.now a.recipes.now p.result.code number c.if1.true
 
 returns-2 : tie.Need-returns-2
@@ -32,9 +31,8 @@ returns-2 c =
     let p = c.before.before.before.make in
     let index = a.index.now in
     let recipes = a.recipes.now in
-    let number = plan-number index recipes all_wanted [] p.result p.ensures.0 in
-    count-done index recipes p.result.code number p.result.total c.if1.false
-    (plan-total index recipes all_wanted [] p.result p.ensures.0 c.if1.false ∙ all-occurrences index recipes (sym number ∙ c.if1.false))
+    count-done index recipes p.result.code (plan-number index recipes [] p.result p.ensures.0) p.result.total c.if1.false
+    (plan-total index recipes [] p.result p.ensures.0 c.if1.false ∙ all-occurrences index recipes)
 
 pub count_spec : {M : Type 1} → statement M
 count_spec = tie.close (tie.spec slice-aggregate-make slice-aggregate-make-2 make-requires returns returns-2)

@@ -6,12 +6,12 @@ use Prim.Native.Nat.{ℕ, ◌^◌, ◌≤◌, ◌<◌}
 use native.Mathlib.Omega.{arith}
 use lib.Dec.{ltb}
 use lib.ListN.{length, length-replicate, replicate, get_or}
-use Rattle.spec.specs.Bytes.{splice, every}
+use Rattle.spec.specs.Bytes.{every}
 use Rattle.spec.specs.Outcome.{unless_refused}
 use Rattle.spec.specs.Form.{form_of}
 use Rattle.spec.specs.Keywords.{keywords_of, folded_keywords}
 use Rattle.spec.specs.Index.{list_in}
-use Rattle.spec.specs.Join.{Occurrence, Clients, counts_of, lent, tally_with, clients_code, join_list, list_bytes, joinable_code}
+use Rattle.spec.specs.Join.{Occurrence, Clients, counts_of, lent, tally_with, clients_code, join_list, joinable_code}
 use Rattle.spec.proofs.Codes.{buffer-done}
 use Rattle.spec.proofs.KeywordLaws.{folded-count}
 use Rattle.spec.proofs.Clients.{count_at, count_most}
@@ -21,12 +21,11 @@ use Rattle.tally.proofs.Listed.{add-code-is, added_is}
 use Rattle.walk.specs.Walking.{keyword_counts}
 use Rattle.walk.proofs.Entries.{few, keywords-count}
 use Rattle.walk.proofs.KeywordNumbers.{numbers-below}
-use Rattle.plan.specs.Plans.{all_wanted, wanted_list, Planned}
+use Rattle.plan.specs.Plans.{Planned}
+use Rattle.plan.proofs.RowLaws.{all-occurrences}
 use Rattle.plan.proofs.CountLaws.{counted-all}
 use Rattle.plan.proofs.Stages.{plan-number, plan-total, planned}
 use Rattle.plan.proofs.Bounds.{list-few}
-use Rattle.file_lists.specs.Marks.{marked_list}
-use Rattle.join.proofs.AllFiles.{all_listed, all-occurrences, all-marked}
 use Rattle.join.proofs.Answers.{join-refused, join-long, join-room, join-keyed, join-done}
 use Rattle.join.proofs.tallied.Statement.{statement}
 use Rattle.join.proofs.tallied.Tie as tie
@@ -53,31 +52,22 @@ abbrev list_at : tie.After-make → List Occurrence
 list_at m = join_list (form_of (index_at m)) (index_at m) (recipes_at m)
 
 number : (m : tie.After-make) → m.make.result.code ≡ joinable_code (form_of (index_at m)) (index_at m) (recipes_at m)
-number m = plan-number (index_at m) (recipes_at m) all_wanted [] m.make.result m.make.ensures.0
+number m = plan-number (index_at m) (recipes_at m) [] m.make.result m.make.ensures.0
 
 total : (m : tie.After-make) → m.make.result.code ≡ 0 → m.make.result.total ≡ length (list_at m)
-total m z =
-    plan-total (index_at m) (recipes_at m) all_wanted [] m.make.result m.make.ensures.0 z
-    ∙ all-occurrences (index_at m) (recipes_at m) (sym (number m) ∙ z)
+total m z = plan-total (index_at m) (recipes_at m) [] m.make.result m.make.ensures.0 z ∙ all-occurrences (index_at m) (recipes_at m)
 
 made : (m : tie.After-make) → m.make.result.code ≡ 0
-    → Planned (index_at m) (recipes_at m) all_wanted [] m.make.result m.make.new.1.1.1.0 m.make.new.1.1.1.1.0
+    → Planned (index_at m) (recipes_at m) [] m.make.result m.make.new.1.1.1.0 m.make.new.1.1.1.1.0
 made m z =
     let p = m.make in
-    planned (index_at m) (recipes_at m) all_wanted [] p.result p.ensures.0 (replicate 130536 0) p.new.1.1.1.0 no-tables p.new.1.1.1.1.0
-    z zeros p.ensures.1 p.ensures.2
-
--- the files that it marks give the list
-listed : (m : tie.After-make) (z : m.make.result.code ≡ 0) → marked_list (index_at m) (recipes_at m) m.make.result.marks ≡ list_at m
-listed m z = all-marked (index_at m) (recipes_at m) (sym (number m) ∙ z) m.make.result.marks (made m z).marked
+    planned (index_at m) (recipes_at m) [] p.result p.ensures.0 (replicate 130536 0) p.new.1.1.1.0 no-tables p.new.1.1.1.1.0 z zeros
+    p.ensures.1 p.ensures.2
 
 -- ---- the keywords' counts
 
 counts-are : (m : tie.After-make) → m.make.result.code ≡ 0 → m.make.result.counts ≡ keyword_counts (list_at m)
-counts-are m z =
-    (made m z).counts
-    ∙ ap (λ (l : List Occurrence). keyword_counts l)
-    (counted-all [] (wanted_list (index_at m) (recipes_at m) all_wanted) refl ∙ all_listed (index_at m) (recipes_at m) (sym (number m) ∙ z))
+counts-are m z = (made m z).counts ∙ ap (λ (l : List Occurrence). keyword_counts l) (counted-all [] (list_at m) refl)
 
 words : (m : tie.After-make) → m.make.result.code ≡ 0 → m.make.result.opened.keywords ≤ 16
 words m z = few (index_at m) m.make.result.opened (made m z).joinable.looked.checked
@@ -174,26 +164,27 @@ returns-3 c =
     (total m z) a.before.before.if2.false a.add.result.code (a.add.ensures.0 ∙ code_is m z) c.before.if3.true in
     (c.refused3.ensures.0 ∙ j.0, j.1, ap counts_of c.refused3.ensures.1 ∙ j.2)
 
-slice-aggregate-put : tie.Need-slice-aggregate-put
-slice-aggregate-put c =
+slice-aggregate-list-files : tie.Need-slice-aggregate-list-files
+slice-aggregate-list-files c =
     let m = c.before.before.before.before.before.before.before.before.before.before.before in
     sym (m.make.auto.1.1.1.0 ∙ length-replicate {A = ℕ} 130536 0)
 
-put-requires : tie.Need-put-requires
-put-requires c κs =
+list-files-requires : tie.Need-list-files-requires
+list-files-requires c κs =
     let e = c.before.before.before.before.before.before.before.before in
     let m = e.before.before.before.before.before in
-    let z = e.before.before.if1.false in
-    let room = join-room (index_at m) (recipes_at m) m.make.result.code (number m) (lent_at m) (outset m).args.out.now m.make.result.total
-    (total m z) e.if2.false in
-    (((made m z).joinable, (made m z).passed), rw (listed m z) room)
+    let z = e.before.before.if1.false in (
+      made m z,
+      join-room (index_at m) (recipes_at m) m.make.result.code (number m) (lent_at m) (outset m).args.out.now m.make.result.total (total m z)
+          e.if2.false,
+    )
 
 same_length : tie.Need-same-length
-same_length c = c.before.before.put.auto.1.1.1.1.1.0
+same_length c = c.before.before.list-files.auto.1.1.1.1.1.0
 
 returns-4 : tie.Need-returns-4
 returns-4 c =
-    let l = c.before.before.put in
+    let l = c.before.before.list-files in
     let f = c.before.before.before.before.before.before.before in
     let a = f.before.before in
     let e = a.before.before in
@@ -202,8 +193,7 @@ returns-4 c =
     let keyed : clients_code (length (keywords_of (list_in (index_at m)))) (lent_at m) (list_at m) ≡ 0
     = sym (a.add.ensures.0 ∙ code_is m z) ∙ f.if3.false in
     join-done (index_at m) (recipes_at m) m.make.result.code (number m) (lent_at m) (outset m).args.out.now m.make.result.total z (total m z)
-    e.if2.false l.new.1.1.1.1.1.0 (counts_of a.add.result.tally) keyed
-    (l.ensures ∙ ap (λ (o : List Occurrence). splice (outset m).args.out.now 0 (list_bytes o)) (listed m z))
+    e.if2.false l.new.1.1.1.1.1.0 (counts_of a.add.result.tally) keyed l.ensures
     (a.add.ensures.1 ∙ after_is m z ∙ sym (buffer-done _ (tally_with (lent_at m) (list_at m)) (lent_at m).tally keyed))
 
 pub tallied-spec : {M : Type 1} → statement M
@@ -220,7 +210,7 @@ tallied-spec =
     add-requires
     refused-requires-3
     returns-3
-    slice-aggregate-put
-    put-requires
+    slice-aggregate-list-files
+    list-files-requires
     same_length
     returns-4)

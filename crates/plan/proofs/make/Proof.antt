@@ -51,7 +51,7 @@ returns c =
     let query = a.query.now in
     let n = q.ensures.number in
     let taken = c.before.if1.true in (
-      refused-plan index recipes a.wanted query q.result c.refused.result (n ∙ front-number index recipes (λ z. taken (n ∙ z))) taken c.refused.ensures,
+      refused-plan index recipes query q.result c.refused.result (n ∙ front-number index recipes (λ z. taken (n ∙ z))) taken c.refused.ensures,
       q.ensures.chained,
       tables-kept index recipes a.tables.now (λ z. taken (n ∙ z)),
     )

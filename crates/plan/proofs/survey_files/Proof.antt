@@ -15,8 +15,7 @@ use Rattle.walk.specs.Walking.{file_list, File}
 use Rattle.walk.proofs.Entries.{lies, starts, counts}
 use Rattle.walk.proofs.Counts.{count-any, count-few}
 use Rattle.recipes.proofs.Slices.{file-next}
-use Rattle.plan.specs.Plans.{is_wanted}
-use Rattle.plan.proofs.FileLaws.{code_of, counted-walks, wanted-is, file-walks}
+use Rattle.plan.proofs.FileLaws.{code_of, file-walks}
 use Rattle.plan.proofs.RowLaws.{rows_few}
 use Rattle.plan.proofs.CountLaws.{CountingFiles, counts_start, counts-on, counts_end}
 use Rattle.plan.proofs.Surveys.{Surveying, survey-start, survey-refused, survey-on, survey-passed, survey-total, survey-marks}
@@ -25,18 +24,18 @@ use Rattle.plan.proofs.survey_files.Statement.{statement}
 use Rattle.plan.proofs.survey_files.Tie as tie
 
 abbrev invariant-loop : tie.invariant-loop
-invariant-loop index recipes chains tables query opened lengths wanted slots₀ marks₀ counts₀ files total₀ at₀ k₀ slots marks counts total at k =
-    (files ≡ file_count recipes) × (length slots ≡ 65536) × Surveying index recipes wanted query marks k at total × CountingFiles query index recipes wanted counts k
+invariant-loop index recipes chains tables query opened lengths slots₀ marks₀ counts₀ files total₀ at₀ k₀ slots marks counts total at k =
+    (files ≡ file_count recipes) × (length slots ≡ 65536) × Surveying index recipes query marks k at total × CountingFiles query index recipes counts k
 
 abbrev decreases-loop : tie.decreases-loop
-decreases-loop index recipes chains tables query opened lengths wanted slots₀ marks₀ counts₀ files total₀ at₀ k₀ slots marks counts total at k = files - k
+decreases-loop index recipes chains tables query opened lengths slots₀ marks₀ counts₀ files total₀ at₀ k₀ slots marks counts total at k = files - k
 
 -- the start, seen from the loop, and from where a file is tested
 abbrev outset : tie.At-loop invariant-loop decreases-loop → tie.Start invariant-loop decreases-loop
-outset p = p.before.before.before.before.before.before.before.before.before
+outset p = p.before.before.before.before.before.before.before.before
 
 abbrev turn : tie.After-file-code invariant-loop decreases-loop → tie.At-loop invariant-loop decreases-loop
-turn c = c.before.before.before.before.before
+turn c = c.before.before.before.before
 
 -- the file that the survey is at lies in the recipes
 room : (c : tie.After-file-at invariant-loop decreases-loop) → let p = c.before.before in
@@ -47,22 +46,18 @@ room c =
     let f = c.file-at in
     (file-next a.recipes.now p.loop.k p.loop.at p.loop.invariant.2.walk (omega arith) f.result.now f.ensures).within
 
--- it is one of the files
-ahead : (c : tie.After-file-code invariant-loop decreases-loop) → (turn c).loop.k < file_count (outset (turn c)).args.recipes.now
-ahead c = omega (arith, c.before.before.before.before.loop-test.true, (turn c).loop.invariant.0)
-
 -- the slots that its test leaves
 abbrev slots₁ : tie.After-file-code invariant-loop decreases-loop → List ℕ
 slots₁ c = c.file-code.new.1.1.1.1.0
 
 -- what its test says
 test : (c : tie.After-file-code invariant-loop decreases-loop)
-    → c.file-code.result ≡ code_of (outset (turn c)).args.index.now (named c.before.before.before.file-at.result.now)
+    → c.file-code.result ≡ code_of (outset (turn c)).args.index.now (named c.before.before.file-at.result.now)
 test c =
     let s = outset (turn c) in
     let a = s.args in
     let d = s.pre.0.looked.checked in
-    let f = c.before.before.before.file-at in
+    let f = c.before.before.file-at in
     let t = c.file-code in
     let o = a.survey.opened in
     index-code a.index.now o.directory o.entries (starts a.index.now o d) (counts a.index.now o d)
@@ -72,49 +67,34 @@ test c =
 
 -- the file that passed can be walked
 walks : (c : tie.After-file-code invariant-loop decreases-loop) → c.file-code.result ≡ 0
-    → File (outset (turn c)).args.index.now c.before.before.before.file-at.result.now (slots₁ c)
+    → File (outset (turn c)).args.index.now c.before.before.file-at.result.now (slots₁ c)
 walks c z =
     let p = turn c in
     let s = outset p in
     let a = s.args in
     let d = s.pre.0.looked.checked in
-    let f = c.before.before.before.file-at in
+    let f = c.before.before.file-at in
     let l = p.loop in
     let t = c.file-code in
     let o = a.survey.opened in
-    file-walks a.index.now a.recipes.now l.k l.at l.inv.2.walk (ahead c) f.result.now f.ensures
+    file-walks a.index.now a.recipes.now l.k l.at l.inv.2.walk (omega arith) f.result.now f.ensures
     (slots₁ c) (sym (test c) ∙ z)
     (index-slotted a.index.now o.directory o.entries (starts a.index.now o d) (counts a.index.now o d)
     (least_in o) (named f.result.now) l.slots (slots₁ c) t.result t.ensures z)
 
--- the file that is counted, seen from its test
-abbrev taken : tie.After-file-code invariant-loop decreases-loop → tie.After-wanted-file invariant-loop decreases-loop
-taken t = t.before.before
-
--- it can be walked
-counted : (c : tie.Else1 invariant-loop decreases-loop) → let t = c.before.before in
-    File (outset (turn t)).args.index.now (taken t).wanted-file.result.now (slots₁ t)
-counted c =
-    let t = c.before.before in
-    let a = (outset (turn t)).args in
-    let w = (taken t).wanted-file in
-    counted-walks a.index.now t.before.before.before.file-at.result.now (slots₁ t) (walks t c.if1.false)
-    (is_wanted a.survey.wanted (turn t).loop.k) w.result.now w.ensures
-
--- its occurrences are few, and so are its rows
+-- the file's occurrences are few, and so are its rows
 few : (c : tie.After-rows-in invariant-loop decreases-loop) → let t = c.before.before.before.before.before in
-    length (file_list (turn t).loop.k (outset (turn t)).args.index.now (taken t).wanted-file.result.now) < 2 ^ 36
+    length (file_list (turn t).loop.k (outset (turn t)).args.index.now t.before.before.file-at.result.now) < 2 ^ 36
 few c =
-    let e = c.before.before.before in
-    let t = e.before.before in
+    let t = c.before.before.before.before.before in
     let s = outset (turn t) in
     let a = s.args in
     let index = a.index.now in
-    let file = (taken t).wanted-file.result.now in
+    let file = t.before.before.file-at.result.now in
     omega (
       arith,
       count-any index file (turn t).loop.k,
-      count-few index a.survey.opened file (slots₁ t) s.pre.0.looked.checked (counted e),
+      count-few index a.survey.opened file (slots₁ t) s.pre.0.looked.checked (walks t c.before.before.before.if1.false),
     )
 
 small : (c : tie.After-rows-in invariant-loop decreases-loop) → c.rows_in.result < 2 ^ 36
@@ -122,23 +102,23 @@ small c =
     let t = c.before.before.before.before.before in
     let a = (outset (turn t)).args in
     let index = a.index.now in
-    let file = (taken t).wanted-file.result.now in
+    let file = t.before.before.file-at.result.now in
     let k = (turn t).loop.k in
     omega (arith, c.rows_in.ensures.0, rows_few (lengths_in index) a.query.now k (file_list k index file) (few c))
 
 count-at-requires : tie.Need-count-at-requires invariant-loop decreases-loop
 count-at-requires c κs =
-    let s = c.before.before.before.before.before.before.before in
+    let s = c.before.before.before.before.before.before in
     omega (arith, (accepted s.args.recipes.now s.requires.0.named).header)
 
 loop-holds : tie.Need-loop-init invariant-loop decreases-loop
 loop-holds c =
-    let s = c.before.before.before.before.before.before.before.before in
+    let s = c.before.before.before.before.before.before.before in
     let a = s.args in (
       c.count_at.ensures,
       length-replicate {A = ℕ} 65536 0,
-      survey-start a.index.now a.recipes.now a.survey.wanted a.query.now s.requires.0.named,
-      counts_start a.query.now a.index.now a.recipes.now a.survey.wanted,
+      survey-start a.index.now a.recipes.now a.query.now s.requires.0.named,
+      counts_start a.query.now a.index.now a.recipes.now,
     )
 
 file-at-requires : tie.Need-file-at-requires invariant-loop decreases-loop
@@ -147,15 +127,12 @@ file-at-requires c κs =
     let recipes = (outset p).args.recipes.now in
     (walk-file recipes p.loop.k p.loop.at (field_at recipes p.loop.at 4) p.loop.invariant.2.walk (omega arith) refl).room
 
-wanted-file-requires : tie.Need-wanted-file-requires invariant-loop decreases-loop
-wanted-file-requires c κs = tt
-
 slice-aggregate-file-code : tie.Need-slice-aggregate-file-code invariant-loop decreases-loop
-slice-aggregate-file-code c = sym c.before.before.before.before.loop.invariant.1
+slice-aggregate-file-code c = sym c.before.before.before.loop.invariant.1
 
 file-code-requires : tie.Need-file-code-requires invariant-loop decreases-loop
 file-code-requires c κs =
-    let s = outset c.before.before.before.before in
+    let s = outset c.before.before.before in
     (lies s.args.index.now s.args.survey.opened s.pre.0.looked.checked, s.pre.0.looked.chained)
 
 refused-requires : tie.Need-refused-requires invariant-loop decreases-loop
@@ -168,28 +145,28 @@ returns c =
     let s = outset p in
     let a = s.args in
     let l = p.loop in
-    let f = t.before.before.before.file-at in
+    let f = t.before.before.file-at in
     let code = t.file-code.result in
     let taken = c.before.if1.true in
-    let all = survey-refused a.index.now a.recipes.now a.survey.wanted a.query.now l.k l.at (ahead t) f.result.now f.ensures
+    let all = survey-refused a.index.now a.recipes.now a.query.now l.k l.at (omega arith) f.result.now f.ensures
     l.marks l.total l.inv.2 code (test t) taken in
-    refused-plan a.index.now a.recipes.now a.survey.wanted a.query.now code c.refused.result
+    refused-plan a.index.now a.recipes.now a.query.now code c.refused.result
     (all ∙ files-number a.index.now a.recipes.now s.pre.0.looked.checked.good s.pre.0.named) taken c.refused.ensures
 
 slice-aggregate-rows-in : tie.Need-slice-aggregate-rows-in invariant-loop decreases-loop
 slice-aggregate-rows-in c = let t = c.before.before.before in sym (t.file-code.auto.1.1.1.1.0 ∙ (turn t).loop.invariant.1)
 
 slice-aggregate-rows-in-2 : tie.Need-slice-aggregate-rows-in-2 invariant-loop decreases-loop
-slice-aggregate-rows-in-2 c = sym c.before.before.before.before.before.before.before.before.before.loop.invariant.3.long
+slice-aggregate-rows-in-2 c = sym c.before.before.before.before.before.before.before.before.loop.invariant.3.long
 
 rows-in-requires : tie.Need-rows-in-requires invariant-loop decreases-loop
 rows-in-requires c κs =
-    let e = c.before.before in
-    let p = turn e.before.before in
+    let t = c.before.before.before.before in
+    let p = turn t in
     let s = outset p in
     let g = p.loop.inv.3 in (
       (s.pre.0.looked, s.pre.0.tabled),
-      (counted e, (s.pre.1, (g.long, λ k h. omega (arith, g.small k h, p.loop.inv.2.few)))),
+      (walks t c.before.before.if1.false, (s.pre.1, (g.long, λ k h. omega (arith, g.small k h, p.loop.inv.2.few)))),
     )
 
 mark-of-requires : tie.Need-mark-of-requires invariant-loop decreases-loop
@@ -197,19 +174,19 @@ mark-of-requires c κs = tt
 
 array-write-marks : tie.Need-array-write-marks invariant-loop decreases-loop
 array-write-marks c =
-    let p = c.before.before.before.before.before.before.before.before.before.before.before.before in
+    let p = c.before.before.before.before.before.before.before.before.before.before.before in
     omega (arith, p.loop.invariant.0, p.loop.invariant.2.few, p.loop.invariant.2.wide)
 
 add_total : tie.Need-overflow-add-total invariant-loop decreases-loop
 add_total c =
-    let p = c.before.before.before.before.before.before.before.before.before.before.before.before in
+    let p = c.before.before.before.before.before.before.before.before.before.before.before in
     omega (arith, p.loop.invariant.2.small, p.loop.invariant.2.few, small c.before.before)
 
 add_at : tie.Need-overflow-add-at invariant-loop decreases-loop
-add_at c = let f = c.before.before.before.before.before.before.before.before.before.before in omega (arith, room f, outset f.before.before)
+add_at c = let f = c.before.before.before.before.before.before.before.before.before in omega (arith, room f, outset f.before.before)
 
 add-at-2 : tie.Need-overflow-add-at-2 invariant-loop decreases-loop
-add-at-2 c = let f = c.before.before.before.before.before.before.before.before.before.before in omega (arith, room f, outset f.before.before)
+add-at-2 c = let f = c.before.before.before.before.before.before.before.before.before in omega (arith, room f, outset f.before.before)
 
 add-k : tie.Need-overflow-add-k invariant-loop decreases-loop
 add-k c = omega arith
@@ -220,23 +197,18 @@ loop-less c = omega arith
 loop-again : tie.Need-loop-preserved invariant-loop decreases-loop
 loop-again c =
     let n = c.before.before.rows_in in
-    let e = c.before.before.before.before.before in
-    let t = e.before.before in
-    let w = taken t in
-    let f = t.before.before.before.file-at in
+    let t = c.before.before.before.before.before.before.before in
+    let f = t.before.before.file-at in
     let p = turn t in
     let a = (outset p).args in
     let l = p.loop in
-    let list = file_list l.k a.index.now w.wanted-file.result.now in
     let counts = n.new.1.1.1.1.1.1.1.0 in (
       l.inv.0,
       t.file-code.auto.1.1.1.1.0 ∙ l.inv.1,
-      survey-on a.index.now a.recipes.now a.survey.wanted a.query.now l.k l.at (ahead t) f.result.now f.ensures
-          l.marks l.total l.inv.2 t.file-code.result (test t) e.if1.false
-          w.wanted-file.result.now w.wanted-file.ensures n.result c.mark_of.result n.ensures.0 (small c.before.before) c.mark_of.ensures,
-      counts-on a.query.now a.index.now a.recipes.now a.survey.wanted l.k (ahead t) list
-          (wanted-is a.index.now a.recipes.now l.k l.at l.inv.2.walk (ahead t) f.result.now f.ensures a.survey.wanted
-          w.wanted-file.result.now w.wanted-file.ensures)
+      survey-on a.index.now a.recipes.now a.query.now l.k l.at (omega arith) f.result.now f.ensures
+          l.marks l.total l.inv.2 t.file-code.result (test t) c.before.before.before.before.before.if1.false
+          n.result c.mark_of.result n.ensures.0 (small c.before.before) c.mark_of.ensures,
+      counts-on a.query.now a.index.now a.recipes.now l.k l.at l.inv.2.walk (omega arith) f.result.now f.ensures
           l.counts counts l.inv.3 n.ensures.1 (few c.before.before),
     )
 
@@ -247,16 +219,15 @@ returns-2 c =
     let index = s.args.index.now in
     let recipes = s.args.recipes.now in
     let query = s.args.query.now in
-    let wanted = s.args.survey.wanted in
     let l = p.loop in
     let done : file_count recipes ≤ l.k = omega arith in
-    done-plan index recipes wanted query l.total l.counts s.args.survey.opened l.marks
+    done-plan index recipes query l.total l.counts s.args.survey.opened l.marks
     (sym (files-number index recipes s.pre.0.looked.checked.good s.pre.0.named)
-    ∙ survey-passed index recipes wanted query l.marks l.k l.at l.total l.invariant.2 done)
-    (survey-total index recipes wanted query l.marks l.k l.at l.total l.invariant.2 done)
-    (counts_end query index recipes wanted l.k done l.counts l.invariant.3)
+    ∙ survey-passed index recipes query l.marks l.k l.at l.total l.invariant.2 done)
+    (survey-total index recipes query l.marks l.k l.at l.total l.invariant.2 done)
+    (counts_end query index recipes l.k l.at l.invariant.2.walk done l.counts l.invariant.3)
     s.pre.0.looked.checked.read
-    (survey-marks index recipes wanted query l.marks l.k l.at l.total l.invariant.2 done)
+    (survey-marks index recipes query l.marks l.k l.at l.total l.invariant.2 done)
 
 pub survey-files-spec : {M : Type 1} → statement M
 survey-files-spec =
@@ -267,7 +238,6 @@ survey-files-spec =
     count-at-requires
     loop-holds
     file-at-requires
-    wanted-file-requires
     slice-aggregate-file-code
     file-code-requires
     refused-requires

@@ -8,7 +8,6 @@ use Rattle.spec.specs.Form.{form_of}
 use Rattle.spec.specs.Query.{query_lines, queryable_code}
 use Rattle.directory.proofs.ChainLaws.{zeros}
 use Rattle.plan.proofs.Stages.{planned}
-use Rattle.plan.specs.Plans.{all_wanted}
 use Rattle.query.proofs.AskedPlans.{few-asked, asked-code, asked-accepted, asked-plan, asked-two, asked-eight, asked-total}
 use Rattle.query.proofs.Answers.{lines-refused, lines_long, lines-room, lines-done}
 use Rattle.query.proofs.query.Statement.{statement}
@@ -116,7 +115,7 @@ write-lines-requires c κs =
     let is = asked-plan (index q) (recipes q) (query q) taken k.ensures p m.make.ensures.0 n s z in
     let accepted = asked-accepted (index q) (recipes q) (query q) taken k.ensures p m.make.ensures.0 n s z in (
       (
-        planned (index q) (recipes q) all_wanted (query q) p is (replicate 130536 0) m.make.new.1.1.1.0 no-tables m.make.new.1.1.1.1.0
+        planned (index q) (recipes q) (query q) p is (replicate 130536 0) m.make.new.1.1.1.0 no-tables m.make.new.1.1.1.1.0
             accepted zeros m.make.ensures.1 m.make.ensures.2,
         omega (arith, asked-two (index q) (recipes q) (query q) taken k.ensures p m.make.ensures.0 n s z),
         few e,

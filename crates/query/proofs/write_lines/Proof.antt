@@ -102,7 +102,7 @@ write-line-requires c κs =
     let passes = file-passes index recipes k l.at w turn file f made.passed in
     let walks = file-walks index recipes k l.at w turn file f [] passes (no-slots (index_keys index) (named file)) in
     let place = lining-room index recipes query k l.at turn file f s.args.out.now l.out l.place l.invariant.1 s.pre.1 in (
-      unmarked index recipes query s.pre.0.1 made.joinable.named s.args.t3.marks made.marked k l.at w turn file f,
+      unmarked index recipes query s.pre.0.1 s.args.t3.marks made.marked k l.at w turn file f,
       ((made.joinable.looked, made.joinable.tabled), ((walks, s.pre.0.2, l.invariant.2), place)),
     )
 

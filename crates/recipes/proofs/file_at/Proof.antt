@@ -4,36 +4,34 @@ use Rattle.recipes.proofs.Files.{slice_is}
 use Rattle.recipes.proofs.file_at.Statement.{statement}
 use Rattle.recipes.proofs.file_at.Tie as tie
 
-count-at-requires : tie.Need-count-at-requires
-count-at-requires c κs = omega (arith, c.before.requires)
+count-at-requires : tie.Need-count_at-n-requires
+count-at-requires c κs = omega (arith, c.requires)
 
-add-from : tie.Need-overflow-add-from
-add-from c = omega (arith, c.before.before.requires, c.before)
+add-from : tie.Need-overflow_add-from
+add-from c = omega (arith, c.requires, c.before)
 
-mul-result : tie.Need-overflow-mul-result
-mul-result c = omega (arith, c.count_at.ensures, c.before.before.requires, c.before)
+mul-result : tie.Need-overflow_mul-result
+mul-result c = omega (arith, c.count_at-n.ensures, c.requires, c.before)
 
-add-result : tie.Need-overflow-add-result
-add-result c = omega (arith, c.count_at.ensures, c.before.before.requires, c.before)
+add-result : tie.Need-overflow_add-result
+add-result c = omega (arith, c.count_at-n.ensures, c.requires, c.before)
 
-sub-result : tie.Need-overflow-sub-result
+sub-result : tie.Need-slice_bounds-result-count
 sub-result c = omega arith
 
-part-result-start : tie.Need-slice-bounds-result-start
+part-result-start : tie.Need-slice_bounds-result-start
 part-result-start c = omega arith
 
-part-result-end : tie.Need-slice-bounds-result-end
-part-result-end c = omega (arith, c.count_at.ensures, c.before.before.requires)
+part-result-end : tie.Need-slice_bounds-result-end
+part-result-end c = omega (arith, c.count_at-n.ensures, c.requires)
 
 returns : tie.Need-returns
 returns c =
-    let a = c.before.before.before.args in
-    slice_is a.recipes.now a.at c.before.count_at.result c.before.count_at.ensures
+    let a = c.args in
+    slice_is a.recipes.now a.at c.count_at-n.result c.count_at-n.ensures
 
-pub file-at-spec : {M : Type 1} → statement M
-file-at-spec =
-    tie.close
-    (tie.spec
+pub file_at_spec : {M : Type 1} → statement M
+file_at_spec = tie.close (tie.spec
     count-at-requires
     add-from
     mul-result

@@ -8,62 +8,60 @@ use Rattle.tally.proofs.Adding.{below, Turn, turn-own, turn-other, sum-end}
 use Rattle.tally.proofs.client_sum.Statement.{statement}
 use Rattle.tally.proofs.client_sum.Tie as tie
 
-abbrev invariant-loop : tie.invariant-loop
+abbrev invariant-loop : tie.invariant-loop-k
 invariant-loop key keywords client counts sum₀ k₀ sum k = (k ≤ keywords) × (sum ≤ k * 2 ^ 59) × (sum ≡ below key counts client k)
 
-abbrev decreases-loop : tie.decreases-loop
+abbrev decreases-loop : tie.decreases-loop-k
 decreases-loop key keywords client counts sum₀ k₀ sum k = keywords - k
 
-loop-holds : tie.Need-loop-init invariant-loop decreases-loop
+loop-holds : tie.Need-loop-k-init invariant-loop decreases-loop
 loop-holds c = (omega arith, omega arith, refl)
 
-shared-slice-read-if1 : tie.Need-shared-slice-read-if1 invariant-loop decreases-loop
+shared-slice-read-if1 : tie.Need-bounds-key-k invariant-loop decreases-loop
 shared-slice-read-if1 c = search rules
 
-mul-sum : tie.Need-overflow-mul-sum invariant-loop decreases-loop
+mul-sum : tie.Need-offset_bounds-counts-k invariant-loop decreases-loop
 mul-sum c = search rules
 
-array-read-sum : tie.Need-array-read-sum invariant-loop decreases-loop
+array-read-sum : tie.Need-bounds-counts-k invariant-loop decreases-loop
 array-read-sum c = search rules
 
-add-sum : tie.Need-overflow-add-sum invariant-loop decreases-loop
+add-sum : tie.Need-overflow_add-sum invariant-loop decreases-loop
 add-sum c =
-    let at = c.before.before.before in
-    record { fits = omega (arith, at.loop.invariant, at.before.requires.0, at.before.requires.2 at.loop.k (omega arith)) }
+    let at = c in
+    record { fits = omega (arith, at.loop-k.invariant, at.requires.0, at.requires.2 at.loop-k.k (omega arith)) }
 
-add-k : tie.Need-overflow-add-k invariant-loop decreases-loop
+add-k : tie.Need-overflow_add-k invariant-loop decreases-loop
 add-k c = search rules
 
-loop-less : tie.Need-loop-smaller invariant-loop decreases-loop
+loop-less : tie.Need-loop-k-smaller invariant-loop decreases-loop
 loop-less c = search rules
 
 -- one keyword more, whichever way the sum came
-turned : (c : tie.Joined1 invariant-loop decreases-loop) → let at = c.before.before.before in
-    Turn at.before.args.key.now at.before.args.t3 at.before.args.client at.loop.k c.if1.sum
+turned : (c : tie.Joined-key-k invariant-loop decreases-loop) → let at = c in
+    Turn at.args.key.now at.args.counts at.args.client at.loop-k.k c.if-key-k.sum
 turned c =
-    let at = c.before.before.before in
-    let a = at.before.args in
-    let P = Turn a.key.now a.t3 a.client at.loop.k in
+    let at = c in
+    let a = at.args in
+    let P = Turn a.key.now a.counts a.client at.loop-k.k in
     ⊎_elim
-    (λ own. subst P (sym own.1) (turn-own a.key.now a.t3 a.client at.loop.k at.loop.sum at.loop.invariant.1 at.loop.invariant.2
-    (at.before.requires.2 at.loop.k (omega arith)) own.0.taken))
-    (λ other. subst P (sym other.1) (turn-other a.key.now a.t3 a.client at.loop.k at.loop.sum at.loop.invariant.1 at.loop.invariant.2
-    other.0.left))
-    c.if1.branch
+    (λ own. subst P (sym own.1) (turn-own a.key.now a.counts a.client at.loop-k.k at.loop-k.sum at.loop-k.invariant.1 at.loop-k.invariant.2
+    (at.requires.2 at.loop-k.k (omega arith)) own.0.true))
+    (λ other. subst P (sym other.1) (turn-other a.key.now a.counts a.client at.loop-k.k at.loop-k.sum at.loop-k.invariant.1 at.loop-k.invariant.2
+    other.0.false))
+    c.if-key-k.branch
 
-loop-again : tie.Need-loop-preserved invariant-loop decreases-loop
+loop-again : tie.Need-loop-k-preserved invariant-loop decreases-loop
 loop-again c = (omega arith, (turned c).0, (turned c).1)
 
 returns : tie.Need-returns invariant-loop decreases-loop
 returns c =
-    let at = c.before in
-    let a = at.before.args in
-    sum-end a.key.now a.t3 a.client at.loop.k a.keywords at.loop.sum at.loop.invariant.0 (omega arith) at.loop.invariant.2
+    let at = c in
+    let a = at.args in
+    sum-end a.key.now a.counts a.client at.loop-k.k a.keywords at.loop-k.sum at.loop-k.invariant.0 (omega arith) at.loop-k.invariant.2
 
-pub client-sum-spec : {M : Type 1} → statement M
-client-sum-spec =
-    tie.close
-    (tie.spec
+pub client_sum_spec : {M : Type 1} → statement M
+client_sum_spec = tie.close (tie.spec
     invariant-loop
     decreases-loop
     loop-holds

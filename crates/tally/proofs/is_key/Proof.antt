@@ -9,49 +9,47 @@ use Rattle.tally.proofs.Adding.{good_from, key-not, key-start, good-on, good-not
 use Rattle.tally.proofs.is_key.Statement.{statement}
 use Rattle.tally.proofs.is_key.Tie as tie
 
-abbrev invariant-loop : tie.invariant-loop
+abbrev invariant-loop : tie.invariant-loop-k
 invariant-loop key keywords k₀ k = (k ≤ keywords) × (length key ≡ 16) × (good_from k keywords key ≡ is_key keywords key)
 
-abbrev decreases-loop : tie.decreases-loop
+abbrev decreases-loop : tie.decreases-loop-k
 decreases-loop key keywords k₀ k = keywords - k
 
-returns : tie.Need-returns invariant-loop decreases-loop
-returns c = let a = c.before.args in key-not a.keywords a.key.now c.if1.true
+returns : tie.Need-returns-then-key-ne16 invariant-loop decreases-loop
+returns c = let a = c.args in key-not a.keywords a.key.now c.if-key-ne16.true
 
-loop-holds : tie.Need-loop-init invariant-loop decreases-loop
-loop-holds c = let a = c.before.args in (omega arith, c.if1.false, key-start a.keywords a.key.now c.if1.false)
+loop-holds : tie.Need-loop-k-init invariant-loop decreases-loop
+loop-holds c = let a = c.args in (omega arith, c.if-key-ne16.false, key-start a.keywords a.key.now c.if-key-ne16.false)
 
-shared-slice-read-if2 : tie.Need-shared-slice-read-if2 invariant-loop decreases-loop
+shared-slice-read-if2 : tie.Need-bounds-key-k invariant-loop decreases-loop
 shared-slice-read-if2 c = search rules
 
-returns-2 : tie.Need-returns-2 invariant-loop decreases-loop
+returns-2 : tie.Need-returns-then-key-k-gt3 invariant-loop decreases-loop
 returns-2 c =
-    let at = c.before.before.before in
-    let a = at.before.before.args in
-    good-not at.loop.k a.keywords a.key.now _ (omega arith) (omega arith) c.if2.true at.loop.invariant.2
+    let at = c in
+    let a = at.args in
+    good-not at.loop-k.k a.keywords a.key.now _ (omega arith) (omega arith) c.if-key-k-gt3.true at.loop-k.invariant.2
 
-add-k : tie.Need-overflow-add-k invariant-loop decreases-loop
+add-k : tie.Need-overflow_add-k invariant-loop decreases-loop
 add-k c = search rules
 
-loop-less : tie.Need-loop-smaller invariant-loop decreases-loop
+loop-less : tie.Need-loop-k-smaller invariant-loop decreases-loop
 loop-less c = search rules
 
-loop-again : tie.Need-loop-preserved invariant-loop decreases-loop
+loop-again : tie.Need-loop-k-preserved invariant-loop decreases-loop
 loop-again c =
-    let at = c.before.before.before in
-    let a = at.before.before.args in
-    (omega arith, at.loop.invariant.1, good-on at.loop.k a.keywords a.key.now _ (omega arith) (omega arith) c.if2.false at.loop.invariant.2)
+    let at = c in
+    let a = at.args in
+    (omega arith, at.loop-k.invariant.1, good-on at.loop-k.k a.keywords a.key.now _ (omega arith) (omega arith) c.if-key-k-gt3.false at.loop-k.invariant.2)
 
-returns-3 : tie.Need-returns-3 invariant-loop decreases-loop
+returns-3 : tie.Need-returns invariant-loop decreases-loop
 returns-3 c =
-    let at = c.before in
-    let a = at.before.before.args in
-    good-end at.loop.k a.keywords a.key.now _ (omega arith) (omega arith) at.loop.invariant.2
+    let at = c in
+    let a = at.args in
+    good-end at.loop-k.k a.keywords a.key.now _ (omega arith) (omega arith) at.loop-k.invariant.2
 
-pub is-key-spec : {M : Type 1} → statement M
-is-key-spec =
-    tie.close
-    (tie.spec
+pub is_key_spec : {M : Type 1} → statement M
+is_key_spec = tie.close (tie.spec
     invariant-loop
     decreases-loop
     returns

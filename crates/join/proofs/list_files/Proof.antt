@@ -1,23 +1,25 @@
--- `put` meets its contract: the files one after the other (Turns).
-use mathlib.Core.Path.{◌≡◌, refl}
-use mathlib.Core.List.{List, []}
-use Prim.Native.Nat.{ℕ, ◌+◌, ◌-◌, ◌≤◌, ◌<◌}
+-- `list_files` meets its contract: the files one after the other (Turns).
+use mathlib.Core.Path.{◌≡◌, refl, sym, ◌∙◌}
+use mathlib.Core.List.{[]}
+use Prim.Native.Nat.{◌+◌, ◌-◌, ◌≤◌, ◌<◌}
 use native.Mathlib.Omega.{arith}
-use lib.ListN.{length, get_or}
+use lib.ListN.{length}
 use Rattle.spec.specs.Bytes.{field_at}
-use Rattle.spec.specs.Index.{index_keys}
+use Rattle.spec.specs.Index.{lengths_in, index_keys}
 use Rattle.spec.specs.Recipes.{named, file_count}
 use Rattle.recipes.proofs.Files.{walk-file, accepted}
 use Rattle.files.proofs.Places.{no-slots}
 use Rattle.recipes.proofs.Slices.{file-next}
-use Rattle.plan.proofs.FileLaws.{file-walks, file-passes}
-use Rattle.file_lists.proofs.Turns.{marked-walks, unmarked, Listing, listing_start, listing-room, listing-on, listing-end}
-use Rattle.file_lists.proofs.put.Statement.{statement}
-use Rattle.file_lists.proofs.put.Tie as tie
+use Rattle.plan.specs.Plans.{list_of}
+use Rattle.plan.proofs.FileLaws.{list-is, file-walks, file-passes}
+use Rattle.plan.proofs.RowLaws.{no-occurrence}
+use Rattle.join.proofs.Turns.{Listing, listing_start, listing-room, listing-on, listing-end}
+use Rattle.join.proofs.list_files.Statement.{statement}
+use Rattle.join.proofs.list_files.Tie as tie
 
 abbrev invariant-loop : tie.invariant-loop
 invariant-loop index recipes chains tables out₀ made files place₀ at₀ number₀ out place at number =
-    (files ≡ file_count recipes) × Listing index recipes made.marks out₀ out number at place
+    (files ≡ file_count recipes) × Listing index recipes out₀ out number at place
 
 abbrev decreases-loop : tie.decreases-loop
 decreases-loop index recipes chains tables out₀ made files place₀ at₀ number₀ out place at number = files - number
@@ -25,10 +27,6 @@ decreases-loop index recipes chains tables out₀ made files place₀ at₀ numb
 -- the start, seen from the loop
 abbrev outset : tie.At-loop invariant-loop decreases-loop → tie.Start invariant-loop decreases-loop
 outset p = p.before.before.before.before.before.before
-
--- the plan's marks
-abbrev marks_at : tie.Start invariant-loop decreases-loop → List ℕ
-marks_at s = s.args.t3.marks
 
 -- the file that the loop is at lies in the recipes
 room : (c : tie.After-file-at invariant-loop decreases-loop) → let p = c.before.before in
@@ -42,12 +40,12 @@ room c =
 count-at-requires : tie.Need-count-at-requires invariant-loop decreases-loop
 count-at-requires c κs =
     let s = c.before.before.before.before in
-    omega (arith, (accepted s.args.recipes.now s.requires.0.0.named).header)
+    omega (arith, (accepted s.args.recipes.now s.requires.0.joinable.named).header)
 
 loop-holds : tie.Need-loop-init invariant-loop decreases-loop
 loop-holds c =
     let s = c.before.before.before.before.before in
-    (c.count_at.ensures, listing_start s.args.index.now s.args.recipes.now (marks_at s) s.requires.0.0.named s.args.out.now)
+    (c.count_at.ensures, listing_start s.args.index.now s.args.recipes.now s.requires.0.joinable.named s.args.out.now)
 
 file-at-requires : tie.Need-file-at-requires invariant-loop decreases-loop
 file-at-requires c κs =
@@ -59,40 +57,34 @@ element-copy-out-mark : tie.Need-element-copy-out-mark invariant-loop decreases-
 element-copy-out-mark c =
     let p = c.before.before in
     let s = outset p in
-    omega (arith, p.loop.invariant.0, (accepted s.args.recipes.now s.pre.0.0.named).few)
-
-marked-file-requires : tie.Need-marked-file-requires invariant-loop decreases-loop
-marked-file-requires c κs = tt
+    omega (arith, p.loop.invariant.0, (accepted s.args.recipes.now s.pre.0.joinable.named).few)
 
 list-file-requires : tie.Need-list-file-requires invariant-loop decreases-loop
 list-file-requires c κs =
-    let m = c.before.marked-file in
-    let r = c.before.before.before.before in
+    let r = c.before.before.before in
     let p = r.before.before in
     let s = outset p in
     let index = s.args.index.now in
     let recipes = s.args.recipes.now in
-    let marks = marks_at s in
     let file = r.file-at.result.now in
     let f = r.file-at.ensures in
     let l = p.loop in
     let k = l.number in
     let w = l.invariant.1.walk in
     let turn : k < file_count recipes = omega arith in
-    let joinable = s.pre.0.0 in
-    let passes = file-passes index recipes k l.at w turn file f s.pre.0.1 in
+    let made = s.pre.0 in
+    let listed = list-is index recipes k l.at w turn file f in
+    let passes = file-passes index recipes k l.at w turn file f made.passed in
     let walks = file-walks index recipes k l.at w turn file f [] passes (no-slots (index_keys index) (named file)) in
-    let room = listing-room index recipes marks k l.at turn file f m.result.now m.ensures s.args.out.now l.out l.place l.invariant.1
-    s.pre.1 in (
-      unmarked index file (get_or marks k 0) m.result.now m.ensures k,
-      (joinable.looked, (joinable.tabled, (marked-walks index file (get_or marks k 0) m.result.now m.ensures [] walks, room))),
-    )
+    let room = listing-room index recipes k l.at turn file f s.args.out.now l.out l.place l.invariant.1 s.pre.1 in
+    let none = no-occurrence (lengths_in index) k (list_of index recipes k) in
+    (λ z. sym listed ∙ none (made.marked.none k turn z), (made.joinable.looked, (made.joinable.tabled, (walks, room))))
 
 add_at : tie.Need-overflow-add-at invariant-loop decreases-loop
-add_at c = let f = c.before.before.before.before.before.before.before in omega (arith, room f, outset f.before.before)
+add_at c = let f = c.before.before.before.before.before.before in omega (arith, room f, outset f.before.before)
 
 add-at-2 : tie.Need-overflow-add-at-2 invariant-loop decreases-loop
-add-at-2 c = let f = c.before.before.before.before.before.before.before in omega (arith, room f, outset f.before.before)
+add-at-2 c = let f = c.before.before.before.before.before.before in omega (arith, room f, outset f.before.before)
 
 add-number : tie.Need-overflow-add-number invariant-loop decreases-loop
 add-number c = omega arith
@@ -103,16 +95,14 @@ loop-less c = omega arith
 loop-again : tie.Need-loop-preserved invariant-loop decreases-loop
 loop-again c =
     let w = c.before.before.list-file in
-    let m = c.before.before.before.before.marked-file in
-    let r = c.before.before.before.before.before.before.before in
+    let r = c.before.before.before.before.before.before in
     let p = r.before.before in
     let s = outset p in
     let a = s.args in
     let f = r.file-at in
     let l = p.loop in (
       l.invariant.0,
-      listing-on a.index.now a.recipes.now a.t3.marks l.number l.at (omega arith) f.result.now f.ensures
-          m.result.now m.ensures a.out.now l.out l.place
+      listing-on a.index.now a.recipes.now l.number l.at (omega arith) f.result.now f.ensures a.out.now l.out l.place
           l.invariant.1 s.pre.1 w.new.1.1.1.1.1.0 w.result w.ensures,
     )
 
@@ -124,10 +114,10 @@ returns c =
     let p = c.before in
     let a = (outset p).args in
     let l = p.loop in
-    listing-end a.index.now a.recipes.now a.t3.marks a.out.now l.out l.number l.at l.place l.invariant.1 (omega arith)
+    listing-end a.index.now a.recipes.now a.out.now l.out l.number l.at l.place l.invariant.1 (omega arith)
 
-pub put_spec : {M : Type 1} → statement M
-put_spec =
+pub list-files-spec : {M : Type 1} → statement M
+list-files-spec =
     tie.close
     (tie.spec
     invariant-loop
@@ -136,7 +126,6 @@ put_spec =
     loop-holds
     file-at-requires
     element-copy-out-mark
-    marked-file-requires
     list-file-requires
     add_at
     add-at-2

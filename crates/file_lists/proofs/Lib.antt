@@ -1,3 +1,0 @@
-pub mod Turns
-pub mod MarkLaws
-pub mod Answers
