@@ -1,4 +1,6 @@
 // Whether bytes are a query (request #109), the query that a plan is asked with, and the refusals before 18: the plan's, then 21.
+#![tactic(auto)]
+
 ghost use Rattle.std.specs.Prelude.{◌≡◌, [], ◌∷◌, not, cond, ◌&&◌, length, leb};
 ghost use Rattle.spec.specs.Outcome.{first_number, whole, query_wrong};
 ghost use Rattle.spec.specs.Query.{is_query};

@@ -1,4 +1,6 @@
 // Little-endian fields of any width, runs of bytes copied into a buffer, and comparison of bytes.
+#![tactic(auto)]
+
 ghost use Rattle.std.specs.Prelude.{◌≡◌, ◌+◌, ◌≤◌, length};
 ghost use Rattle.spec.specs.Bytes.{field_at, le_bytes, splice, same};
 

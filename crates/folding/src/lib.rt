@@ -1,4 +1,6 @@
 // The fold of a byte under the list's flag (document 01, "Words"; request #104).
+#![tactic(auto)]
+
 ghost use Rattle.std.specs.Prelude.{◌≡◌};
 ghost use Rattle.spec.specs.Keywords.{is_upper, fold_byte};
 

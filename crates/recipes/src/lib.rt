@@ -1,4 +1,6 @@
 // Recipes: their check (document 01, refusal 14), and the files one after the other.
+#![tactic(auto)]
+
 ghost use Rattle.std.specs.Prelude.{◌≡◌, ◌+◌, ◌*◌, ◌≤◌, length, drop};
 ghost use Rattle.spec.specs.Bytes.{part, field_at};
 ghost use Rattle.spec.specs.Recipes.{files_whole, recipes_code};

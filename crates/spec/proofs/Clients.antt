@@ -1,18 +1,18 @@
 -- Laws of the clients' counts (request #110): counts added one by one, the counts of lists one after the other, counts by client from counts by keyword,
 -- what a good key and counts of 64 bits say. Assumes nothing.
 use mathlib.Core.Path.{◌≡◌, refl, sym, ap, ap₂, ◌∙◌}
-use mathlib.Core.Bool.{Bool, true, false, cond, ◌&&◌}
+use mathlib.Core.Bool.{Bool, true, false, cond}
 use mathlib.Core.List.{List, [], ◌∷◌, ◌++◌}
-use Prim.Native.Nat.{ℕ, zero, suc, ◌+◌, ◌^◌, ◌≤◌, ◌<◌}
-use native.Mathlib.Nat.{zero-add, add-zero, add_assoc, add_comm, not-suc-le-zero, le_of_suc-le-suc}
+use Prim.Native.Nat.{ℕ, zero, suc, ◌+◌, ◌≤◌, ◌<◌}
+use native.Mathlib.Nat.{zero-add, add-zero, add_assoc, not-suc-le-zero, le_of_suc-le-suc}
 use native.Mathlib.Omega.{arith}
 use borrow.Author.Tests.{eqb-true, leb-true, ltb-true}
 use lib.Dec.{eqb, leb, ltb}
 use lib.ListN.{length, get_or, take}
 use lib.Seq.{ext_get_or, get_or-take, length-take-le}
-use Rattle.spec.specs.Bytes.{each, every, sum}
-use Rattle.spec.specs.Join.{Occurrence, count_by, counts_by, sums, is_key, fit64}
-use Rattle.spec.proofs.Tests.{bool_cases, and_left, and_right}
+use Rattle.spec.specs.Bytes.{every}
+use Rattle.spec.specs.Join.{Occurrence, count_by, counts_by, sums, is_key}
+use Rattle.spec.proofs.Tests.{and_left, and_right}
 use Rattle.spec.proofs.FileLaws.{every-at}
 use Rattle.spec.proofs.Sums.{sum_up, sum_same, sum-none, sum-add, sum-single}
 use Rattle.spec.proofs.Tabulated.{length-tabulated, tabulated-at}

@@ -1,10 +1,9 @@
 -- What crosses a chunk's end, said by request #108's sentence, and by document 01's cell where the next chunk has no set. For all records, also
 -- those that no chunk gives. Assumes nothing.
-use mathlib.Core.Path.{◌≡◌, refl, sym, ◌∙◌}
+use mathlib.Core.Path.{◌≡◌, refl}
 use mathlib.Core.Bool.{Bool, true, false, ◌&&◌, ◌||◌, and-false, or-false}
 use mathlib.Core.List.{List, [], ◌∷◌}
 use Prim.Native.Nat.{ℕ, ◌+◌, ◌-◌, ◌≤◌, ◌<◌}
-use native.Mathlib.Omega.{arith}
 use lib.ListN.{length, drop}
 use Rattle.spec.specs.Bytes.{begins, in_set}
 use Rattle.spec.specs.Records.{ChunkRecords, record_at}

@@ -1,14 +1,14 @@
 -- Laws of folding, and of a comparison that folds byte by byte. Assumes nothing.
-use mathlib.Core.Path.{◌≡◌, refl, sym, ap, ap₂, ◌∙◌, subst}
-use mathlib.Core.Logic.{◌≢◌, ◌⊎◌, inl, inr, ⊎_elim}
-use mathlib.Core.Bool.{Bool, true, false, ◌&&◌, ◌||◌, not, cond, and-false, false≢true}
+use mathlib.Core.Path.{◌≡◌, refl, sym, ap, ◌∙◌}
+use mathlib.Core.Logic.{◌≢◌, ⊎_elim}
+use mathlib.Core.Bool.{Bool, true, false, ◌&&◌, not, and-false, false≢true}
 use mathlib.Core.List.{List, [], ◌∷◌, ◌++◌, map}
 use Prim.Native.Nat.{ℕ, zero, suc, ◌+◌, ◌-◌, ◌≤◌, ◌<◌}
 use native.Mathlib.Omega.{arith}
 use borrow.Author.Tests.{eq-eqb, ne_eqb}
 use lib.ListN.{length, take, drop, get_or, length-map, length-drop, drop_of_length-le}
 use lib.Seq.{drop-cons, take_all}
-use lib.Dec.{eqb, leb}
+use lib.Dec.{eqb}
 use Rattle.spec.specs.Bytes.{begins, occurs_at, largest, same}
 use Rattle.spec.specs.Keywords.{is_upper, fold_byte, folded, folded_all}
 use Rattle.spec.specs.Records.{reach, ends_with, starts_with, prefix_of, suffix_of}

@@ -4,7 +4,7 @@
 -- tests there, and the induction over the chunks only cuts the range of offsets at the chunk's end. Assumes nothing.
 use mathlib.Core.Path.{◌≡◌, refl, sym, ap, ap₂, ◌∙◌}
 use mathlib.Core.Logic.{◌⊎◌, inl, inr, ⊎_elim}
-use mathlib.Core.Bool.{Bool, true, false, ◌&&◌, ◌||◌, and-false, or-false, cond}
+use mathlib.Core.Bool.{Bool, true, false, ◌&&◌, ◌||◌, or-false, cond}
 use mathlib.Core.List.{List, [], ◌∷◌, ◌++◌, append-nil, map}
 use Prim.Native.Nat.{ℕ, zero, suc, ◌+◌, ◌-◌, ◌≤◌, ◌<◌}
 use native.Mathlib.Nat.{zero-add, le_of_suc-le-suc, not-suc-le-zero}
@@ -13,11 +13,11 @@ use lib.ListN.{length, drop, get_or, length-drop, length-append}
 use lib.Seq.{drop-drop, drop-append_seam}
 use lib.Dec.{leb}
 use Rattle.spec.specs.Bytes.{begins, occurs_at, each, every, joined, in_set}
-use Rattle.spec.specs.Keywords.{folded, folded_all, flag_of, keywords_of, folded_keywords, longest, fold_byte}
+use Rattle.spec.specs.Keywords.{folded, folded_all, flag_of, keywords_of, folded_keywords, longest}
 use Rattle.spec.specs.Form.{Form}
-use Rattle.spec.specs.Records.{record_of, records_of, record_at, empty_record, prefix_of, suffix_of, MatchRecord, ChunkRecords, lies_at, inner_of}
+use Rattle.spec.specs.Records.{record_of, records_of, record_at, empty_record, prefix_of, suffix_of, MatchRecord, lies_at, inner_of}
 use Rattle.spec.specs.Recipes.{all_but_last, inner_long}
-use Rattle.spec.specs.Join.{Occurrence, keyword_at, occurrences_at, crosses_into, listed, join_from, join_file, join_files, inner_least, ends, goes_on}
+use Rattle.spec.specs.Join.{Occurrence, keyword_at, occurrences_at, listed, join_from, join_file, join_files, inner_least, ends, goes_on}
 use Rattle.spec.specs.Scan.{scan_records}
 use Rattle.spec.specs.Search.{occurrences_in, occurrences_in_all}
 use Rattle.spec.proofs.Tests.{le-or-lt, leb-true, bool_cases, and_left, and_right, le-of-and}
@@ -26,7 +26,7 @@ use Rattle.spec.proofs.Sets.{has-set, has_above, none-empty}
 use Rattle.spec.proofs.Each.{each-match, each_append}
 use Rattle.spec.proofs.OccurrencesAt.{occurrences_at-same}
 use Rattle.spec.proofs.Folding.{folded-length, folded-append, lengths-folded}
-use Rattle.spec.proofs.Point.{starts, starts-guard, prefix-le, suffix-tells, crosses-split, point}
+use Rattle.spec.proofs.Point.{starts-guard, prefix-le, suffix-tells, point}
 use Rattle.spec.proofs.Crossing.{crosses-sentence}
 
 -- ---- keywords

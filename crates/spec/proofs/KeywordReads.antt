@@ -3,13 +3,13 @@
 use mathlib.Core.Path.{◌≡◌, refl, sym, ap, ◌∙◌, subst}
 use mathlib.Core.Bool.{false}
 use mathlib.Core.List.{List, [], ◌∷◌, ◌++◌}
-use Prim.Native.Nat.{ℕ, zero, suc, ◌+◌, ◌-◌, ◌≤◌}
+use Prim.Native.Nat.{ℕ, zero, suc, ◌+◌, ◌≤◌}
 use native.Mathlib.Nat.{suc-add}
 use native.Mathlib.Omega.{arith}
 use borrow.Author.Tests.{ne_eqb, le-ltb}
 use lib.Dec.{ltb}
 use lib.ListN.{length, take, drop, length-append, length-take, take-append-drop}
-use lib.Seq.{take-append-le, drop-append-le, take-add, drop_at, length-take-le}
+use lib.Seq.{take-append-le, drop-append-le, length-take-le}
 use Rattle.spec.specs.Bytes.{twice}
 use Rattle.spec.specs.Keywords.{folded_all, count_of, flag_of, read_keywords, keywords_size, keywords_of, list_size, folded_keywords, read_code}
 use Rattle.spec.specs.Keywords.{header_wrong, keyword_code, keyword_front_code}

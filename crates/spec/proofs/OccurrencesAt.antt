@@ -1,13 +1,11 @@
 -- Laws of `occurrences_at`, the keywords that pass a test at one offset. Assumes nothing.
-use mathlib.Core.Path.{◌≡◌, refl, sym, ap, ap₂, ◌∙◌, subst}
-use mathlib.Core.Logic.{◌≢◌, ◌⊎◌, inl, inr}
-use mathlib.Core.Bool.{Bool, true, false}
-use mathlib.Core.List.{List, [], ◌∷◌, ◌++◌}
-use Prim.Native.Nat.{ℕ, zero, suc, ◌+◌, ◌-◌, ◌≤◌, ◌<◌}
+use mathlib.Core.Path.{◌≡◌}
+use mathlib.Core.Bool.{Bool, false}
+use mathlib.Core.List.{[]}
+use Prim.Native.Nat.{ℕ, ◌<◌}
 use native.Mathlib.Nat.{zero-add}
 use native.Mathlib.Omega.{arith}
-use Rattle.spec.specs.Bytes.{each, keep}
-use Rattle.spec.specs.Join.{Occurrence, occurrences_at}
+use Rattle.spec.specs.Join.{occurrences_at}
 use Rattle.spec.proofs.Each.{each_none, each-match}
 
 -- no keyword at an offset

@@ -6,7 +6,7 @@ use mathlib.Core.List.{List, [], ◌++◌, append_assoc}
 use Prim.Native.Nat.{ℕ, zero, suc, ◌+◌, ◌*◌, ◌≤◌, ◌<◌}
 use native.Mathlib.Nat.{add-zero}
 use native.Mathlib.Omega.{arith}
-use lib.ListN.{length, take, drop, get_or, length-take, length-drop, take-append-drop}
+use lib.ListN.{length, drop, get_or, length-take, length-drop, take-append-drop}
 use lib.Seq.{drop-drop, drop-length, length-take-le}
 use Rattle.spec.specs.Bytes.{part, field_at, le_bytes, AllBytes}
 use Rattle.spec.specs.Keywords.{list_size}

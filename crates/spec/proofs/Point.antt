@@ -8,7 +8,6 @@ use Prim.Native.Nat.{ℕ, ◌+◌, ◌-◌, ◌≤◌, ◌<◌, min}
 use native.Mathlib.Omega.{arith}
 use lib.ListN.{length, take, drop, length-drop, drop_of_length-le}
 use lib.Seq.{drop-drop, length-take-le, drop-append-le}
-use lib.Dec.{leb}
 use Rattle.spec.specs.Bytes.{begins, occurs_at, member}
 use Rattle.spec.specs.Records.{reach, ends_with, starts_with, prefix_of, suffix_of, offsets_of}
 use Rattle.spec.specs.Table.{in_cell}

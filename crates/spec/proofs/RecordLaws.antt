@@ -1,23 +1,23 @@
 -- Match records and bodies: what is written reads back as the same, and a body has one written form. A record's head says its kind, so each
 -- law goes by the three kinds of a full record and the tiny one; bodies follow by induction on the keywords. Assumes nothing.
-use mathlib.Core.Path.{◌≡◌, refl, sym, ap, ap₂, ◌∙◌, subst}
-use mathlib.Core.Logic.{◌≢◌, ◌⊎◌, inl, inr, ⊎_elim}
-use mathlib.Core.Bool.{Bool, true, false, ◌&&◌, ◌||◌, not, cond, and-true, and-false, and_assoc, false≢true, true≢false}
+use mathlib.Core.Path.{◌≡◌, refl, sym, ap, ◌∙◌}
+use mathlib.Core.Logic.{◌⊎◌, inl, inr}
+use mathlib.Core.Bool.{Bool, true, false, ◌&&◌, not, cond, and-true, and-false, false≢true}
 use mathlib.Core.List.{List, [], ◌∷◌, ◌++◌, append_assoc}
 use Prim.Native.Nat.{ℕ, zero, suc, ◌+◌, ◌-◌, ◌*◌, ◌/◌, ◌%◌, ◌^◌, ◌≤◌, ◌<◌, min}
 use native.Mathlib.Nat.{add-mul-div_left, add-mul-mod_self_left, mod-eq_of_lt, div-eq_of_lt, zero-add, add-zero}
 use native.Mathlib.Omega.{arith}
-use lib.Dec.{eqb, leb, ltb, eqb→eq, leb→le, ltb→lt, leb-zero, eqb-suc-zero}
+use lib.Dec.{eqb, leb, ltb, eqb→eq, leb→le, ltb→lt}
 use lib.Pow.{pow_mono, pow_pos}
-use lib.ListN.{length, take, drop, get_or, length-append, length-drop, take-append-drop}
+use lib.ListN.{length, drop, get_or, length-append}
 use lib.Seq.{take_at, drop_at, drop-drop}
-use Rattle.spec.specs.Bytes.{le_value, le_bytes, field_at, fields_of, fields_bytes, same, begins, rising, every}
+use Rattle.spec.specs.Bytes.{le_value, le_bytes, field_at, fields_bytes, same, begins, rising, every}
 use Rattle.spec.specs.Form.{Form, form1, form2, form3}
 use Rattle.spec.specs.Records.{MatchRecord, empty_record, is_empty, is_tiny, reach, in_range, kind_of, offsets_bytes, full_bytes, tiny_bytes, record_bytes}
 use Rattle.spec.specs.Records.{body_from, body_bytes, read_offsets, read_record, record_size, read_from, read_body, all_in_range, good_body, head_bytes}
 use Rattle.spec.specs.Records.{set_in_range, set_bytes, set_is_next, record_is_next, record_taken, set_taken, read_set, with_set, read_keyword, behind_keyword}
 use Rattle.spec.proofs.Tests.{le-or-lt, T_of, and_left, and_right, leb-true, leb-false, eqb_same, eqb-ne, bool_cases, le-of-and}
-use Rattle.spec.proofs.Same.{same-eq, same_of, same_refl}
+use Rattle.spec.proofs.Same.{same-eq, same_refl}
 use Rattle.spec.proofs.Fields.{length-le_bytes, le_value-le_bytes}
 use Rattle.spec.proofs.FieldLists.{length-fields_bytes, fields_of-fields_bytes}
 

@@ -1,14 +1,14 @@
 -- Laws of rising lists of numbers, and that the numbers of a range that are in one are the list. Assumes nothing.
-use mathlib.Core.Path.{◌≡◌, refl, sym, ap, ap₂, ◌∙◌, subst}
-use mathlib.Core.Logic.{◌≢◌, ◌⊎◌, inl, inr}
-use mathlib.Core.Bool.{Bool, true, false, ◌&&◌, ◌||◌, or-true}
-use mathlib.Core.List.{List, [], ◌∷◌, ◌++◌}
+use mathlib.Core.Path.{◌≡◌, refl, ap, ◌∙◌, subst}
+use mathlib.Core.Logic.{◌⊎◌, inl, inr}
+use mathlib.Core.Bool.{Bool, true, false, ◌&&◌, or-true}
+use mathlib.Core.List.{List, [], ◌∷◌}
 use Prim.Native.Nat.{ℕ, zero, suc, ◌+◌, ◌-◌, ◌≤◌, ◌<◌}
-use native.Mathlib.Nat.{zero-add, eq-or-lt_of_le, zero-lt-suc, not-suc-le-zero, le_of_suc-le-suc}
+use native.Mathlib.Nat.{eq-or-lt_of_le, zero-lt-suc, not-suc-le-zero, le_of_suc-le-suc}
 use native.Mathlib.Omega.{arith}
 use lib.ListN.{length, get_or}
-use lib.Dec.{leb, eqb, ltb, ltb→lt}
-use Rattle.spec.specs.Bytes.{each, keep, every, member, rising}
+use lib.Dec.{leb, ltb, ltb→lt}
+use Rattle.spec.specs.Bytes.{every, member, rising}
 use Rattle.spec.proofs.Tests.{leb-true, eqb-ne, eqb_same, T_of, and_left, and_right, le-of-and}
 use Rattle.spec.proofs.Each.{each-match, each_none, passing}
 

@@ -1,6 +1,6 @@
 -- Lists of bytes: parts, fields, comparison, and lists made by going through a range. Everything else is said in these words.
 -- Integers in files are unsigned, least significant byte first (document 01, introduction).
-use Rattle.std.specs.Prelude.{Bool, true, false, ◌&&◌, ◌||◌, cond, List, [], ◌∷◌, ◌++◌, ℕ, zero, suc, ◌+◌, ◌*◌, ◌-◌, ◌/◌, ◌%◌, ◌<◌, ◌^◌, length, take, drop, get_or, eqb, leb, ltb}
+use Rattle.std.specs.Prelude.{Bool, true, false, ◌&&◌, ◌||◌, cond, List, [], ◌∷◌, ◌++◌, ℕ, zero, suc, ◌+◌, ◌*◌, ◌/◌, ◌%◌, ◌<◌, ◌^◌, length, take, drop, get_or, eqb, ltb}
 
 -- ---- parts and fields
 

@@ -1,6 +1,6 @@
 -- Directories: entries of a fixed size that begin with a fingerprint (20 opaque bytes). A store and an index have one each.
-use Rattle.std.specs.Prelude.{Bool, true, false, ◌&&◌, ◌||◌, not, List, [], ◌∷◌, ℕ, zero, suc, ◌+◌, ◌*◌, length, take, drop, eqb, leb, ltb}
-use Rattle.spec.specs.Bytes.{part, field_at, twice, position_of}
+use Rattle.std.specs.Prelude.{◌||◌, not, List, [], ◌∷◌, ℕ, zero, suc, ◌+◌, ◌*◌, length, take, drop, eqb, ltb}
+use Rattle.spec.specs.Bytes.{part, field_at}
 use Rattle.spec.specs.Outcome.{first_number, whole}
 
 -- Where a directory lies and where the fields of its entries are, counted from an entry's start; each field has 4 bytes.

@@ -1,12 +1,12 @@
 -- Match indexes: document 01, "Notes file". A match index is the paper's "notes file"; an entry's body holds the chunk's records.
-use Rattle.std.specs.Prelude.{Bool, true, false, ◌||◌, not, List, [], ◌∷◌, ◌++◌, map, ℕ, ◌+◌, ◌*◌, length, take, drop, ltb}
+use Rattle.std.specs.Prelude.{Bool, ◌||◌, not, List, [], ◌∷◌, ◌++◌, map, ℕ, ◌+◌, ◌*◌, length, take, drop, ltb}
 use Rattle.spec.specs.Bytes.{le_bytes, same, twice, each, every, joined}
 use Rattle.spec.specs.Outcome.{first_number, whole, first_code, index_mark_wrong, index_entry_wrong, index_duplicate, body_not_good}
 use Rattle.spec.specs.Keywords.{keywords_of, list_size, keyword_front_code}
 use Rattle.spec.specs.Directory.{Layout, directory_end, size_at, pointed_at, keys_in, entries_code}
 use Rattle.spec.specs.Store.{chunk_count, most_chunks}
 use Rattle.spec.specs.Form.{Form}
-use Rattle.spec.specs.Records.{MatchRecord, ChunkRecords, read_body, good_body}
+use Rattle.spec.specs.Records.{ChunkRecords, read_body, good_body}
 
 -- ---- the written form
 

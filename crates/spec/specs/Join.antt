@@ -1,5 +1,5 @@
 -- The join: document 01, "Joining two notes" and "Recipes and the join". It is defined on any records, also those that no chunk gives.
-use Rattle.std.specs.Prelude.{Bool, true, false, ◌&&◌, ◌||◌, not, cond, List, [], ◌∷◌, ◌++◌, map, ℕ, zero, suc, ◌+◌, ◌*◌, ◌-◌, ◌^◌, length, replicate, drop, get_or, take, eqb, leb, ltb}
+use Rattle.std.specs.Prelude.{Bool, false, ◌&&◌, ◌||◌, not, cond, List, [], ◌∷◌, ◌++◌, map, ℕ, zero, suc, ◌+◌, ◌*◌, ◌-◌, ◌^◌, length, replicate, drop, get_or, take, eqb, leb, ltb}
 use Rattle.spec.specs.declared.Outcome.{Outcome}
 use Rattle.spec.specs.declared.Tally.{Tally}
 use Rattle.spec.specs.Bytes.{le_bytes, field_at, written, position_of, each, keep, member, begins, every, in_set}
@@ -7,7 +7,7 @@ use Rattle.spec.specs.Outcome.{first_number, whole, answer, unless_refused, list
 use Rattle.spec.specs.Keywords.{folded_keywords, keywords_of, longest}
 use Rattle.spec.specs.Directory.{size_at}
 use Rattle.spec.specs.Form.{Form}
-use Rattle.spec.specs.Records.{MatchRecord, ChunkRecords, record_at}
+use Rattle.spec.specs.Records.{ChunkRecords, record_at}
 use Rattle.spec.specs.Index.{list_in, index_layout, index_keys, index_records, index_code}
 use Rattle.spec.specs.Table.{in_cell}
 use Rattle.spec.specs.Recipes.{files_of, recipes_code, files_code}

@@ -1,5 +1,5 @@
 -- Keyword lists: document 01, "Words". A keyword is the paper's "word"; alike means the same under the fold flag.
-use Rattle.std.specs.Prelude.{Bool, true, false, ◌&&◌, ◌||◌, not, cond, List, [], ◌∷◌, ◌++◌, map, ℕ, zero, suc, ◌+◌, max, length, take, drop, get_or, eqb, leb, ltb}
+use Rattle.std.specs.Prelude.{Bool, ◌&&◌, ◌||◌, not, cond, List, [], ◌∷◌, ◌++◌, map, ℕ, zero, suc, ◌+◌, max, length, take, drop, get_or, eqb, leb, ltb}
 use Rattle.spec.specs.Bytes.{twice, joined}
 use Rattle.spec.specs.Outcome.{Test, first_number, whole, keywords_cut, keywords_header, keyword_length, keywords_alike}
 

@@ -1,5 +1,5 @@
 -- The two lookups: document 01, "The two lookups". One call gives the number, 0 when found; the other the slice of the lent bytes.
-use Rattle.std.specs.Prelude.{Bool, not, cond, List, [], ◌∷◌, ℕ, length, eqb}
+use Rattle.std.specs.Prelude.{not, cond, List, [], ◌∷◌, ℕ, length, eqb}
 use Rattle.spec.specs.Bytes.{part, contains, position_of}
 use Rattle.spec.specs.Outcome.{first_number, whole, not_found, fingerprint_length}
 use Rattle.spec.specs.Directory.{Layout, offset_at, length_at}

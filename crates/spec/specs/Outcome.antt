@@ -1,5 +1,5 @@
 -- Answers: the numbers of document 01's section "Refusals by operation", each under a name, and how an operation's tests give its answer.
-use Rattle.std.specs.Prelude.{Bool, true, false, cond, List, [], ◌∷◌, map, ℕ, eqb, ltb}
+use Rattle.std.specs.Prelude.{Bool, cond, List, [], ◌∷◌, map, ℕ, eqb, ltb}
 use Rattle.spec.specs.declared.Outcome.{Outcome}
 use Rattle.spec.specs.declared.Outcome.TheVariants.{Done, Refused}
 

@@ -1,5 +1,5 @@
 -- Recipes: document 01, "Recipes and the join", and the tests 14 to 17 of its refusals.
-use Rattle.std.specs.Prelude.{Bool, true, false, ◌&&◌, ◌||◌, not, List, [], ◌∷◌, ◌++◌, map, ℕ, zero, suc, ◌+◌, ◌*◌, ◌-◌, ◌/◌, length, drop, leb, ltb}
+use Rattle.std.specs.Prelude.{Bool, true, ◌&&◌, not, List, [], ◌∷◌, ◌++◌, map, ℕ, zero, suc, ◌+◌, ◌*◌, ◌-◌, ◌/◌, length, drop, leb, ltb}
 use Rattle.spec.specs.Bytes.{largest32, le_bytes, field_at, contains, position_of, every, sum, joined, same}
 use Rattle.spec.specs.Outcome.{first_number, first_code, recipes_wrong, not_found, file_too_long, inner_chunk_short}
 use Rattle.spec.specs.Directory.{keys_of}

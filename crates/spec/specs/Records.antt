@@ -1,8 +1,8 @@
 -- Match records: document 01, "Notes on one chunk and one word", and their written form, "Notes file" (kinds 0 to 3); request #108's sets (kind 4).
 -- Keywords and chunks here are folded already, so bytes compare as they are.
-use Rattle.std.specs.Prelude.{Bool, true, false, ◌&&◌, ◌||◌, not, cond, List, [], ◌∷◌, ◌++◌, map, ℕ, zero, suc, ◌+◌, ◌*◌, ◌-◌, ◌/◌, ◌%◌, ◌^◌, min, length, take, drop, get_or, eqb, leb, ltb}
+use Rattle.std.specs.Prelude.{Bool, true, false, ◌&&◌, not, cond, List, [], ◌∷◌, ◌++◌, map, ℕ, zero, suc, ◌+◌, ◌*◌, ◌-◌, ◌/◌, ◌%◌, ◌^◌, min, length, take, drop, get_or, eqb, leb, ltb}
 use Rattle.spec.specs.Form.{Form}
-use Rattle.spec.specs.Bytes.{le_value, le_bytes, field_at, fields_of, fields_bytes, same, begins, occurs_at, each, keep, largest, rising, every, set_of}
+use Rattle.spec.specs.Bytes.{le_bytes, field_at, fields_of, fields_bytes, same, begins, occurs_at, each, keep, largest, rising, every, set_of}
 
 -- ---- the record of one chunk and one keyword
 

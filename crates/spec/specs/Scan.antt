@@ -1,5 +1,5 @@
 -- The scan: it writes the index of a store, chunk by chunk (document 01, "Notes file" and "Refusals by operation").
-use Rattle.std.specs.Prelude.{Bool, ◌||◌, List, [], ◌∷◌, map, ℕ, ◌+◌, length, get_or, ltb}
+use Rattle.std.specs.Prelude.{◌||◌, List, [], ◌∷◌, map, ℕ, length, get_or, ltb}
 use Rattle.spec.specs.declared.Outcome.{Outcome}
 use Rattle.spec.specs.declared.Outcome.TheVariants as outcome
 use Rattle.spec.specs.declared.Scanned.{Scanned}

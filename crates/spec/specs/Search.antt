@@ -1,5 +1,5 @@
 -- The search: what a scan and a join of its index answer together, said by the restored files alone (demand 3).
-use Rattle.std.specs.Prelude.{Bool, true, false, cond, List, [], ◌∷◌, ◌++◌, map, ℕ, suc, ◌*◌, length, eqb, ltb}
+use Rattle.std.specs.Prelude.{cond, List, [], ◌∷◌, ◌++◌, map, ℕ, suc, ◌*◌, length, eqb, ltb}
 use Rattle.spec.specs.declared.Searched.{Searched}
 use Rattle.spec.specs.declared.Searched.TheVariants.{ScanRefused, JoinRefused, Found}
 use Rattle.spec.specs.Bytes.{written, position_of, occurs_at, each, joined}

@@ -1,5 +1,5 @@
 -- Stores: document 01, "Store".
-use Rattle.std.specs.Prelude.{Bool, true, false, ◌||◌, not, List, [], ◌∷◌, ◌++◌, map, ℕ, zero, suc, ◌+◌, ◌*◌, length, take, drop, get_or, eqb, ltb}
+use Rattle.std.specs.Prelude.{◌||◌, not, List, [], ◌∷◌, ◌++◌, map, ℕ, zero, suc, ◌+◌, ◌*◌, length, take, get_or, eqb, ltb}
 use Rattle.spec.specs.Bytes.{largest32, le_bytes, field_at, same, twice, each, joined}
 use Rattle.spec.specs.Outcome.{first_number, whole, store_mark_wrong, store_directory_cut, store_entry_wrong, store_duplicate, store_entry_beyond}
 use Rattle.spec.specs.Directory.{Layout, directory_end, size_at, offset_at, pointed_at, keys_in}

@@ -1,3 +1,5 @@
+#![tactic(auto)]
+
 // The answer of an operation that writes or counts. What its cases mean in document 01's numbers is said by `code_of` and `value_of` in
 // specs/Outcome.antt; the definitions of this crate are what every contract of the other crates cites.
 #[derive(Clone, Copy)]

@@ -1,9 +1,8 @@
 -- What a tally is added to from: counts by keyword number, and a key that gives each keyword its client (request #110).
-use Rattle.std.specs.Prelude.{cond, not, List, [], ◌∷◌, ℕ, ◌+◌, eqb, get_or}
-use Rattle.spec.specs.declared.Tally.{Tally}
+use Rattle.std.specs.Prelude.{cond, not, List, [], ◌∷◌, ℕ, eqb, get_or}
 use Rattle.spec.specs.Bytes.{each, sum}
 use Rattle.spec.specs.Outcome.{first_number, unless_refused, key_wrong, count_too_large}
-use Rattle.spec.specs.Join.{counts_of, sums, is_key, fit64}
+use Rattle.spec.specs.Join.{sums, is_key, fit64}
 
 -- The sum of the counts of a client's keywords, of the keywords below n.
 unfoldable pub client_sum : List ℕ → List ℕ → ℕ → ℕ → ℕ

@@ -1,4 +1,6 @@
 // The tally of four clients' counts (request #110): a key gives each keyword its client, and what a join lists is added client by client, by value.
+#![tactic(auto)]
+
 ghost use Rattle.std.specs.Prelude.{◌≡◌, true, ℕ, ◌+◌, ◌^◌, ◌≤◌, ◌<◌, ltb, length, get_or};
 ghost use Rattle.spec.specs.Join.{counts_of, sums, is_key, fit64};
 ghost use Rattle.tally.specs.Tallying.{client_sum, client_sums, add_code, added_to};

@@ -2,26 +2,26 @@
 -- that a scan writes passes the index check and says what its chunks give. The laws are those of spec/proofs; here stand the claims.
 -- Assumes nothing.
 use mathlib.Core.Path.{◌≡◌, refl, sym, ap, ◌∙◌}
-use mathlib.Core.Bool.{true, false}
+use mathlib.Core.Bool.{true}
 use mathlib.Core.List.{List, [], ◌∷◌, map}
 use Prim.Native.Nat.{ℕ, ◌≤◌, ◌<◌}
 use native.Mathlib.Nat.{zero-add}
 use native.Mathlib.Omega.{arith}
 use lib.ListN.{length, get_or, length-map}
-use Rattle.spec.specs.Bytes.{twice, AllBytes}
-use Rattle.spec.specs.Keywords.{keywords_of, keyword_code}
+use Rattle.spec.specs.Bytes.{AllBytes}
+use Rattle.spec.specs.Keywords.{keywords_of}
 use Rattle.spec.specs.Directory.{size_at}
-use Rattle.spec.specs.Store.{chunk_count, most_chunks, store_keys, chunk_at}
+use Rattle.spec.specs.Store.{chunk_count, store_keys, chunk_at}
 use Rattle.spec.specs.Form.{Form}
 use Rattle.spec.specs.Records.{MatchRecord, ChunkRecords, body_bytes, read_body, all_in_range, good_body}
 use Rattle.spec.specs.Index.{Entry, index_bytes, list_in, index_layout, index_keys, body_at, lengths_in, index_records, good_at, index_code, list_bytes_in}
 use Rattle.spec.specs.Scan.{scan_records, scan_index, scan_code}
-use Rattle.theory.specs.RecordSets.{Said, nothing, entry_for, written_index, Fitting, AllFitting, Says, said_in, scanned_records}
+use Rattle.theory.specs.RecordSets.{Said, nothing, entry_for, written_index, AllFitting, Says, said_in, scanned_records}
 use Rattle.spec.proofs.JoinIsSearch.{get_d_map}
 use Rattle.spec.proofs.KeywordLaws.{folded-lengths}
 use Rattle.spec.proofs.KeywordReads.{own-list}
 use Rattle.spec.proofs.RecordLaws.{FormGood, all_proper, body-read, good-written, good-is-written}
-use Rattle.spec.proofs.Tabulated.{tabulated, length-tabulated, tabulated-at, tabulated-get_or, tabulated-same, map-tabulated}
+use Rattle.spec.proofs.Tabulated.{length-tabulated, tabulated-at, tabulated-get_or, tabulated-same, map-tabulated}
 use Rattle.spec.proofs.WrittenEntries.{Fits, no_entry, Every, SizeIn}
 use Rattle.spec.proofs.IndexLaws.{Writable, index-length, index-mark, index-count, index-list, index-list-bytes, index-layout, index-keys}
 use Rattle.spec.proofs.IndexLaws.{index-lengths, index-size, index-body, index-entries}

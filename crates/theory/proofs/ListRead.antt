@@ -1,9 +1,9 @@
 -- The list that a join writes reads back: every number of the direct search fits its field, since there are at most 65,535 files (14), no file has
 -- more than 4,294,967,295 bytes (16), and there are at most 16 keywords. Assumes nothing.
-use mathlib.Core.Path.{◌≡◌, refl, sym, ap, ap₂, ◌∙◌}
-use mathlib.Core.Bool.{Bool, true, false, ◌&&◌, or-true}
-use mathlib.Core.List.{List, [], ◌∷◌, ◌++◌, map, append_assoc}
-use Prim.Native.Nat.{ℕ, zero, suc, ◌+◌, ◌*◌, ◌^◌, ◌≤◌, ◌<◌}
+use mathlib.Core.Path.{◌≡◌, refl, sym, ap, ◌∙◌}
+use mathlib.Core.Bool.{Bool, true, ◌&&◌, or-true}
+use mathlib.Core.List.{List, [], ◌∷◌, ◌++◌, map}
+use Prim.Native.Nat.{ℕ, zero, suc, ◌+◌, ◌*◌, ◌≤◌, ◌<◌}
 use native.Mathlib.Nat.{not-suc-le-zero}
 use native.Mathlib.Omega.{arith}
 use lib.ListN.{length, get_or, drop, length-append, length-map}
@@ -14,11 +14,11 @@ use Rattle.spec.specs.Keywords.{flag_of, folded, folded_keywords, keyword_code}
 use Rattle.spec.specs.Directory.{size_at}
 use Rattle.spec.specs.Store.{store_layout, store_keys}
 use Rattle.spec.specs.Form.{Form}
-use Rattle.spec.specs.Recipes.{most_files, file_count, read_files, file_code, files_code, files_of, recipes_code}
-use Rattle.spec.specs.Join.{Occurrence, keyword_at, occurrence_bytes, list_bytes, read_list}
+use Rattle.spec.specs.Recipes.{most_files, file_count, read_files, files_code, files_of, recipes_code}
+use Rattle.spec.specs.Join.{Occurrence, keyword_at, list_bytes, read_list}
 use Rattle.spec.specs.Search.{chunk_named, restored, direct_search}
 use Rattle.spec.proofs.Tests.{and_left, and_right}
-use Rattle.spec.proofs.Codes.{passed, passed-code}
+use Rattle.spec.proofs.Codes.{passed}
 use Rattle.spec.proofs.FileLaws.{FileAccepted, files-accepted}
 use Rattle.spec.proofs.Folding.{folded-length}
 use Rattle.spec.proofs.JoinIsSearch.{get_d_map}

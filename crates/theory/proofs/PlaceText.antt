@@ -2,17 +2,14 @@
 -- the stream of one keyword (spec's Stream), with the cell as the list of its starts. Assumes nothing.
 use mathlib.Core.Path.{◌≡◌, refl, sym, ap, ◌∙◌}
 use mathlib.Core.Bool.{Bool, true, false, or-false}
-use mathlib.Core.List.{List, [], ◌∷◌, ◌++◌, map, append-nil, map-append}
+use mathlib.Core.List.{List, [], ◌++◌, map, append-nil, map-append}
 use Prim.Native.Nat.{ℕ, zero, suc, ◌+◌, ◌-◌, ◌≤◌, ◌<◌, min}
 use native.Mathlib.Omega.{arith}
 use lib.ListN.{length, length-append, length-take, length-drop}
-use lib.Dec.{leb}
-use borrow.Author.Tests.{leb-true, lt-ltb}
-use Rattle.spec.specs.Bytes.{each, keep, every, rising}
+use Rattle.spec.specs.Bytes.{each, keep, rising}
 use Rattle.spec.specs.Records.{MatchRecord, ChunkRecords, record_at, reach, in_range, offsets_of}
 use Rattle.spec.specs.Table.{border_text, cell_of, in_cell}
 use Rattle.spec.specs.Join.{keyword_at, listed}
-use Rattle.spec.proofs.Tests.{and_left, and_right}
 use Rattle.spec.proofs.Each.{each-match, each_append, each_none, passing}
 use Rattle.spec.proofs.Rising.{all_below, below-prefix, passing-member}
 use Rattle.spec.proofs.RecordLaws.{prefix-in, suffix-in, offsets-rise, offsets-in}

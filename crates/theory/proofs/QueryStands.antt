@@ -142,7 +142,7 @@ module _ (list : List ℕ) (accept : keyword_code list ≡ 0) (file : ℕ) (text
       l = ltb-true k (length words) (and_left (ltb k (length words)) (every (λ j. ltb j (length words)) query) e)
 
       size : get_or (map length words) k 0 ≡ length (keyword_at words k)
-      size = ListN.get_d_map length words k []
+      size = ListN.get_or-map length words k []
 
       More : Type 0
       More = (is_choice (map length words) found (o + length (keyword_at words k)) query offsets ≡ true)

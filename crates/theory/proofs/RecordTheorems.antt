@@ -16,7 +16,7 @@ use lib.Seq.{take_at, take_all}
 use Rattle.spec.specs.Bytes.{begins, occurs_at, largest, member, rising, set_of, in_set}
 use Rattle.spec.specs.Form.{Form}
 use Rattle.spec.specs.Records.{MatchRecord, reach, ends_with, starts_with, prefix_of, suffix_of, offsets_of, record_of, lies_at, inner_of}
-use Rattle.theory.specs.Published.{Ends, Starts, Occurs, Inside, Published}
+use Rattle.theory.specs.Published.{Ends, Starts, Inside, Published}
 use Rattle.spec.proofs.Tests.{le-or-lt, eqb_same, leb-true, bool_cases, and_left, and_right}
 use Rattle.spec.proofs.Sets.{has-set, has_above, none-empty, set_same, set-of-bits}
 use Rattle.spec.proofs.Begins.{begins-front, begins-split, begins-short}

@@ -2,7 +2,7 @@
 -- so each stands for the same bytes in both; lookups, bodies, tests 15 to 17 and the direct search go by fingerprint; lengths and moves are sums
 -- over the chunks (AnyOrder). Assumes nothing.
 use mathlib.Core.Path.{◌≡◌, refl, sym, ap, ap₂, ◌∙◌}
-use mathlib.Core.Logic.{◌≢◌, ⊎_elim}
+use mathlib.Core.Logic.{⊎_elim}
 use mathlib.Core.Bool.{Bool, true, false, cond, false≢true}
 use mathlib.Core.List.{List, [], ◌∷◌, map, map-map}
 use Prim.Native.Nat.{ℕ, zero, suc, ◌+◌, ◌*◌, ◌<◌}
@@ -14,7 +14,7 @@ use lib.ListN.{length, take, get_or, length-append}
 use Rattle.spec.specs.declared.Outcome.{Outcome}
 use Rattle.spec.specs.declared.Scanned.{Scanned}
 use Rattle.spec.specs.declared.Searched.TheVariants.{ScanRefused, JoinRefused, Found}
-use Rattle.spec.specs.Bytes.{written, part, same, contains, position_of, every, sum, joined}
+use Rattle.spec.specs.Bytes.{written, part, same, contains, position_of, every, sum}
 use Rattle.spec.specs.Outcome.{code_of, value_of, answer, unless_refused}
 use Rattle.spec.specs.Keywords.{flag_of, folded, folded_keywords}
 use Rattle.spec.specs.Directory.{Layout, pointed_at}

@@ -3,14 +3,14 @@
 -- before. Assumes nothing.
 use mathlib.Core.Path.{◌≡◌, refl, sym, ap, ◌∙◌}
 use mathlib.Core.Logic.{◌⊎◌, inl, inr}
-use mathlib.Core.Bool.{Bool, true, false, not}
+use mathlib.Core.Bool.{Bool, true, false}
 use mathlib.Core.List.{List, [], ◌∷◌, map, map-map}
 use Prim.Native.Nat.{ℕ, zero, suc, ◌*◌, ◌≤◌, ◌<◌}
 use native.Mathlib.Omega.{arith}
 use lib.ListN.{length, get_or}
 use lib.Dec.{ltb}
-use borrow.Author.Tests.{ltb-true, ltb-false, lt-ltb, le-leb, ne_eqb, not-false}
-use Rattle.spec.specs.Bytes.{largest32, written, contains, position_of, every, sum, joined}
+use borrow.Author.Tests.{ltb-true, lt-ltb, le-leb, ne_eqb}
+use Rattle.spec.specs.Bytes.{written, contains, position_of, every, joined}
 use Rattle.spec.specs.Outcome.{first_number, first_code, whole, answer, unless_refused}
 use Rattle.spec.specs.Keywords.{flag_of, folded, keywords_of, folded_keywords, keyword_code}
 use Rattle.spec.specs.Directory.{size_at}
@@ -23,7 +23,7 @@ use Rattle.spec.specs.Join.{join_buffer, join_tally}
 use Rattle.spec.specs.Scan.{scan_records}
 use Rattle.spec.specs.Search.{chunk_named, restored, direct_search, search_join_code, occurrences_in_all}
 use Rattle.spec.proofs.Tests.{bool_cases}
-use Rattle.spec.proofs.Codes.{passed, passed-whole, passed-code}
+use Rattle.spec.proofs.Codes.{passed-whole, passed-code}
 use Rattle.spec.proofs.EntryLaws.{contains-position}
 use Rattle.spec.proofs.Tabulated.{map-match}
 use Rattle.spec.proofs.FileLaws.{FileAccepted, file-accepted, map_same}

@@ -10,7 +10,6 @@ use borrow.Author.Tests.{ne_eqb, lt-ltb}
 use Rattle.spec.specs.declared.Outcome.{Outcome}
 use Rattle.spec.specs.declared.Outcome.TheVariants.{Done, Refused}
 use Rattle.spec.specs.declared.Scanned.{Scanned}
-use Rattle.spec.specs.declared.Scanned.TheVariants as Scanned
 use Rattle.spec.specs.declared.Searched.TheVariants.{ScanRefused, JoinRefused, Found}
 use Rattle.spec.specs.Outcome.{first_number, whole, code_of, value_of, answer, unless_refused}
 use Rattle.spec.specs.Form.{newest, form_of}

@@ -21,7 +21,7 @@ use Rattle.spec.proofs.RecordLaws.{prefix-in, suffix-in, le_of, range-first, ran
 use Rattle.spec.proofs.Forms.{FormRead, WriteForm, form-read, form1-of, form2-of, newest-of, form-writes}
 use Rattle.spec.proofs.IndexLaws.{mark-first}
 use Rattle.spec.proofs.WrittenEntries.{bodies_of}
-use Rattle.theory.specs.RecordSets.{Said, nothing, entry_for, written_index, Fitting, AllFitting, Says, IndexForm, WrittenOnce}
+use Rattle.theory.specs.RecordSets.{Said, nothing, entry_for, written_index, Fitting, AllFitting, IndexForm, WrittenOnce}
 use Rattle.theory.proofs.IndexTheorems.{records-read-back, one-index-form}
 
 -- ---- bytes put together

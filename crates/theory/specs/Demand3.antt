@@ -1,5 +1,5 @@
 -- Demand 3, one claim on a scan and any join of its index: for every store, keyword list, recipes, key, tally and buffers.
-use Rattle.std.specs.Prelude.{◌≡◌, ◌↔◌, true, List, map, ℕ, suc, ◌*◌, ◌≤◌, length, take}
+use Rattle.std.specs.Prelude.{◌≡◌, ◌↔◌, true, List, map, ℕ, ◌*◌, ◌≤◌, length, take}
 use Rattle.spec.specs.Bytes.{largest32, written}
 use Rattle.spec.specs.Outcome.{code_of, value_of, answer, unless_refused}
 use Rattle.spec.specs.Keywords.{flag_of, folded, keywords_of, folded_keywords, keyword_code}

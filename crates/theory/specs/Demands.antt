@@ -4,7 +4,6 @@ use Rattle.std.specs.Prelude.{◌≡◌, ◌↔◌, ◌≢◌, true, List, [], �
 use Rattle.spec.specs.declared.Outcome.{Outcome}
 use Rattle.spec.specs.declared.Outcome.TheVariants.{Done, Refused}
 use Rattle.spec.specs.declared.Scanned.{Scanned}
-use Rattle.spec.specs.declared.Scanned.TheVariants as Scanned
 use Rattle.spec.specs.Bytes.{AllBytes, written, member}
 use Rattle.spec.specs.Outcome.{code_of, value_of}
 use Rattle.spec.specs.Keywords.{flag_of, fold_byte, folded, keywords_of, folded_keywords, keyword_code}

@@ -2,7 +2,6 @@
 use Rattle.std.specs.Prelude.{◌≡◌, Bool, true, false, ◌&&◌, ◌||◌, List, [], ◌∷◌, ◌++◌, ℕ, length, get_or, eqb, leb, ltb}
 use Rattle.spec.specs.declared.Outcome.{Outcome}
 use Rattle.spec.specs.declared.Scanned.{Scanned}
-use Rattle.spec.specs.declared.Scanned.TheVariants as Scanned
 use Rattle.spec.specs.Bytes.{le_bytes, each, every}
 use Rattle.spec.specs.Directory.{directory_end, offset_at}
 use Rattle.spec.specs.Store.{Chunk, Placed, store_mark, store_layout, placed_bytes, gapless, chunk_count, chunk_end, store_code}

@@ -4,7 +4,6 @@ use Rattle.std.specs.Prelude.{◌≡◌, ◌≢◌, Bool, true, false, ◌&&◌,
 use Rattle.spec.specs.declared.Outcome.{Outcome}
 use Rattle.spec.specs.declared.Outcome.TheVariants.{Done}
 use Rattle.spec.specs.declared.Scanned.{Scanned}
-use Rattle.spec.specs.declared.Scanned.TheVariants as Scanned
 use Rattle.spec.specs.Bytes.{same, every}
 use Rattle.spec.specs.Outcome.{code_of, value_of}
 use Rattle.spec.specs.Store.{Chunk, store_bytes, chunk_count, store_code, stored_chunks}

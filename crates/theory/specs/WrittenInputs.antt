@@ -2,7 +2,7 @@
 -- check accepts is the written form of what it says, of a store with whatever holes (request #106). So a field that stood at a wrong place in a reader,
 -- or a byte of a hole that a reader took for a chunk's, would fail here.
 use Rattle.std.specs.Prelude.{◌≡◌, ◌↔◌, Bool, true, false, ◌&&◌, cond, List, [], ◌∷◌, map, ℕ, ◌≤◌, ◌<◌, length, get_or, eqb, leb}
-use Rattle.spec.specs.Bytes.{largest32, AllBytes, same, contains, twice, each, every, joined}
+use Rattle.spec.specs.Bytes.{largest32, AllBytes, same, contains, twice, every, joined}
 use Rattle.spec.specs.Keywords.{folded, folded_all, keyword_list_bytes, count_of, flag_of, keywords_of, list_size, keyword_code}
 use Rattle.spec.specs.Store.{Chunk, Placed, placed_bytes, most_chunks, chunk_count, store_keys, chunk_at, stored_chunks, store_code}
 use Rattle.spec.specs.Form.{newest}

@@ -45,11 +45,11 @@ turned c =
     let a = at.args in
     let P = Turn a.key.now a.counts a.client at.loop-k.k in
     ⊎_elim
-    (λ own. subst P (sym own.1) (turn-own a.key.now a.counts a.client at.loop-k.k at.loop-k.sum at.loop-k.invariant.1 at.loop-k.invariant.2
-    (at.requires.2 at.loop-k.k (omega arith)) own.0.true))
-    (λ other. subst P (sym other.1) (turn-other a.key.now a.counts a.client at.loop-k.k at.loop-k.sum at.loop-k.invariant.1 at.loop-k.invariant.2
-    other.0.false))
-    c.if-key-k.branch
+    (λ own. subst P (sym own.sum-is) (turn-own a.key.now a.counts a.client at.loop-k.k at.loop-k.sum at.loop-k.invariant.1 at.loop-k.invariant.2
+    (at.requires.2 at.loop-k.k (omega arith)) own.if-key-k.true))
+    (λ other. subst P (sym other.sum-is) (turn-other a.key.now a.counts a.client at.loop-k.k at.loop-k.sum at.loop-k.invariant.1 at.loop-k.invariant.2
+    other.if-key-k.false))
+    c.if-key-k.branch-raw
 
 loop-again : tie.Need-loop-k-preserved invariant-loop decreases-loop
 loop-again c = (omega arith, (turned c).0, (turned c).1)
