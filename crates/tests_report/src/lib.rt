@@ -1,5 +1,7 @@
 // What the tests count and print, and the comparison of what an operation answered with what was due.
 // Test support: proved safe and ending.
+#![tactic(auto)]
+
 pub mod due;
 pub mod holes;
 pub mod kinds;

@@ -7,5 +7,6 @@ use Rattle.tests_plain.proofs.case.long_room.Tie as tie
 returns : tie.Need-returns
 returns c = sym (length-replicate {A = ℕ} 1843000 0)
 
-pub long-room-spec : {M : Type 1} → statement M
-long-room-spec = tie.close (tie.spec returns)
+pub long_room_spec : {M : Type 1} → statement M
+long_room_spec = tie.close (tie.spec
+    returns)

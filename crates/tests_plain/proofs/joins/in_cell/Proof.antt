@@ -1,15 +1,15 @@
 -- `in_cell` is safe and ends. Assumes nothing.
-use Rattle.std.proofs.Common.{◌≡◌, ◌-◌, ◌≤◌, ◌⊎◌, length, rules}
+use Rattle.std.proofs.Common.{◌-◌, ◌≤◌, rules}
 use Rattle.tests_plain.proofs.joins.in_cell.Statement.{statement}
 use Rattle.tests_plain.proofs.joins.in_cell.Tie as tie
 
-abbrev invariant-loop : tie.invariant-loop
+abbrev invariant-loop : tie.invariant-loop-p
 invariant-loop m k i j start n p₀ p = (p ≤ n)
 
-abbrev decreases-loop : tie.decreases-loop
+abbrev decreases-loop : tie.decreases-loop-p
 decreases-loop m k i j start n p₀ p = n - p
 
-keyword-size-requires : tie.Need-keyword-size-requires invariant-loop decreases-loop
+keyword-size-requires : tie.Need-keyword_size-n-requires invariant-loop decreases-loop
 keyword-size-requires c κs = search rules
 
 plus-requires : tie.Need-plus-requires invariant-loop decreases-loop
@@ -18,40 +18,40 @@ plus-requires c κs = search rules
 plus-requires-2 : tie.Need-plus-requires-2 invariant-loop decreases-loop
 plus-requires-2 c κs = search rules
 
-returns : tie.Need-returns invariant-loop decreases-loop
+returns : tie.Need-returns-then-plus invariant-loop decreases-loop
 returns c = search rules
 
-loop-holds : tie.Need-loop-init invariant-loop decreases-loop
+loop-holds : tie.Need-loop-p-init invariant-loop decreases-loop
 loop-holds c = search rules
 
-keyword-at-requires : tie.Need-keyword-at-requires invariant-loop decreases-loop
+keyword-at-requires : tie.Need-keyword_at-requires invariant-loop decreases-loop
 keyword-at-requires c κs = search rules
 
-plus-requires-3 : tie.Need-plus-requires-3 invariant-loop decreases-loop
+plus-requires-3 : tie.Need-plus-requires-in-loop-p invariant-loop decreases-loop
 plus-requires-3 c κs = search rules
 
-plus-requires-4 : tie.Need-plus-requires-4 invariant-loop decreases-loop
+plus-requires-4 : tie.Need-plus-requires-in-loop-p-2 invariant-loop decreases-loop
 plus-requires-4 c κs = search rules
 
-get-requires : tie.Need-get-requires invariant-loop decreases-loop
+get-requires : tie.Need-get-a-requires invariant-loop decreases-loop
 get-requires c κs = search rules
 
-keyword-at-requires-2 : tie.Need-keyword-at-requires-2 invariant-loop decreases-loop
+keyword-at-requires-2 : tie.Need-keyword_at-requires-in-loop-p invariant-loop decreases-loop
 keyword-at-requires-2 c κs = search rules
 
-plus-requires-5 : tie.Need-plus-requires-5 invariant-loop decreases-loop
+plus-requires-5 : tie.Need-plus-requires-in-loop-p-3 invariant-loop decreases-loop
 plus-requires-5 c κs = search rules
 
-plus-requires-6 : tie.Need-plus-requires-6 invariant-loop decreases-loop
+plus-requires-6 : tie.Need-plus-requires-in-loop-p-4 invariant-loop decreases-loop
 plus-requires-6 c κs = search rules
 
-border-byte-requires : tie.Need-border-byte-requires invariant-loop decreases-loop
+border-byte-requires : tie.Need-border_byte-requires invariant-loop decreases-loop
 border-byte-requires c κs = search rules
 
-plus-requires-7 : tie.Need-plus-requires-7 invariant-loop decreases-loop
+plus-requires-7 : tie.Need-plus-requires-in-loop-p-5 invariant-loop decreases-loop
 plus-requires-7 c κs = search rules
 
-get-requires-2 : tie.Need-get-requires-2 invariant-loop decreases-loop
+get-requires-2 : tie.Need-get-b-requires invariant-loop decreases-loop
 get-requires-2 c κs = search rules
 
 flag-requires : tie.Need-flag-requires invariant-loop decreases-loop
@@ -60,31 +60,29 @@ flag-requires c κs = search rules
 folded-requires : tie.Need-folded-requires invariant-loop decreases-loop
 folded-requires c κs = search rules
 
-flag-requires-2 : tie.Need-flag-requires-2 invariant-loop decreases-loop
+flag-requires-2 : tie.Need-flag-requires-in-loop-p invariant-loop decreases-loop
 flag-requires-2 c κs = search rules
 
-folded-requires-2 : tie.Need-folded-requires-2 invariant-loop decreases-loop
+folded-requires-2 : tie.Need-folded-requires-in-loop-p invariant-loop decreases-loop
 folded-requires-2 c κs = search rules
 
-returns-2 : tie.Need-returns-2 invariant-loop decreases-loop
+returns-2 : tie.Need-returns-then-folded invariant-loop decreases-loop
 returns-2 c = search rules
 
-add-p : tie.Need-overflow-add-p invariant-loop decreases-loop
+add-p : tie.Need-overflow_step-p invariant-loop decreases-loop
 add-p c = search rules
 
-loop-less : tie.Need-loop-smaller invariant-loop decreases-loop
+loop-less : tie.Need-loop-p-smaller invariant-loop decreases-loop
 loop-less c = search rules
 
-loop-again : tie.Need-loop-preserved invariant-loop decreases-loop
+loop-again : tie.Need-loop-p-preserved invariant-loop decreases-loop
 loop-again c = search rules
 
-returns-3 : tie.Need-returns-3 invariant-loop decreases-loop
+returns-3 : tie.Need-returns invariant-loop decreases-loop
 returns-3 c = search rules
 
-pub in-cell-spec : {M : Type 1} → statement M
-in-cell-spec =
-    tie.close
-    (tie.spec
+pub in_cell_spec : {M : Type 1} → statement M
+in_cell_spec = tie.close (tie.spec
     invariant-loop
     decreases-loop
     keyword-size-requires

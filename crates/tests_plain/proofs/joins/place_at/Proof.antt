@@ -1,50 +1,48 @@
 -- `place_at` is safe and ends. Assumes nothing.
-use Rattle.std.proofs.Common.{◌≡◌, ◌-◌, ◌≤◌, ◌⊎◌, length, rules}
+use Rattle.std.proofs.Common.{◌-◌, ◌≤◌, rules}
 use Rattle.tests_plain.proofs.joins.place_at.Statement.{statement}
 use Rattle.tests_plain.proofs.joins.place_at.Tie as tie
 
-abbrev invariant-loop : tie.invariant-loop
+abbrev invariant-loop : tie.invariant-loop-i
 invariant-loop m f at n end₀ i₀ end i =
     (i ≤ n)
 
-abbrev decreases-loop : tie.decreases-loop
+abbrev decreases-loop : tie.decreases-loop-i
 decreases-loop m f at n end₀ i₀ end i =
     n - i
 
-file-size-requires : tie.Need-file-size-requires invariant-loop decreases-loop
+file-size-requires : tie.Need-file_size-n-requires invariant-loop decreases-loop
 file-size-requires c κs = search rules
 
-loop-holds : tie.Need-loop-init invariant-loop decreases-loop
+loop-holds : tie.Need-loop-i-init invariant-loop decreases-loop
 loop-holds c = search rules
 
-chunk-of-requires : tie.Need-chunk-of-requires invariant-loop decreases-loop
+chunk-of-requires : tie.Need-chunk_of-requires invariant-loop decreases-loop
 chunk-of-requires c κs = search rules
 
-chunk-size-requires : tie.Need-chunk-size-requires invariant-loop decreases-loop
+chunk-size-requires : tie.Need-chunk_size-requires invariant-loop decreases-loop
 chunk-size-requires c κs = search rules
 
-plus-requires : tie.Need-plus-requires invariant-loop decreases-loop
+plus-requires : tie.Need-plus-end-requires invariant-loop decreases-loop
 plus-requires c κs = search rules
 
-returns : tie.Need-returns invariant-loop decreases-loop
+returns : tie.Need-returns-then-at-end invariant-loop decreases-loop
 returns c = search rules
 
-add-i : tie.Need-overflow-add-i invariant-loop decreases-loop
+add-i : tie.Need-overflow_step-i invariant-loop decreases-loop
 add-i c = search rules
 
-loop-less : tie.Need-loop-smaller invariant-loop decreases-loop
+loop-less : tie.Need-loop-i-smaller invariant-loop decreases-loop
 loop-less c = search rules
 
-loop-again : tie.Need-loop-preserved invariant-loop decreases-loop
+loop-again : tie.Need-loop-i-preserved invariant-loop decreases-loop
 loop-again c = search rules
 
-returns-2 : tie.Need-returns-2 invariant-loop decreases-loop
+returns-2 : tie.Need-returns invariant-loop decreases-loop
 returns-2 c = search rules
 
-pub place-at-spec : {M : Type 1} → statement M
-place-at-spec =
-    tie.close
-    (tie.spec
+pub place_at_spec : {M : Type 1} → statement M
+place_at_spec = tie.close (tie.spec
     invariant-loop
     decreases-loop
     file-size-requires

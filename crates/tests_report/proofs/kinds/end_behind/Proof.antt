@@ -1,47 +1,45 @@
 -- `end_behind` is safe and ends. Assumes nothing.
-use Rattle.std.proofs.Common.{◌≡◌, ◌-◌, ◌≤◌, ◌⊎◌, length, rules}
+use Rattle.std.proofs.Common.{◌-◌, ◌≤◌, rules}
 use Rattle.tests_report.proofs.kinds.end_behind.Statement.{statement}
 use Rattle.tests_report.proofs.kinds.end_behind.Tie as tie
 
-abbrev invariant-loop : tie.invariant-loop
+abbrev invariant-loop : tie.invariant-loop-i
 invariant-loop m file offset n end₀ i₀ end i =
     (i ≤ n)
 
-abbrev decreases-loop : tie.decreases-loop
+abbrev decreases-loop : tie.decreases-loop-i
 decreases-loop m file offset n end₀ i₀ end i =
     n - i
 
-file-size-requires : tie.Need-file-size-requires invariant-loop decreases-loop
+file-size-requires : tie.Need-file_size-n-requires invariant-loop decreases-loop
 file-size-requires c κs = search rules
 
-loop-holds : tie.Need-loop-init invariant-loop decreases-loop
+loop-holds : tie.Need-loop-i-init invariant-loop decreases-loop
 loop-holds c = search rules
 
-chunk-of-requires : tie.Need-chunk-of-requires invariant-loop decreases-loop
+chunk-of-requires : tie.Need-chunk_of-requires invariant-loop decreases-loop
 chunk-of-requires c κs = search rules
 
-chunk-size-requires : tie.Need-chunk-size-requires invariant-loop decreases-loop
+chunk-size-requires : tie.Need-chunk_size-requires invariant-loop decreases-loop
 chunk-size-requires c κs = search rules
 
-plus-requires : tie.Need-plus-requires invariant-loop decreases-loop
+plus-requires : tie.Need-plus-end-requires invariant-loop decreases-loop
 plus-requires c κs = search rules
 
-add-i : tie.Need-overflow-add-i invariant-loop decreases-loop
+add-i : tie.Need-overflow_step-i invariant-loop decreases-loop
 add-i c = search rules
 
-loop-less : tie.Need-loop-smaller invariant-loop decreases-loop
+loop-less : tie.Need-loop-i-smaller invariant-loop decreases-loop
 loop-less c = search rules
 
-loop-again : tie.Need-loop-preserved invariant-loop decreases-loop
+loop-again : tie.Need-loop-i-preserved invariant-loop decreases-loop
 loop-again c = search rules
 
 returns : tie.Need-returns invariant-loop decreases-loop
 returns c = search rules
 
-pub end-behind-spec : {M : Type 1} → statement M
-end-behind-spec =
-    tie.close
-    (tie.spec
+pub end_behind_spec : {M : Type 1} → statement M
+end_behind_spec = tie.close (tie.spec
     invariant-loop
     decreases-loop
     file-size-requires

@@ -3,46 +3,44 @@ use Rattle.std.proofs.Common.{◌≡◌, ◌-◌, ◌≤◌, length, rules}
 use Rattle.tests_report.proofs.kinds.see_from.Statement.{statement}
 use Rattle.tests_report.proofs.kinds.see_from.Tie as tie
 
-abbrev invariant-loop : tie.invariant-loop
+abbrev invariant-loop : tie.invariant-loop-i
 invariant-loop counts₀ m f first n i₀ counts i = (i ≤ n) × (length counts ≡ length counts₀)
 
-abbrev decreases-loop : tie.decreases-loop
+abbrev decreases-loop : tie.decreases-loop-i
 decreases-loop counts₀ m f first n i₀ counts i = n - i
 
-loop-holds : tie.Need-loop-init invariant-loop decreases-loop
+loop-holds : tie.Need-loop-i-init invariant-loop decreases-loop
 loop-holds c = search rules
 
-plus-requires : tie.Need-plus-requires invariant-loop decreases-loop
+plus-requires : tie.Need-plus-kind-requires invariant-loop decreases-loop
 plus-requires c κs = search rules
 
-plus-requires-2 : tie.Need-plus-requires-2 invariant-loop decreases-loop
+plus-requires-2 : tie.Need-plus-requires invariant-loop decreases-loop
 plus-requires-2 c κs = search rules
 
-is-of-requires : tie.Need-is-of-requires invariant-loop decreases-loop
+is-of-requires : tie.Need-is_of-requires invariant-loop decreases-loop
 is-of-requires c κs = search rules
 
 saw-requires : tie.Need-saw-requires invariant-loop decreases-loop
 saw-requires c κs = search rules
 
-add-i : tie.Need-overflow-add-i invariant-loop decreases-loop
+add-i : tie.Need-overflow_step-i invariant-loop decreases-loop
 add-i c = search rules
 
-loop-less : tie.Need-loop-smaller invariant-loop decreases-loop
+loop-less : tie.Need-loop-i-smaller invariant-loop decreases-loop
 loop-less c = search rules
 
-loop-again : tie.Need-loop-preserved invariant-loop decreases-loop
+loop-again : tie.Need-loop-i-preserved invariant-loop decreases-loop
 loop-again c = search rules
 
-same_length : tie.Need-same-length invariant-loop decreases-loop
+same_length : tie.Need-shape_of-counts invariant-loop decreases-loop
 same_length c = search rules
 
 returns : tie.Need-returns invariant-loop decreases-loop
 returns c = search rules
 
-pub see-from-spec : {M : Type 1} → statement M
-see-from-spec =
-    tie.close
-    (tie.spec
+pub see_from_spec : {M : Type 1} → statement M
+see_from_spec = tie.close (tie.spec
     invariant-loop
     decreases-loop
     loop-holds

@@ -3,37 +3,35 @@ use Rattle.std.proofs.Common.{◌-◌, ◌≤◌, rules}
 use Rattle.tests_report.proofs.moves.follow_all.Statement.{statement}
 use Rattle.tests_report.proofs.moves.follow_all.Tie as tie
 
-abbrev invariant-loop : tie.invariant-loop
+abbrev invariant-loop : tie.invariant-loop-i
 invariant-loop m node at most step₀ i₀ step i = (i ≤ most)
 
-abbrev decreases-loop : tie.decreases-loop
+abbrev decreases-loop : tie.decreases-loop-i
 decreases-loop m node at most step₀ i₀ step i = most - i
 
-loop-holds : tie.Need-loop-init invariant-loop decreases-loop
+loop-holds : tie.Need-loop-i-init invariant-loop decreases-loop
 loop-holds c = search rules
 
-follow-requires : tie.Need-follow-requires invariant-loop decreases-loop
+follow-requires : tie.Need-follow-after-requires invariant-loop decreases-loop
 follow-requires c κs = search rules
 
-returns : tie.Need-returns invariant-loop decreases-loop
+returns : tie.Need-returns-then-after-step invariant-loop decreases-loop
 returns c = search rules
 
-add-i : tie.Need-overflow-add-i invariant-loop decreases-loop
+add-i : tie.Need-overflow_step-i invariant-loop decreases-loop
 add-i c = search rules
 
-loop-less : tie.Need-loop-smaller invariant-loop decreases-loop
+loop-less : tie.Need-loop-i-smaller invariant-loop decreases-loop
 loop-less c = search rules
 
-loop-again : tie.Need-loop-preserved invariant-loop decreases-loop
+loop-again : tie.Need-loop-i-preserved invariant-loop decreases-loop
 loop-again c = search rules
 
-returns-2 : tie.Need-returns-2 invariant-loop decreases-loop
+returns-2 : tie.Need-returns invariant-loop decreases-loop
 returns-2 c = search rules
 
-pub follow-all-spec : {M : Type 1} → statement M
-follow-all-spec =
-    tie.close
-    (tie.spec
+pub follow_all_spec : {M : Type 1} → statement M
+follow_all_spec = tie.close (tie.spec
     invariant-loop
     decreases-loop
     loop-holds

@@ -1,60 +1,57 @@
 -- `put_file` is safe and ends. Assumes nothing.
 use borrow.Author.Rules.{rules}
 use mathlib.Core.Path.{◌≡◌}
-use mathlib.Core.Logic.{◌⊎◌}
 use Prim.Native.Nat.{◌≤◌, ◌-◌}
 use lib.ListN.{length}
 use Rattle.tests_vaults.proofs.encode.put_file.Statement.{statement}
 use Rattle.tests_vaults.proofs.encode.put_file.Tie as tie
 
-abbrev invariant-loop : tie.invariant-loop
+abbrev invariant-loop : tie.invariant-loop-i
 invariant-loop out₀ at m f n a₀ i₀ out a i =
     (i ≤ n) × (length out ≡ length out₀)
 
-abbrev decreases-loop : tie.decreases-loop
+abbrev decreases-loop : tie.decreases-loop-i
 decreases-loop out₀ at m f n a₀ i₀ out a i =
     n - i
 
-file-size-requires : tie.Need-file-size-requires invariant-loop decreases-loop
+file-size-requires : tie.Need-file_size-n-requires invariant-loop decreases-loop
 file-size-requires c κs = search rules
 
-put-4-requires : tie.Need-put-4-requires invariant-loop decreases-loop
+put-4-requires : tie.Need-put_4-requires invariant-loop decreases-loop
 put-4-requires c κs = search rules
 
-plus-requires : tie.Need-plus-requires invariant-loop decreases-loop
+plus-requires : tie.Need-plus-a-requires invariant-loop decreases-loop
 plus-requires c κs = search rules
 
-loop-holds : tie.Need-loop-init invariant-loop decreases-loop
+loop-holds : tie.Need-loop-i-init invariant-loop decreases-loop
 loop-holds c = search rules
 
-chunk-of-requires : tie.Need-chunk-of-requires invariant-loop decreases-loop
+chunk-of-requires : tie.Need-chunk_of-requires invariant-loop decreases-loop
 chunk-of-requires c κs = search rules
 
-put-key-requires : tie.Need-put-key-requires invariant-loop decreases-loop
+put-key-requires : tie.Need-put_key-requires invariant-loop decreases-loop
 put-key-requires c κs = search rules
 
-plus-requires-2 : tie.Need-plus-requires-2 invariant-loop decreases-loop
+plus-requires-2 : tie.Need-plus-a-requires-in-loop-i invariant-loop decreases-loop
 plus-requires-2 c κs = search rules
 
-add-i : tie.Need-overflow-add-i invariant-loop decreases-loop
+add-i : tie.Need-overflow_step-i invariant-loop decreases-loop
 add-i c = search rules
 
-loop-less : tie.Need-loop-smaller invariant-loop decreases-loop
+loop-less : tie.Need-loop-i-smaller invariant-loop decreases-loop
 loop-less c = search rules
 
-loop-again : tie.Need-loop-preserved invariant-loop decreases-loop
+loop-again : tie.Need-loop-i-preserved invariant-loop decreases-loop
 loop-again c = search rules
 
-same_length : tie.Need-same-length invariant-loop decreases-loop
+same_length : tie.Need-shape_of-out invariant-loop decreases-loop
 same_length c = search rules
 
 returns : tie.Need-returns invariant-loop decreases-loop
 returns c = search rules
 
-pub put-file-spec : {M : Type 1} → statement M
-put-file-spec =
-    tie.close
-    (tie.spec
+pub put_file_spec : {M : Type 1} → statement M
+put_file_spec = tie.close (tie.spec
     invariant-loop
     decreases-loop
     file-size-requires

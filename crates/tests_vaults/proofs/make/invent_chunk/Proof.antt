@@ -1,43 +1,40 @@
 -- `invent_chunk` is safe and ends. Assumes nothing.
 use borrow.Author.Rules.{rules}
 use mathlib.Core.Path.{◌≡◌}
-use mathlib.Core.Logic.{◌⊎◌}
 use Prim.Native.Nat.{◌≤◌, ◌-◌}
 use lib.ListN.{length}
 use Rattle.tests_vaults.proofs.make.invent_chunk.Statement.{statement}
 use Rattle.tests_vaults.proofs.make.invent_chunk.Tie as tie
 
-abbrev invariant-loop : tie.invariant-loop
+abbrev invariant-loop : tie.invariant-loop-k
 invariant-loop m₀ c n seed s₀ k₀ m s k = (k ≤ n) × (length m ≡ length m₀)
 
-abbrev decreases-loop : tie.decreases-loop
+abbrev decreases-loop : tie.decreases-loop-k
 decreases-loop m₀ c n seed s₀ k₀ m s k = n - k
 
-loop-holds : tie.Need-loop-init invariant-loop decreases-loop
+loop-holds : tie.Need-loop-k-init invariant-loop decreases-loop
 loop-holds c = search rules
 
-invent-record-requires : tie.Need-invent-record-requires invariant-loop decreases-loop
+invent-record-requires : tie.Need-invent_record-s-requires invariant-loop decreases-loop
 invent-record-requires c κs = search rules
 
-add-k : tie.Need-overflow-add-k invariant-loop decreases-loop
+add-k : tie.Need-overflow_step-k invariant-loop decreases-loop
 add-k c = search rules
 
-loop-less : tie.Need-loop-smaller invariant-loop decreases-loop
+loop-less : tie.Need-loop-k-smaller invariant-loop decreases-loop
 loop-less c = search rules
 
-loop-again : tie.Need-loop-preserved invariant-loop decreases-loop
+loop-again : tie.Need-loop-k-preserved invariant-loop decreases-loop
 loop-again c = search rules
 
-same_length : tie.Need-same-length invariant-loop decreases-loop
+same_length : tie.Need-shape_of-m invariant-loop decreases-loop
 same_length c = search rules
 
 returns : tie.Need-returns invariant-loop decreases-loop
 returns c = search rules
 
-pub invent-chunk-spec : {M : Type 1} → statement M
-invent-chunk-spec =
-    tie.close
-    (tie.spec
+pub invent_chunk_spec : {M : Type 1} → statement M
+invent_chunk_spec = tie.close (tie.spec
     invariant-loop
     decreases-loop
     loop-holds

@@ -1,51 +1,48 @@
 -- `make_files` is safe and ends. Assumes nothing.
 use borrow.Author.Rules.{rules}
 use mathlib.Core.Path.{◌≡◌}
-use mathlib.Core.Logic.{◌⊎◌}
 use Prim.Native.Nat.{◌≤◌, ◌-◌}
 use lib.ListN.{length}
 use Rattle.tests_vaults.proofs.make.make_files.Statement.{statement}
 use Rattle.tests_vaults.proofs.make.make_files.Tie as tie
 
-abbrev invariant-loop : tie.invariant-loop
+abbrev invariant-loop : tie.invariant-loop-f
 invariant-loop m₀ n most chunks seed s₀ f₀ m s f =
     (f ≤ n) × (length m ≡ length m₀)
 
-abbrev decreases-loop : tie.decreases-loop
+abbrev decreases-loop : tie.decreases-loop-f
 decreases-loop m₀ n most chunks seed s₀ f₀ m s f =
     n - f
 
-loop-holds : tie.Need-loop-init invariant-loop decreases-loop
+loop-holds : tie.Need-loop-f-init invariant-loop decreases-loop
 loop-holds c = search rules
 
-next-requires : tie.Need-next-requires invariant-loop decreases-loop
+next-requires : tie.Need-next-s-requires invariant-loop decreases-loop
 next-requires c κs = search rules
 
 pick-requires : tie.Need-pick-requires invariant-loop decreases-loop
 pick-requires c κs = search rules
 
-make-file-requires : tie.Need-make-file-requires invariant-loop decreases-loop
+make-file-requires : tie.Need-make_file-s-requires invariant-loop decreases-loop
 make-file-requires c κs = search rules
 
-add-f : tie.Need-overflow-add-f invariant-loop decreases-loop
+add-f : tie.Need-overflow_step-f invariant-loop decreases-loop
 add-f c = search rules
 
-loop-less : tie.Need-loop-smaller invariant-loop decreases-loop
+loop-less : tie.Need-loop-f-smaller invariant-loop decreases-loop
 loop-less c = search rules
 
-loop-again : tie.Need-loop-preserved invariant-loop decreases-loop
+loop-again : tie.Need-loop-f-preserved invariant-loop decreases-loop
 loop-again c = search rules
 
-same_length : tie.Need-same-length invariant-loop decreases-loop
+same_length : tie.Need-shape_of-m invariant-loop decreases-loop
 same_length c = search rules
 
 returns : tie.Need-returns invariant-loop decreases-loop
 returns c = search rules
 
-pub make-files-spec : {M : Type 1} → statement M
-make-files-spec =
-    tie.close
-    (tie.spec
+pub make_files_spec : {M : Type 1} → statement M
+make_files_spec = tie.close (tie.spec
     invariant-loop
     decreases-loop
     loop-holds

@@ -7,18 +7,18 @@ use lib.ListN.{length}
 use Rattle.tests_vaults.proofs.orders.shuffle.Statement.{statement}
 use Rattle.tests_vaults.proofs.orders.shuffle.Tie as tie
 
-abbrev invariant-loop : tie.invariant-loop
+abbrev invariant-loop : tie.invariant-loop-i
 invariant-loop order₀ n seed s₀ i₀ order s i =
     (i ≤ n) × (length order ≡ length order₀)
 
-abbrev decreases-loop : tie.decreases-loop
+abbrev decreases-loop : tie.decreases-loop-i
 decreases-loop order₀ n seed s₀ i₀ order s i =
     n - i
 
-loop-holds : tie.Need-loop-init invariant-loop decreases-loop
+loop-holds : tie.Need-loop-i-init invariant-loop decreases-loop
 loop-holds c = search rules
 
-next-requires : tie.Need-next-requires invariant-loop decreases-loop
+next-requires : tie.Need-next-s-requires invariant-loop decreases-loop
 next-requires c κs = search rules
 
 less-requires : tie.Need-less-requires invariant-loop decreases-loop
@@ -33,25 +33,23 @@ plus-requires c κs = search rules
 swap-requires : tie.Need-swap-requires invariant-loop decreases-loop
 swap-requires c κs = search rules
 
-add-i : tie.Need-overflow-add-i invariant-loop decreases-loop
+add-i : tie.Need-overflow_step-i invariant-loop decreases-loop
 add-i c = search rules
 
-loop-less : tie.Need-loop-smaller invariant-loop decreases-loop
+loop-less : tie.Need-loop-i-smaller invariant-loop decreases-loop
 loop-less c = search rules
 
-loop-again : tie.Need-loop-preserved invariant-loop decreases-loop
+loop-again : tie.Need-loop-i-preserved invariant-loop decreases-loop
 loop-again c = search rules
 
-same_length : tie.Need-same-length invariant-loop decreases-loop
+same_length : tie.Need-shape_of-order invariant-loop decreases-loop
 same_length c = search rules
 
 returns : tie.Need-returns invariant-loop decreases-loop
 returns c = search rules
 
-pub shuffle-spec : {M : Type 1} → statement M
-shuffle-spec =
-    tie.close
-    (tie.spec
+pub shuffle_spec : {M : Type 1} → statement M
+shuffle_spec = tie.close (tie.spec
     invariant-loop
     decreases-loop
     loop-holds

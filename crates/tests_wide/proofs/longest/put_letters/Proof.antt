@@ -6,15 +6,15 @@ use lib.ListN.{length}
 use Rattle.tests_wide.proofs.longest.put_letters.Statement.{statement}
 use Rattle.tests_wide.proofs.longest.put_letters.Tie as tie
 
-abbrev invariant-loop : tie.invariant-loop
+abbrev invariant-loop : tie.invariant-loop-i
 invariant-loop s₀ n i₀ s i =
     (i ≤ n) × (length s ≡ length s₀)
 
-abbrev decreases-loop : tie.decreases-loop
+abbrev decreases-loop : tie.decreases-loop-i
 decreases-loop s₀ n i₀ s i =
     n - i
 
-loop-holds : tie.Need-loop-init invariant-loop decreases-loop
+loop-holds : tie.Need-loop-i-init invariant-loop decreases-loop
 loop-holds c = search rules
 
 offset-requires : tie.Need-offset-requires invariant-loop decreases-loop
@@ -26,25 +26,23 @@ plus-requires c κs = search rules
 put-requires : tie.Need-put-requires invariant-loop decreases-loop
 put-requires c κs = search rules
 
-add-i : tie.Need-overflow-add-i invariant-loop decreases-loop
+add-i : tie.Need-overflow_step-i invariant-loop decreases-loop
 add-i c = search rules
 
-loop-less : tie.Need-loop-smaller invariant-loop decreases-loop
+loop-less : tie.Need-loop-i-smaller invariant-loop decreases-loop
 loop-less c = search rules
 
-loop-again : tie.Need-loop-preserved invariant-loop decreases-loop
+loop-again : tie.Need-loop-i-preserved invariant-loop decreases-loop
 loop-again c = search rules
 
-same_length : tie.Need-same-length invariant-loop decreases-loop
+same_length : tie.Need-shape_of-s invariant-loop decreases-loop
 same_length c = search rules
 
 returns : tie.Need-returns invariant-loop decreases-loop
 returns c = search rules
 
-pub put-letters-spec : {M : Type 1} → statement M
-put-letters-spec =
-    tie.close
-    (tie.spec
+pub put_letters_spec : {M : Type 1} → statement M
+put_letters_spec = tie.close (tie.spec
     invariant-loop
     decreases-loop
     loop-holds

@@ -6,54 +6,52 @@ use lib.ListN.{length}
 use Rattle.tests_wide.proofs.wide.put_pieces.Statement.{statement}
 use Rattle.tests_wide.proofs.wide.put_pieces.Tie as tie
 
-abbrev invariant-loop : tie.invariant-loop
+abbrev invariant-loop : tie.invariant-loop-i
 invariant-loop m₀ size gap seed at₀ s₀ i₀ m at s i =
     (i ≤ size) × (length m ≡ length m₀)
 
-abbrev decreases-loop : tie.decreases-loop
+abbrev decreases-loop : tie.decreases-loop-i
 decreases-loop m₀ size gap seed at₀ s₀ i₀ m at s i =
     size - i
 
-loop-holds : tie.Need-loop-init invariant-loop decreases-loop
+loop-holds : tie.Need-loop-i-init invariant-loop decreases-loop
 loop-holds c = search rules
 
 next-requires : tie.Need-next-requires invariant-loop decreases-loop
 next-requires c κs = search rules
 
-next-requires-2 : tie.Need-next-requires-2 invariant-loop decreases-loop
+next-requires-2 : tie.Need-next-s-requires invariant-loop decreases-loop
 next-requires-2 c κs = search rules
 
-put-piece-requires : tie.Need-put-piece-requires invariant-loop decreases-loop
+put-piece-requires : tie.Need-put_piece-requires invariant-loop decreases-loop
 put-piece-requires c κs = search rules
 
-next-requires-3 : tie.Need-next-requires-3 invariant-loop decreases-loop
+next-requires-3 : tie.Need-next-requires-in-loop-i invariant-loop decreases-loop
 next-requires-3 c κs = search rules
 
 pick-requires : tie.Need-pick-requires invariant-loop decreases-loop
 pick-requires c κs = search rules
 
-plus-requires : tie.Need-plus-requires invariant-loop decreases-loop
+plus-requires : tie.Need-plus-at-requires invariant-loop decreases-loop
 plus-requires c κs = search rules
 
-add-i : tie.Need-overflow-add-i invariant-loop decreases-loop
+add-i : tie.Need-overflow_step-i invariant-loop decreases-loop
 add-i c = search rules
 
-loop-less : tie.Need-loop-smaller invariant-loop decreases-loop
+loop-less : tie.Need-loop-i-smaller invariant-loop decreases-loop
 loop-less c = search rules
 
-loop-again : tie.Need-loop-preserved invariant-loop decreases-loop
+loop-again : tie.Need-loop-i-preserved invariant-loop decreases-loop
 loop-again c = search rules
 
-same_length : tie.Need-same-length invariant-loop decreases-loop
+same_length : tie.Need-shape_of-m invariant-loop decreases-loop
 same_length c = search rules
 
 returns : tie.Need-returns invariant-loop decreases-loop
 returns c = search rules
 
-pub put-pieces-spec : {M : Type 1} → statement M
-put-pieces-spec =
-    tie.close
-    (tie.spec
+pub put_pieces_spec : {M : Type 1} → statement M
+put_pieces_spec = tie.close (tie.spec
     invariant-loop
     decreases-loop
     loop-holds
