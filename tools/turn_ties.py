@@ -21,6 +21,8 @@ def keys(old):
     m = re.match(r"(add|sub|mul|shl|shr|cast|step)(-.*)$", n)
     if m:
         yield "overflow-" + n
+    if n.startswith("index-"):
+        yield "bounds-" + n[6:]
     m = re.match(r"(div|rem)(-.*)$", n)
     if m:
         yield "nonzero-" + n
@@ -128,6 +130,10 @@ def turn(text, names, f, params):
                 w = "true"
             elif w == "left":
                 w = "false"
+            elif w == "branch":
+                w = "branch-raw"
+            elif w == "auto" and "kept" in words:
+                w = "kept"
             elif head and norm(w) in steps and prev not in ("args", "new"):
                 w = steps[norm(w)]
             elif "-" in w and w.replace("-", "_") in words:
