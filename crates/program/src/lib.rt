@@ -1,8 +1,14 @@
 // The search program of document 01: it reads store.bin, words.bin and recipes.bin from the folder that it is run in, writes what is due into
 // a buffer (crate `output`), and prints that.
+#![tactic(auto)]
+
 ghost use Rattle.std.specs.Prelude.{◌≡◌, length};
 ghost use Rattle.io.specs.Counts.{IsPrefixLen};
 ghost use Rattle.program.specs.Reading.{TextOfFiles};
+
+use std::io::{Print, Read};
+use std::rt::Files;
+use std::{fs, io};
 
 // Room for the whole output.
 pub fn room() -> [u8; output::LONGEST]
@@ -18,37 +24,46 @@ fn file_room() -> [u8; 65537]
     [0; 65537]
 }
 
-// Reads a file into the buffer, until it ends or the buffer is full, and answers how many bytes. A file that cannot be opened or read is
-// empty.
-fn load(name: &[u8], buffer: &mut [u8]) -> usize
+// Reads into the buffer until it is full, the file ends or a read fails, and answers how many bytes.
+fn read_full(file: &mut impl Read, buffer: &mut [u8]) -> usize
     ensures { IsPrefixLen result buffer.new }
 {
-    let fd = os::open_read(name);
-    if fd < 0 {
-        return 0;
+    let mut done = 0;
+    while done < buffer.len() {
+        match file.read(&mut buffer[done..]) {
+            Ok(0) => break,
+            Ok(n) => done += n,
+            Err(_) => break,
+        }
     }
-    let n = io::read_full(fd, buffer);
-    libc::close(fd);
-    n
+    done
+}
+
+// Reads a file into the buffer, until it ends or the buffer is full, and answers how many bytes. A file that cannot be opened or read is
+// empty.
+fn load(rt: &impl Files, name: &str, buffer: &mut [u8]) -> usize
+    ensures { IsPrefixLen result buffer.new }
+{
+    match fs::open(rt, name) {
+        Ok(mut file) => read_full(&mut file, buffer),
+        Err(_) => 0,
+    }
 }
 
 // Writes what is to be printed, and answers its length.
-pub fn run(out: &mut [u8]) -> usize
+pub fn run(rt: &impl Files, out: &mut [u8]) -> usize
     ensures { IsPrefixLen result out.new × TextOfFiles out.old out.new result }
 {
     let mut store = file_room();
     let mut words = file_room();
     let mut recipes = file_room();
-    let s = load(b"store.bin", &mut store);
-    let w = load(b"words.bin", &mut words);
-    let r = load(b"recipes.bin", &mut recipes);
+    let s = load(rt, "store.bin", &mut store);
+    let w = load(rt, "words.bin", &mut words);
+    let r = load(rt, "recipes.bin", &mut recipes);
     output::put(&store[..s], &words[..w], &recipes[..r], out)
 }
 
-// Prints to standard output. There is no exit status: where the output cannot be written whole, standard error says so.
-pub fn print(text: &[u8]) {
-    if io::write_all(libc::STDOUT_FILENO, text) {
-        return;
-    }
-    io::write_all(libc::STDERR_FILENO, b"output failed\n");
+// Prints to standard output. Where the output cannot be written whole, the answer is the error, with which the program then ends.
+pub fn print(rt: &impl Print, text: &[u8]) -> io::Result<()> {
+    rt.write_all(text)
 }

@@ -1,6 +1,10 @@
 // The search program of document 01, run on its small vault.
-fn main() {
+#![tactic(auto)]
+
+use std::io;
+
+fn main(rt: HostRuntime) -> io::Result<()> {
     let mut out = program::room();
-    let n = program::run(&mut out);
-    program::print(&out[..n]);
+    let n = program::run(&rt, &mut out);
+    program::print(&rt, &out[..n])
 }
