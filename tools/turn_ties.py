@@ -134,7 +134,7 @@ def turn(text, names, f, params):
                 w = "branch-raw"
             elif w == "auto" and "kept" in words:
                 w = "kept"
-            elif head and norm(w) in steps and prev not in ("args", "new"):
+            elif head and norm(w) in steps and prev not in ("args", "new") and not (prev not in ("c", "before") and w in words | set(params)):
                 w = steps[norm(w)]
             elif "-" in w and w.replace("-", "_") in words:
                 w = w.replace("-", "_")
