@@ -75,7 +75,7 @@ write-requires c κs = omega (arith, room c.before.before)
 add-put-offsets : tie.Need-overflow_add-place
 add-put-offsets c =
     let e = c.before.before.before.before.before.before in
-    omega (arith, room e, (asked e.before.before).well-formed)
+    omega (arith, room e, (asked e.before.before).well_formed)
 
 slice-aggregate-put-offsets : tie.Need-slice_bounds-put_offsets-end
 slice-aggregate-put-offsets c = sym (chose c.before.before.before.before.before.before.before.before.before).long
@@ -92,7 +92,7 @@ put-offsets-requires c κs =
 add-result : tie.Need-overflow_add-result
 add-result c =
     let e = c.before.before.before.before.before.before.before.before.before.before in
-    omega (arith, room e, (asked e.before.before).well-formed)
+    omega (arith, room e, (asked e.before.before).well_formed)
 
 mul-result : tie.Need-overflow_mul-result
 mul-result c =
@@ -102,7 +102,7 @@ mul-result c =
 add-result-2 : tie.Need-overflow_add-result-2
 add-result-2 c =
     let e = c.before.before.before.before.before.before.before.before.before.before in
-    omega (arith, room e, (asked e.before.before).well-formed)
+    omega (arith, room e, (asked e.before.before).well_formed)
 
 same_length : tie.Need-shape_of-out
 same_length c =
