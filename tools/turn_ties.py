@@ -21,6 +21,8 @@ def keys(old):
     m = re.match(r"(add|sub|mul|shl|shr|cast|step)(-.*)$", n)
     if m:
         yield "overflow-" + n
+    if n.startswith("index-"):
+        yield "bounds-" + n[6:]
     m = re.match(r"(div|rem)(-.*)$", n)
     if m:
         yield "nonzero-" + n
@@ -49,7 +51,7 @@ def params_of(crate, f):
             t = open(os.path.join(folder, n)).read()
             m = re.search(r"\bfn " + re.escape(parts[-1]) + r"\b(?:<[^>]*>)?\(([^)]*)\)", t)
             if m:
-                return re.findall(r"(?:mut )?(\w+):", m[1])
+                return re.findall(r"(?:^|,)\s*(?:mut )?(\w+):(?!:)", m[1])
     return []
 
 def short_of(f):
@@ -128,7 +130,11 @@ def turn(text, names, f, params):
                 w = "true"
             elif w == "left":
                 w = "false"
-            elif head and norm(w) in steps and prev not in ("args", "new"):
+            elif w == "branch":
+                w = "branch-raw"
+            elif w == "auto" and "kept" in words:
+                w = "kept"
+            elif head and norm(w) in steps and prev not in ("args", "new") and not (prev not in ("c", "before") and w in words | set(params)):
                 w = steps[norm(w)]
             elif "-" in w and w.replace("-", "_") in words:
                 w = w.replace("-", "_")
@@ -147,6 +153,7 @@ def turn(text, names, f, params):
     # the steps of an expression in parentheses
     text = aliases(text)
     text = re.sub(r"\)((?:\." + IDENT + ")+)", lambda m: ")" + path_after(m[1], steps, words, tests), text)
+    text = last_values(text, names)
     # the last definition
     m = re.search(r"(?ms)^pub (\S+) : (\{M : Type 1\} → statement M)\n.*\Z", text)
     if not m:
@@ -195,6 +202,32 @@ def path_after(t, steps, words, tests):
         out.append(w)
     return "".join("." + w for w in settled(out, tests))
 
+def signature(path):
+    """The parameters of a function `crate::mod::f`, from its source beside this crate."""
+    parts = path.split("::")
+    return params_of(os.path.join(CRATES, parts[0]), "/".join(parts[1:]))
+
+
+def last_values(text, names):
+    """What a call leaves in its arguments has the parameter's name now: .new.1.1.0 is .new.third."""
+    callee = {p[2][1]: p[3] for p in names["places"] if p[3]}
+
+    def named(m):
+        step, n = m[1], m[3].count("1")
+        if step not in callee:
+            a = re.findall(r"let " + re.escape(step) + r" = \S*?\.?([^\s.]+) in", text)
+            a = [x for x in a if x in callee]
+            if not a:
+                return m[0]
+            path = callee[a[0]]
+        else:
+            path = callee[step]
+        ps = signature(path)
+        return f"{step}.new.{ps[n]}" if n < len(ps) else m[0]
+
+    return re.sub(r"([^\s(){}.;,]+)\.(new|last)((?:\.1)*)\.0(?![\w-])", named, text)
+
+
 def aliases(text):
     """A local name for an earlier place that only gives fields is a name for the place itself: its fields are found from there."""
     parts = re.split(r"(?m)(?=^\S)", text)
@@ -215,7 +248,9 @@ def aliases(text):
     return "".join(parts)
 
 def main(argv):
+    global CRATES
     names, crate, only = load(argv[0]), argv[1], argv[2:]
+    CRATES = os.path.dirname(os.path.abspath(crate))
     for folder, _, files in sorted(os.walk(os.path.join(crate, "proofs"))):
         if "Proof.antt" not in files:
             continue

@@ -1,10 +1,9 @@
 -- What a cell says is what the step says that it packs: the numbers are small enough to stand side by side. Assumes nothing.
-use mathlib.Core.Path.{◌≡◌, refl, sym, ap, ◌∙◌}
+use mathlib.Core.Path.{◌≡◌, refl, ap, ◌∙◌}
 use mathlib.Core.Bool.{Bool, true, false, cond}
-use mathlib.Core.List.{List, []}
+use mathlib.Core.List.{List}
 use Prim.Native.Nat.{ℕ, ◌+◌, ◌*◌, ◌/◌, ◌%◌, ◌≤◌, ◌<◌}
 use native.Mathlib.Omega.{arith}
-use lib.ListN.{length}
 use lib.Dec.{eqb}
 use Rattle.spec.specs.Bytes.{keep}
 use Rattle.spec.specs.Keywords.{folded_keywords, longest, keyword_front_code}
@@ -12,8 +11,8 @@ use Rattle.spec.proofs.KeywordLaws.{accepted}
 use Rattle.spec.specs.Trie.{is_node, Step, step}
 use Rattle.trie.specs.Numbers.{node_count, node_number, node_at}
 use Rattle.trie.proofs.Nodes.{node-length}
-use Rattle.trie.proofs.Steps.{step-is-node, step-moves, step-moves-least}
-use Rattle.trie.proofs.Numbering.{number-below, node-of-number, number-is-node, accepted-short, accepted-count}
+use Rattle.trie.proofs.Steps.{step-is-node, step-moves}
+use Rattle.trie.proofs.Numbering.{number-below, node-of-number, accepted-short, accepted-count}
 use Rattle.automaton.specs.Automaton.{accepts, packed, logged}
 use Rattle.automaton.specs.Walking.{number_in, entry_of}
 

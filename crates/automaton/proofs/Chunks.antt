@@ -1,17 +1,15 @@
 -- What the walk of a whole chunk from the root tells the scan: its moves, and of each keyword the prefix and the offsets of its match record.
 -- Assumes nothing.
-use mathlib.Core.Path.{◌≡◌, refl, sym, ap, ◌∙◌}
-use mathlib.Core.Bool.{true}
+use mathlib.Core.Path.{◌≡◌, sym, ap, ◌∙◌}
 use mathlib.Core.List.{List, []}
-use Prim.Native.Nat.{ℕ, ◌+◌, ◌≤◌, ◌<◌}
+use Prim.Native.Nat.{ℕ, ◌≤◌, ◌<◌}
 use native.Mathlib.Omega.{arith}
 use lib.ListN.{length}
-use Rattle.spec.specs.Keywords.{flag_of, folded, folded_keywords, keyword_front_code}
+use Rattle.spec.specs.Keywords.{flag_of, folded, folded_keywords}
 use Rattle.spec.specs.Join.{keyword_at}
 use Rattle.spec.specs.Form.{Form}
 use Rattle.spec.specs.Records.{record_of}
 use Rattle.spec.proofs.Folding.{folded-length}
-use Rattle.spec.proofs.KeywordLaws.{accepted, folded-count, folded-keyword}
 use Rattle.spec.specs.Trie.{is_node, node_from, node_after, moves_from, moves_of}
 use Rattle.trie.specs.Endings.{prefix_at}
 use Rattle.trie.specs.Numbers.{node_number, node_at}

@@ -1,6 +1,6 @@
 -- The definitions at work: he, she, his, hers, and the text ushers. Assumes nothing.
 use mathlib.Core.Path.{◌≡◌, refl}
-use mathlib.Core.List.{List, [], ◌∷◌, map}
+use mathlib.Core.List.{[], ◌∷◌, map}
 use Prim.Native.Nat.{ℕ, ◌+◌, ◌*◌}
 use Rattle.spec.specs.Keywords.{fold_byte, is_upper}
 use Rattle.trie.proofs.Examples.{definitions, four, he, she, hers, ushers}

@@ -4,28 +4,26 @@ use mathlib.Core.Logic.{◌⊎◌, inl, inr}
 use mathlib.Core.Bool.{Bool, true, false, cond}
 use mathlib.Core.List.{List, [], ◌∷◌, ◌++◌, append-nil, append_assoc}
 use Prim.Native.Nat.{ℕ, zero, suc, ◌+◌, ◌-◌, ◌*◌, ◌/◌, ◌%◌, ◌^◌, ◌≤◌, ◌<◌}
-use native.Mathlib.Nat.{add-zero, eq-or-lt_of_le, le_of_suc-le-suc, div-eq_of_lt}
+use native.Mathlib.Nat.{eq-or-lt_of_le, le_of_suc-le-suc, div-eq_of_lt}
 use native.Mathlib.Omega.{arith}
 use borrow.Author.Tests.{ltb-false}
-use lib.Dec.{eqb, ltb}
+use lib.Dec.{eqb}
 use lib.ListN.{length, take}
 use lib.Pow.{pow_pos, high, low, field, mod-mod-pow}
 use Rattle.spec.specs.Bytes.{each, keep, set_of}
-use Rattle.spec.specs.Keywords.{longest}
 use Rattle.spec.specs.Join.{keyword_at}
 use Rattle.spec.specs.Form.{Form}
 use Rattle.spec.specs.Records.{record_of}
 use Rattle.spec.proofs.Tests.{bool_cases}
 use Rattle.spec.proofs.Each.{each-match}
 use Rattle.spec.proofs.Sets.{set-lt}
-use Rattle.spec.specs.Trie.{is_node, Step, step, node_from, node_after}
+use Rattle.spec.specs.Trie.{is_node, Step, step, node_from}
 use Rattle.trie.specs.Endings.{is_ending, walk_record}
-use Rattle.trie.specs.Numbers.{node_count, node_number, node_at}
+use Rattle.trie.specs.Numbers.{node_number, node_at}
 use Rattle.trie.proofs.Steps.{step-is-node}
-use Rattle.trie.proofs.Numbering.{number-below, node-of-number}
+use Rattle.trie.proofs.Numbering.{node-of-number}
 use Rattle.trie.proofs.Records.{keyword-contained, offsets-at-nodes}
 use Rattle.automaton.specs.Automaton.{ending_set, accepts, logged, log_from, offsets_in}
-use Rattle.automaton.proofs.Cells.{Small}
 
 -- ---- a set's bits are its tests
 

@@ -4,16 +4,16 @@ use mathlib.Core.Path.{◌≡◌, refl, sym, ap, ap₂, ◌∙◌}
 use mathlib.Core.Bool.{true}
 use mathlib.Core.List.{List, [], ◌∷◌, ◌++◌, append_assoc}
 use Prim.Native.Nat.{ℕ, suc, ◌+◌, ◌-◌, ◌*◌, ◌≤◌, ◌<◌}
-use native.Mathlib.Nat.{zero-add, add-zero}
+use native.Mathlib.Nat.{add-zero}
 use native.Mathlib.Omega.{arith}
-use lib.ListN.{length, take, drop, length-append, length-drop, take-append-drop}
-use lib.Seq.{drop-append-add, drop-drop, take_all, length-take-le}
+use lib.ListN.{length, drop, length-append}
+use lib.Seq.{drop-append-add}
 use Rattle.spec.specs.Bytes.{splice, written}
 use Rattle.spec.specs.Keywords.{flag_of, folded, folded_keywords, longest, keyword_front_code}
 use Rattle.spec.proofs.Folding.{folded-length, folded-drop}
 use Rattle.spec.proofs.Folding.{folded-append}
-use Rattle.spec.proofs.Splices.{splice-read, splice-then, length-splice}
-use Rattle.spec.specs.Trie.{is_node, Step, step, longest_node, node_from, moves_from, node_after}
+use Rattle.spec.proofs.Splices.{splice-then}
+use Rattle.spec.specs.Trie.{is_node, Step, step, node_from, moves_from, node_after}
 use Rattle.trie.specs.Numbers.{node_count, node_number, node_at}
 use Rattle.trie.proofs.Nodes.{node-length, longest-of-node}
 use Rattle.trie.proofs.Steps.{step-is-node, step-moves}

@@ -1,4 +1,6 @@
 // The automaton of a keyword list (request #103): the trie as a table with one cell for each node and byte, and the walk of a chunk over it.
+#![tactic(auto)]
+
 ghost use Rattle.std.specs.Prelude.{◌≡◌, ◌+◌, ◌≤◌, ◌<◌, length};
 ghost use Rattle.spec.specs.Bytes.{splice, written};
 ghost use Rattle.spec.specs.Keywords.{flag_of, folded_keywords};

@@ -11,7 +11,6 @@ use Rattle.automaton.specs.Walking.{number_in, entry_of, CanStep, walked_of, wal
 use Rattle.automaton.specs.declared.Walked.{Walked}
 use Rattle.automaton.proofs.Lanes.{Running, node-few, running-start, running-few, running-step, running-room, running-on, running-end}
 use Rattle.automaton_lanes.specs.Lanes.{CanWalkFour, lanes_of}
-use Rattle.automaton_lanes.specs.declared.WalkedLanes.{WalkedLanes}
 
 -- before byte i: m0 to m3 are the moves of each lane
 pub record Four (list : List ℕ) (n0 n1 n2 n3 : ℕ) (b0 b1 b2 b3 : List ℕ) (at0 at1 at2 at3 : ℕ) (l0 l1 l2 l3 : List ℕ)

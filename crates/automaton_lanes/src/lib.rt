@@ -1,4 +1,6 @@
 // The walk of a chunk in four lanes over its quarters (request #103): each lane starts at the node that the 32 bytes before it tell.
+#![tactic(auto)]
+
 ghost use Rattle.std.specs.Prelude.{◌≡◌, ◌+◌, ◌-◌, ◌*◌, ◌≤◌, length, take, drop};
 ghost use Rattle.spec.specs.Bytes.{splice, written};
 ghost use Rattle.automaton.specs.Walking.{Rows, walked_of, walk_log, number_after};

@@ -1,10 +1,9 @@
 -- The row of a node: its children found among the nodes, its link by a walk, and each cell as request #103 says the step. Assumes nothing.
 use mathlib.Core.Path.{◌≡◌, refl, sym, ap, ap₂, ◌∙◌}
 use mathlib.Core.Logic.{◌≢◌, ◌⊎◌, inl, inr}
-use mathlib.Core.Bool.{Bool, true, false, ◌&&◌, cond, true≢false, false≢true}
+use mathlib.Core.Bool.{Bool, true, false, ◌&&◌, cond}
 use mathlib.Core.List.{List, [], ◌∷◌, ◌++◌}
-use Prim.Native.Nat.{ℕ, zero, suc, ◌+◌, ◌-◌, ◌*◌, ◌≤◌, ◌<◌}
-use native.Mathlib.Nat.{eq-or-lt_of_le, lt_irrefl}
+use Prim.Native.Nat.{ℕ, suc, ◌+◌, ◌-◌, ◌*◌, ◌≤◌, ◌<◌}
 use native.Mathlib.Numerals.{add-one}
 use native.Mathlib.Omega.{arith}
 use borrow.Author.Tests.{eq-eqb, ne_eqb, lt-ltb, le-ltb, ltb-true, ltb-false, eqb-true, eqb-false}
@@ -12,22 +11,22 @@ use lib.Dec.{eqb, ltb}
 use lib.ListN.{length, take, drop, get_or, set, replicate}
 use lib.ListN.{length-append, length-set, length-replicate, get_or-replicate, length-drop, take-append-drop, drop_of_length-le}
 use lib.Seq.{drop-cons, take-take, take_at, get_or-take, get_or-drop, get_or-append_seam, get_or-set_same, get_or-set_other, length-take-le}
-use Rattle.spec.specs.Bytes.{part, same, contains, position_of}
+use Rattle.spec.specs.Bytes.{part, same, position_of}
 use Rattle.spec.specs.Keywords.{fold_byte, flag_of, folded, folded_keywords}
 use Rattle.spec.proofs.Tests.{bool_cases, and_left, and_right, eqb_same}
-use Rattle.spec.proofs.Same.{same-eq, same_refl, same_not}
+use Rattle.spec.proofs.Same.{same-eq, same_refl}
 use Rattle.spec.proofs.Folding.{folded-take, folded-get}
 use Rattle.spec.proofs.EntryLaws.{contains-position, position-of, position_at}
-use Rattle.spec.specs.Trie.{is_node, child, has_child, longest_node, link, Step, step, node_after}
-use Rattle.trie.specs.Numbers.{distinct, nodes_of, node_count, node_number, node_at}
+use Rattle.spec.specs.Trie.{is_node, child, has_child, link, step, node_after}
+use Rattle.trie.specs.Numbers.{nodes_of, node_count, node_number, node_at}
 use Rattle.trie.proofs.Distinct.{distinct-once}
 use Rattle.trie.proofs.Nodes.{link-node}
 use Rattle.trie.proofs.Steps.{step-child, step-root, step-link}
 use Rattle.trie.proofs.Walks.{walk-node}
-use Rattle.trie.proofs.Numbering.{nodes-contain, number-below, node-of-number, number-of-node, number-is-node, root-number}
+use Rattle.trie.proofs.Numbering.{nodes-contain, number-below, node-of-number, number-of-node, root-number}
 use Rattle.automaton.specs.Automaton.{ending_set, accepts, packed}
-use Rattle.automaton.specs.Walking.{Rows, number_after}
-use Rattle.automaton_table.specs.Building.{run, child_byte, child_number, Children}
+use Rattle.automaton.specs.Walking.{number_after}
+use Rattle.automaton_table.specs.Building.{run, child_byte, child_number}
 use Rattle.automaton_table.proofs.Numbered.{run_length}
 
 -- ---- the byte of a child, from the list

@@ -1,18 +1,18 @@
 -- The keywords of a list that was read, as parts of it; and all nodes numbered, keyword by keyword. Assumes nothing.
-use mathlib.Core.Path.{◌≡◌, refl, sym, ap, ap₂, ◌∙◌}
+use mathlib.Core.Path.{◌≡◌, refl, sym, ap, ◌∙◌}
 use mathlib.Core.Logic.{◌⊎◌, inl, inr}
-use mathlib.Core.Bool.{Bool, true, false, cond}
+use mathlib.Core.Bool.{true, false, cond}
 use mathlib.Core.List.{List, [], ◌∷◌, ◌++◌, map, append-nil, append_assoc}
-use Prim.Native.Nat.{ℕ, zero, suc, ◌+◌, ◌-◌, ◌*◌, ◌≤◌, ◌<◌}
+use Prim.Native.Nat.{ℕ, zero, suc, ◌+◌, ◌*◌, ◌≤◌, ◌<◌}
 use native.Mathlib.Numerals.{add-one}
 use native.Mathlib.Omega.{arith}
-use lib.ListN.{length, take, drop, get_or, set, length-map, length-set, drop_of_length-le}
+use lib.ListN.{length, take, drop, get_or, set, length-set, drop_of_length-le}
 use lib.Seq.{drop-cons, take-take, get_or-set_same}
 use Rattle.spec.specs.Bytes.{part, contains, joined, sum}
 use Rattle.spec.specs.Keywords.{flag_of, folded, folded_keywords, longest}
 use Rattle.spec.specs.Join.{keyword_at}
 use Rattle.spec.proofs.Tests.{bool_cases}
-use Rattle.spec.proofs.Folding.{folded-take, folded-length}
+use Rattle.spec.proofs.Folding.{folded-take}
 use Rattle.spec.proofs.KeywordLaws.{accepted, folded-count, folded-keyword}
 use Rattle.keywords.specs.declared.Keywords.{Keywords}
 use Rattle.keywords.specs.Parsed.{Reads, Parsed}

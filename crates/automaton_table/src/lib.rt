@@ -1,4 +1,6 @@
 // Builds the automaton of a keyword list (request #103): the nodes and their numbers, what is known of each node, and the table.
+#![tactic(auto)]
+
 ghost use Rattle.std.specs.Prelude.{◌≡◌, cond, suc, ◌+◌, ◌-◌, ◌*◌, ◌^◌, ◌≤◌, ◌<◌, eqb, ltb, length, get_or};
 ghost use Rattle.spec.specs.Bytes.{same, position_of, splice, written};
 ghost use Rattle.spec.specs.Keywords.{flag_of, folded_keywords};

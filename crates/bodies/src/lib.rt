@@ -1,4 +1,6 @@
 // Bodies of a match index: whether bytes are the written form of records in range (document 01, "Notes file": "A body is good if ..").
+#![tactic(auto)]
+
 ghost use Rattle.std.specs.Prelude.{◌≡◌, true, [], ◌∷◌, ℕ, ◌+◌, ◌*◌, ◌≤◌, ◌<◌, length, get_or, take, drop};
 ghost use Rattle.spec.specs.Bytes.{fields_of, begins};
 ghost use Rattle.spec.specs.Form.{form_in};

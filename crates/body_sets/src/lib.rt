@@ -1,4 +1,6 @@
 // The sets of a body (kind 4, request #108): whether a keyword's set is next, and whether it is good.
+#![tactic(auto)]
+
 ghost use Rattle.std.specs.Prelude.{◌≡◌, ◌≤◌, length, get_or, drop};
 ghost use Rattle.spec.specs.Form.{form_in};
 ghost use Rattle.spec.specs.Records.{set_is_next};

@@ -1,5 +1,7 @@
 // One chunk of the scan: it is walked over the automaton, window by window, and its body measured, or written. A chunk that was measured and in
 // which no keyword occurs is not walked again: its mark has the walk's last node, and its log is empty.
+#![tactic(auto)]
+
 ghost use Rattle.std.specs.Prelude.{◌≡◌, cond, ◌+◌, ◌*◌, ◌≤◌, ◌<◌, length, eqb};
 ghost use Rattle.spec.specs.Bytes.{written};
 ghost use Rattle.spec.specs.Form.{newest};

@@ -1,5 +1,7 @@
 // Compaction (request #107): a store without holes that has exactly the chunks that some recipe names, in their old order. The entries that recipes
 // name are marked, one lookup a place; then one pass over the entries measures the new store, and one writes it.
+#![tactic(auto)]
+
 ghost use Rattle.std.specs.Prelude.{◌≡◌, [], ◌++◌, map, ℕ, ◌+◌, ◌*◌, ◌≤◌, length, get_or};
 ghost use Rattle.spec.specs.Bytes.{le_bytes, splice};
 ghost use Rattle.spec.specs.Store.{gapless, store_directory_bytes, store_bytes, chunk_count, chunk_at, store_keys};

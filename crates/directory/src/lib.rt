@@ -1,5 +1,7 @@
 // Directories: the entry of a fingerprint, whether a fingerprint is there twice, and the check of the entries.
 // Fingerprints are found by hash chains in one array of the caller, the heads and behind them the links, built from the last entry to the first.
+#![tactic(auto)]
+
 ghost use Rattle.std.specs.Prelude.{◌≡◌, suc, ◌+◌, ◌-◌, ◌*◌, ◌≤◌, ◌<◌, length};
 ghost use Rattle.spec.specs.Bytes.{part, same, twice, position_of, written};
 ghost use Rattle.spec.specs.Directory.{entries_code};

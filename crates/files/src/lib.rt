@@ -1,6 +1,8 @@
 // A file against a directory: a fingerprint that is not there, a file that is too long, an inner chunk that is too short for the index's format
 // (document 01, refusals 15, 16, 17). A file is the bytes of its fingerprints. Every place is looked up once; the entries of the first places
 // are left in slots, so that who walks the file next need not look them up again.
+#![tactic(auto)]
+
 ghost use Rattle.std.specs.Prelude.{◌≡◌, [], ◌∷◌, ◌+◌, ◌*◌, ◌≤◌, ◌<◌, min, length, take, set};
 ghost use Rattle.spec.specs.Bytes.{part, position_of, written};
 ghost use Rattle.spec.specs.Outcome.{first_number};

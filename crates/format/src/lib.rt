@@ -1,5 +1,7 @@
 // The format of a match index, by its mark (document 01, "Notes file"). Every reader takes the width of a field, the longest chunk and whether there
 // are sets from here.
+#![tactic(auto)]
+
 ghost use Rattle.std.specs.Prelude.{◌≡◌};
 ghost use Rattle.spec.specs.Form.{form1, form2, newest, form_of, format_of};
 

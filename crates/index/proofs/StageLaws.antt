@@ -8,7 +8,7 @@ use native.Mathlib.Omega.{arith}
 use borrow.Author.Tests.{lt-ltb, le-ltb, ltb-false}
 use lib.Dec.{ltb}
 use lib.ListN.{length, take, drop}
-use Rattle.spec.specs.Bytes.{field_at, same, each}
+use Rattle.spec.specs.Bytes.{field_at, same}
 use Rattle.spec.specs.declared.Format.{Format}
 use Rattle.spec.specs.Directory.{Layout, directory_end, entry_field, size_at, offset_at, length_at, entries_code}
 use Rattle.spec.specs.Store.{chunk_count}

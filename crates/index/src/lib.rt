@@ -1,4 +1,6 @@
 // Match indexes: the index check ("notes check"), and the lookup of a body by a fingerprint (document 01, "Refusals by operation", "The two lookups").
+#![tactic(auto)]
+
 ghost use Rattle.std.specs.Prelude.{◌≡◌, ◌+◌, ◌*◌, ◌≤◌, ◌<◌, length};
 ghost use Rattle.spec.specs.Bytes.{position_of};
 ghost use Rattle.spec.specs.Outcome.{answer};

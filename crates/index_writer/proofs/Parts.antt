@@ -9,7 +9,6 @@ use lib.ListN.{length, get_or, length-append}
 use Rattle.spec.specs.Bytes.{le_bytes, splice, joined}
 use Rattle.spec.specs.Directory.{size_at}
 use Rattle.spec.specs.Store.{store_layout, store_keys, chunk_count, chunk_at, store_code}
-use Rattle.spec.specs.Outcome.{whole}
 use Rattle.spec.specs.Keywords.{keyword_front_code}
 use Rattle.spec.specs.Form.{Form, newest}
 use Rattle.spec.specs.Index.{Entry, directory_bytes, index_bytes, entry_bytes}

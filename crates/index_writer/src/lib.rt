@@ -1,6 +1,8 @@
 // Measuring and writing a match index behind the scan's checks: each chunk's body, and its entry (document 01, "Notes file"; request #103). Where the bodies
 // are measured first, each chunk's mark is kept, by which the writing walks only those in which a keyword occurs. Writing walks a chunk of at most
 // 65,536 bytes once and a longer one twice.
+#![tactic(auto)]
+
 ghost use Rattle.std.specs.Prelude.{◌≡◌, ◌+◌, ◌*◌, ◌≤◌, length};
 ghost use Rattle.spec.specs.Bytes.{splice};
 ghost use Rattle.spec.specs.Form.{newest};

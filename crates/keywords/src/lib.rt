@@ -1,4 +1,6 @@
 // Keyword lists: the keyword check, and where an accepted list has its keywords (document 01, "Words").
+#![tactic(auto)]
+
 ghost use Rattle.std.specs.Prelude.{◌≡◌, [], ◌∷◌, ◌+◌, ◌≤◌, ◌<◌, max, length, drop, get_or};
 ghost use Rattle.spec.specs.Bytes.{same, contains, twice};
 ghost use Rattle.spec.specs.Outcome.{first_number};

@@ -10,7 +10,7 @@ use native.Mathlib.Omega.{arith}
 use lib.ListN.{length, get_or, set, drop, length-append}
 use lib.Seq.{get_or-set_same, get_or-set_other}
 use lib.Dec.{eqb, ltb}
-use Rattle.spec.specs.Bytes.{fields_of, each, keep, member, rising, sum}
+use Rattle.spec.specs.Bytes.{fields_of, each, keep, member, rising}
 use Rattle.spec.specs.Join.{Occurrence, occurrences_at, count_by}
 use Rattle.spec.proofs.FieldLists.{length-fields_of}
 use Rattle.spec.proofs.Rising.{all_below, passing-member}

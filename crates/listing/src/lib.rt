@@ -1,5 +1,7 @@
 // The occurrences at one place of a file. Each keyword has a stream of offsets in the place's chunk: first its offsets inside the chunk, as
 // the index holds them, then its starts that cross into the next chunk, as a set. The streams are merged.
+#![tactic(auto)]
+
 ghost use Rattle.std.specs.Prelude.{◌≡◌, ℕ, ◌+◌, ◌*◌, ◌^◌, ◌≤◌, ◌<◌, length, get_or};
 ghost use Rattle.spec.specs.Bytes.{splice};
 ghost use Rattle.spec.specs.Join.{sums, occurrence_bytes, list_bytes};

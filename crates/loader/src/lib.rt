@@ -1,5 +1,7 @@
 // The match records of a chunk, read from its body in a match index as plain numbers. No offset is copied: a row says where the index
 // has them. A set is read when it is asked for, behind the record of its keyword's row.
+#![tactic(auto)]
+
 ghost use Rattle.std.specs.Prelude.{◌≡◌, ◌++◌, ◌+◌, ◌≤◌, ◌<◌, length, drop, get_or};
 ghost use Rattle.spec.specs.Bytes.{part};
 ghost use Rattle.spec.specs.Form.{form_in};

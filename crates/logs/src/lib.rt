@@ -1,5 +1,7 @@
 // The log that the walk over the trie leaves of a chunk (request #103), and its tally. The log may come in parts, one after the other: their tallies are
 // joined.
+#![tactic(auto)]
+
 ghost use Rattle.std.specs.Prelude.{◌≡◌, cond, length, eqb};
 ghost use Rattle.logs.specs.Log.{AllFit};
 ghost use Rattle.logs.specs.Tallies.{CanCount, OneMore, Kept, tally_of, tally_both, CanJoin};

@@ -1,5 +1,7 @@
 // One keyword against bytes: whether it occurs at an offset, the suffix of its match record (the papers' "short backward look"), and the record's set
 // of inner starts (request #108). Keyword and chunk are slices of the keyword list and of the store, never copied.
+#![tactic(auto)]
+
 ghost use Rattle.std.specs.Prelude.{◌≡◌, ◌≤◌, length};
 ghost use Rattle.spec.specs.Bytes.{occurs_at};
 ghost use Rattle.spec.specs.Keywords.{folded};

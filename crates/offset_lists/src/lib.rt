@@ -1,5 +1,7 @@
 // The lists of offsets of a chunk's records, written from its log: each keyword's at a cursor of its own. The log may come in parts, one after the other:
 // the lists go on where the part before left them.
+#![tactic(auto)]
+
 ghost use Rattle.std.specs.Prelude.{◌≡◌, ◌+◌, ◌≤◌, length};
 ghost use Rattle.spec.specs.Bytes.{splice};
 ghost use Rattle.spec.specs.Form.{newest};

@@ -1,9 +1,9 @@
 -- Counts by keyword, file by file (request #110): those of the files from k on are file k's and those behind it; an empty query counts occurrences,
 -- another nothing. Assumes nothing.
-use mathlib.Core.Path.{◌≡◌, refl, sym, ap, ap₂, ◌∙◌}
+use mathlib.Core.Path.{◌≡◌, refl, sym, ap, ◌∙◌}
 use mathlib.Core.Logic.{◌≢◌}
 use mathlib.Core.Bool.{Bool, true, false, cond}
-use mathlib.Core.List.{List, [], ◌∷◌, ◌++◌}
+use mathlib.Core.List.{List, [], ◌++◌}
 use Prim.Native.Nat.{ℕ, ◌+◌, ◌*◌, ◌^◌, ◌≤◌, ◌<◌}
 use native.Mathlib.Nat.{zero-add, add-zero}
 use native.Mathlib.Omega.{arith}
@@ -14,7 +14,7 @@ use lib.Seq.{ext_get_or}
 use Rattle.spec.specs.Bytes.{part, field_at}
 use Rattle.spec.specs.Form.{form_of}
 use Rattle.spec.specs.Recipes.{file_count}
-use Rattle.spec.specs.Join.{Occurrence, counts_by, sums, join_list}
+use Rattle.spec.specs.Join.{Occurrence, sums, join_list}
 use Rattle.spec.proofs.Clients.{length-sums, sums_at, sums-assoc, length-counts, count_at, count_none, counts-append, count_most}
 use Rattle.recipes.proofs.Files.{Walk}
 use Rattle.walk.specs.Walking.{file_list, keyword_counts}

@@ -3,7 +3,7 @@
 use mathlib.Core.Path.{◌≡◌, refl, sym, ap, ap₂, ◌∙◌}
 use mathlib.Core.Logic.{◌≢◌}
 use mathlib.Core.Bool.{Bool, true, false, cond}
-use mathlib.Core.List.{List, [], ◌∷◌, ◌++◌}
+use mathlib.Core.List.{List, [], ◌∷◌}
 use Prim.Native.Nat.{ℕ, ◌+◌, ◌*◌, ◌^◌, ◌≤◌, ◌<◌}
 use native.Mathlib.Omega.{arith}
 use borrow.Author.Tests.{eq-eqb, ne_eqb}
@@ -14,7 +14,7 @@ use Rattle.spec.specs.Form.{form_of}
 use Rattle.spec.specs.Index.{lengths_in}
 use Rattle.spec.specs.Recipes.{file_count}
 use Rattle.spec.specs.Join.{Occurrence, join_list}
-use Rattle.spec.specs.Query.{earliest, line_of, query_lines}
+use Rattle.spec.specs.Query.{earliest, line_of}
 use Rattle.spec.proofs.Tests.{cond-elim}
 use Rattle.recipes.proofs.Files.{Walk}
 use Rattle.walk.specs.Walking.{file_list}

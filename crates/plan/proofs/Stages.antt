@@ -1,20 +1,19 @@
 -- The stages of a plan: each refusal, and what the stage after it may start from; and what a plan without refusal gives who lists. Assumes nothing.
 use mathlib.Core.Path.{◌≡◌, refl, sym, ap, ◌∙◌, subst}
 use mathlib.Core.Logic.{◌≢◌, ◌⊎◌, inl, inr}
-use mathlib.Core.List.{List, [], ◌∷◌}
-use Prim.Native.Nat.{ℕ, zero, suc, ◌+◌, ◌-◌, ◌≤◌, ◌<◌, min}
+use mathlib.Core.List.{List}
+use Prim.Native.Nat.{ℕ, zero, suc, ◌+◌, ◌-◌, ◌≤◌}
 use native.Mathlib.Nat.{zero-add}
 use native.Mathlib.Omega.{arith}
 use borrow.Author.Tests.{eq-eqb, ne_eqb}
-use lib.Dec.{eqb}
 use lib.ListN.{length, take, drop, get_or, replicate}
 use lib.Seq.{get_or-take}
 use Rattle.spec.specs.declared.Opened.{Opened}
-use Rattle.spec.specs.Bytes.{written, each}
+use Rattle.spec.specs.Bytes.{written}
 use Rattle.spec.specs.Form.{form_of}
 use Rattle.spec.specs.Keywords.{folded_keywords, list_size, keyword_front_code}
 use Rattle.spec.specs.Store.{chunk_count}
-use Rattle.spec.specs.Index.{list_in, index_keys, index_code}
+use Rattle.spec.specs.Index.{list_in, index_code}
 use Rattle.spec.specs.Opened.{opened_of}
 use Rattle.spec.specs.Recipes.{file_count, recipes_code}
 use Rattle.spec.specs.Join.{join_list, joinable_code, inner_least}
@@ -30,8 +29,8 @@ use Rattle.index.specs.Stages.{examined_chains}
 use Rattle.walk.specs.Walking.{keyword_counts}
 use Rattle.index.proofs.CheckLaws.{list-is, index-chains}
 use Rattle.plan.specs.declared.Plan.{Plan}
-use Rattle.plan.specs.Plans.{all_files_code, front_code, rows_of, all_rows, counted, mark_of, marks_of, refused_plan, plan_of, planned_tables}
-use Rattle.plan.specs.Plans.{Prepared, Joinable, Marked, Planned}
+use Rattle.plan.specs.Plans.{all_files_code, front_code, all_rows, counted, mark_of, marks_of, refused_plan, plan_of, planned_tables}
+use Rattle.plan.specs.Plans.{Joinable, Marked, Planned}
 
 zero_or : (n : ℕ) → (n ≡ 0) ⊎ (n ≢ 0)
 zero_or zero = inl refl

@@ -1,5 +1,5 @@
 -- The plan of an index and recipes: what the operations on them share before they list, and what its stages hand over.
-use Rattle.std.specs.Prelude.{◌≡◌, false, cond, List, [], ◌∷◌, map, ℕ, ◌<◌, min, eqb, length, get_or, replicate}
+use Rattle.std.specs.Prelude.{◌≡◌, false, cond, List, [], ◌∷◌, ℕ, ◌<◌, min, eqb, length, get_or, replicate}
 use Rattle.spec.specs.declared.Opened.{Opened}
 use Rattle.spec.specs.Bytes.{written, each}
 use Rattle.spec.specs.Outcome.{first_number, whole}

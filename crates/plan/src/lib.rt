@@ -1,6 +1,8 @@
 // What the operations on an index and recipes share: the index check, the chains of its fingerprints, the keywords' tables, 14, and a survey of the
 // files, which tests each and counts its rows: its occurrences, or for a query its line. It writes no list: who lists goes by the plan, and a
 // refusal has changed no byte of a list's buffer.
+#![tactic(auto)]
+
 ghost use Rattle.std.specs.Prelude.{◌≡◌, ℕ, min, ◌^◌, ◌≤◌, ◌<◌, length, replicate, get_or};
 ghost use Rattle.spec.specs.Bytes.{written};
 ghost use Rattle.spec.specs.Keywords.{folded_keywords};

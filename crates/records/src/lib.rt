@@ -1,5 +1,7 @@
 // The match records of a chunk in their written form but for the lists of offsets, from the tally of the log that the walk over the trie leaves; each
 // with its set of inner starts behind it (request #108).
+#![tactic(auto)]
+
 ghost use Rattle.std.specs.Prelude.{◌≡◌, ℕ, ◌+◌, ◌≤◌, ◌<◌, min, length};
 ghost use Rattle.spec.specs.Scan.{scan_body};
 ghost use Rattle.spec.specs.Form.{newest};

@@ -1,7 +1,7 @@
 -- The refusals of a scan before 9: the two checks, one after the other. Assumes nothing.
 use mathlib.Core.Path.{◌≡◌, sym, ap₂, ◌∙◌}
 use mathlib.Core.List.{List, [], ◌∷◌}
-use Prim.Native.Nat.{ℕ, ◌-◌}
+use Prim.Native.Nat.{ℕ}
 use Rattle.spec.specs.Store.{store_code}
 use Rattle.spec.specs.Outcome.{first_number, first_code, whole}
 use Rattle.spec.specs.Keywords.{keyword_code}

@@ -2,6 +2,8 @@
 // operation"; request #103). A refusal changes no byte: where the buffer has room whatever the chunks hold, each chunk's body is written
 // without being measured first; else all are measured, and only those in which a keyword occurs are walked for writing. Writing walks a chunk of
 // at most 65,536 bytes once and a longer one twice.
+#![tactic(auto)]
+
 ghost use Rattle.std.specs.Prelude.{◌≡◌, ◌&&◌, [], ◌∷◌, ◌+◌, ◌*◌, length, leb};
 ghost use Rattle.spec.specs.Outcome.{first_code};
 ghost use Rattle.spec.specs.Form.{newest};

@@ -4,7 +4,7 @@ use mathlib.Core.Path.{◌≡◌, refl, sym, ap, ◌∙◌}
 use mathlib.Core.Logic.{◌⊎◌, inl, inr}
 use mathlib.Core.Bool.{Bool, true, false, ◌&&◌, ◌||◌, and-false, or-false, false≢true}
 use mathlib.Core.List.{List, [], ◌∷◌}
-use Prim.Native.Nat.{ℕ, zero, suc, ◌+◌, ◌-◌, ◌^◌, ◌≤◌, ◌<◌}
+use Prim.Native.Nat.{ℕ, ◌+◌, ◌-◌, ◌^◌, ◌≤◌, ◌<◌}
 use native.Mathlib.Nat.{add_assoc, add-zero, lt_of_lt_of_le}
 use native.Mathlib.Omega.{arith}
 use lib.Bits.{bit_or, or_lt}
@@ -13,7 +13,7 @@ use lib.ListN.{length}
 use Rattle.spec.specs.Bytes.{set_of, in_set}
 use Rattle.spec.specs.Records.{ChunkRecords, record_at}
 use Rattle.spec.specs.Join.{starts, ends, goes_on, crosses_into}
-use Rattle.spec.proofs.Tests.{le-or-lt, bool_cases, and_left, and_right}
+use Rattle.spec.proofs.Tests.{le-or-lt, bool_cases, and_right}
 use Rattle.spec.proofs.Sets.{set-lt, has-set, none_above, none-empty}
 use Rattle.spec.proofs.Crossing.{crosses-sentence}
 use Rattle.spans.specs.Spans.{crossing_set}

@@ -1,5 +1,7 @@
 // Sets of starts of a keyword that crosses several chunks (request #108). A start is a number s below a prefix's length i, for the i - s bytes of the
 // keyword that lie in the chunk with that prefix; a byte of the keyword is counted from 0.
+#![tactic(auto)]
+
 ghost use Rattle.std.specs.Prelude.{◌≡◌, ◌&&◌, ◌+◌, ◌-◌, ◌^◌, ◌≤◌, ◌<◌};
 ghost use Rattle.std.specs.Int.Bits.{bit_or};
 ghost use Rattle.spec.specs.Bytes.{set_of, in_set};

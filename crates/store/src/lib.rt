@@ -1,4 +1,6 @@
 // Stores: their check (of the entries: store_entries), the lookup of a chunk by its fingerprint, and their entries one by one. Document 01, "Store" and "The two lookups".
+#![tactic(auto)]
+
 ghost use Rattle.std.specs.Prelude.{◌≡◌, ◌+◌, ◌*◌, ◌≤◌, [], length, get_or, take};
 ghost use Rattle.spec.specs.Bytes.{same, position_of};
 ghost use Rattle.spec.specs.Outcome.{answer};

@@ -1,4 +1,6 @@
 // The entries of a store's directory: what refusals 7 and 20 say of them. Document 01, "Store"; requests #105 and #106.
+#![tactic(auto)]
+
 ghost use Rattle.std.specs.Prelude.{◌≡◌, ◌+◌, ◌*◌, ◌≤◌, length};
 ghost use Rattle.spec.specs.Store.{chunks_code};
 

@@ -1,5 +1,7 @@
 // Partial-match tables: for each keyword, and each pair of lengths i and j, the set of its starts in its first i bytes followed by its
 // last j. Computed from the keyword alone, by the definition's own words.
+#![tactic(auto)]
+
 ghost use Rattle.std.specs.Prelude.{◌≡◌, ◌+◌, ◌≤◌, ◌<◌, length};
 ghost use Rattle.spec.specs.Keywords.{folded, folded_keywords};
 ghost use Rattle.spec.specs.Table.{in_cell};

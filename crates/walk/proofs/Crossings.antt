@@ -1,28 +1,27 @@
 -- The starts of a keyword are carried over the places of a file, one place a turn: what the tables and the rows say of a turn is spans' `Spanning`.
 -- Assumes nothing.
-use mathlib.Core.Path.{◌≡◌, refl, sym, ap, ◌∙◌, subst}
+use mathlib.Core.Path.{◌≡◌, sym, ap, ◌∙◌, subst}
 use mathlib.Core.Bool.{◌&&◌}
 use mathlib.Core.List.{List, [], ◌∷◌}
-use Prim.Native.Nat.{ℕ, zero, suc, ◌+◌, ◌-◌, ◌*◌, ◌/◌, ◌^◌, ◌≤◌, ◌<◌}
+use Prim.Native.Nat.{ℕ, zero, suc, ◌+◌, ◌-◌, ◌^◌, ◌≤◌, ◌<◌}
 use native.Mathlib.Numerals.{add-one}
 use native.Mathlib.Omega.{arith}
 use lib.Bits.{bit_or}
 use lib.ListN.{length, drop, get_or, drop_of_length-le}
 use lib.Seq.{drop-cons}
 use Rattle.spec.specs.declared.Opened.{Opened}
-use Rattle.spec.specs.Bytes.{part, position_of, set_of, in_set, sum}
+use Rattle.spec.specs.Bytes.{set_of, in_set}
 use Rattle.spec.specs.Keywords.{folded_keywords}
-use Rattle.spec.specs.Form.{form_of}
 use Rattle.spec.specs.Records.{ChunkRecords, record_at}
-use Rattle.spec.specs.Index.{list_in, index_records, index_keys}
+use Rattle.spec.specs.Index.{list_in}
 use Rattle.spec.specs.Join.{keyword_at, ends}
 use Rattle.tables.specs.Tabled.{tables_of, cell_at}
 use Rattle.loader.specs.Loaded.{row_of}
 use Rattle.spans.specs.Spans.{some_cell, crossing_set}
 use Rattle.spans.proofs.Borders.{table-starts, table-ends}
 use Rattle.spans.proofs.Spanning.{Spanning, spanning-start, spanning-on, spanning-end, spanning-dead}
-use Rattle.walk.specs.Walking.{no_chunk, chunk_in, chunks_in, size_of, first_suffix, Checked, File, EntryAt, LoadedAt, Startable}
-use Rattle.walk.proofs.Entries.{chunks-length, chunk-at, keywords-count, few, proper}
+use Rattle.walk.specs.Walking.{no_chunk, chunk_in, size_of, Checked, LoadedAt, Startable}
+use Rattle.walk.proofs.Entries.{keywords-count, few}
 use Rattle.walk.proofs.Places.{AllGood, suffix-one}
 
 -- n places on, from place `from`: the starts that have ended and those that are live, and how many bytes the places between have

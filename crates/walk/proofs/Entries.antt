@@ -32,7 +32,7 @@ use Rattle.loader.specs.Loaded.{fits_from, Row, row_of, row_end, set_at, Loadabl
 use Rattle.loader.proofs.Loading.{Loaded}
 use Rattle.loader.proofs.Fitting.{good-body-fits}
 use Rattle.spec.specs.Recipes.{named}
-use Rattle.walk.specs.Walking.{no_chunk, chunks_in, chunk_in, first_suffix, width_of, Checked, File, EntryAt, body_end, SetsBehind, LoadedEntry, LoadedAt}
+use Rattle.walk.specs.Walking.{no_chunk, chunks_in, chunk_in, first_suffix, width_of, Checked, File, EntryAt, body_end, LoadedEntry, LoadedAt}
 
 -- ---- a file's chunks
 

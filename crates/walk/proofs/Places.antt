@@ -27,7 +27,7 @@ use Rattle.spec.proofs.Stream.{crossing-stream, cell-start, cell-no-suffix}
 use Rattle.spec.proofs.Crossing.{crosses-cell, crosses-over}
 use Rattle.spec.proofs.RecordRanges.{passing-rises, passing-every}
 use Rattle.spec.proofs.RecordLaws.{prefix-in, suffix-in, offsets-rise, offsets-in, offsets-count}
-use Rattle.tables.specs.Tabled.{cell_set, cell_at, tables_of}
+use Rattle.tables.specs.Tabled.{cell_set, tables_of}
 use Rattle.tables.proofs.Cells.{cell-at}
 use Rattle.listing.specs.Streams.{below, bits, unread, stream_of, unread_at, occurrences, numbers, total, ReadableStreams}
 use Rattle.listing.proofs.Digits.{bits-set}
@@ -35,7 +35,7 @@ use Rattle.listing.proofs.Totals.{total-set}
 use Rattle.loader.specs.Loaded.{row_of}
 use Rattle.spans.specs.Spans.{crossing_set}
 use Rattle.walk.specs.Walking.{no_chunk, chunk_in, first_suffix, width_of, Checked, LoadedAt, Crossable, Crossed, Filled, cells, crossings}
-use Rattle.walk.specs.Walking.{Startable, Prefixed, LoadedPair}
+use Rattle.walk.specs.Walking.{Prefixed, LoadedPair}
 use Rattle.walk.proofs.Entries.{keywords-count, longest-keyword, few}
 
 -- ---- filling the streams, one after the other

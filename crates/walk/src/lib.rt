@@ -1,5 +1,7 @@
 // The occurrences of a file, place by place. A file is a run of fingerprints in the recipes; the entry of each is taken from its slot, or
 // looked up in the index where it has none, when the place before it is counted or listed.
+#![tactic(auto)]
+
 ghost use Rattle.std.specs.Prelude.{◌≡◌, [], ℕ, ◌+◌, ◌*◌, ◌/◌, ◌^◌, ◌≤◌, ◌<◌, length, drop, get_or};
 ghost use Rattle.spec.specs.Bytes.{splice};
 ghost use Rattle.spec.specs.Keywords.{folded_keywords};

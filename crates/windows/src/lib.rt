@@ -1,6 +1,8 @@
 // The walk of a chunk in windows of 65,536 bytes, so that a chunk of any length needs a log for one window only. First the windows are counted: the
 // last node, the moves, and the tally of all that was logged. Then, where the log of more than one window is wanted, they are walked again, and
 // the lists of offsets filled window by window.
+#![tactic(auto)]
+
 ghost use Rattle.std.specs.Prelude.{◌≡◌, ◌≤◌, length};
 ghost use Rattle.spec.specs.Bytes.{written};
 ghost use Rattle.spec.specs.Form.{newest};

@@ -9,14 +9,13 @@ use lib.ListN.{length, get_or, set, drop, length-set, drop_of_length-le}
 use lib.Seq.{drop-cons}
 use Rattle.spec.specs.Bytes.{splice}
 use Rattle.spec.proofs.Splices.{splice-nil, splice-cons}
-use borrow.Author.Rules.{rules}
 use Rattle.automaton.proofs.copy_into.Statement.{statement}
 use Rattle.automaton.proofs.copy_into.Tie as tie
 
-abbrev invariant-loop : tie.invariant-loop
+abbrev invariant-loop : tie.invariant-loop-i
 invariant-loop out₀ at s i₀ out i = (i ≤ length s) × (length out ≡ length out₀) × (splice out (at + i) (drop i s) ≡ splice out₀ at s)
 
-abbrev decreases-loop : tie.decreases-loop
+abbrev decreases-loop : tie.decreases-loop-i
 decreases-loop out₀ at s i₀ out i = length s - i
 
 -- a turn's store is the first of the bytes that are left
@@ -29,51 +28,49 @@ turn l s at i h m =
 ended : (l s : List ℕ) (at i : ℕ) → length s ≤ i → l ≡ splice l (at + i) (drop i s)
 ended l s at i h = rw (drop_of_length-le s h) (sym (splice-nil l (at + i)))
 
-loop-holds : tie.Need-loop-init invariant-loop decreases-loop
+loop-holds : tie.Need-loop-i-init invariant-loop decreases-loop
 loop-holds c = (omega arith, refl, rw add-zero)
 
-mul-buffer : tie.Need-overflow-mul-buffer invariant-loop decreases-loop
+mul-buffer : tie.Need-offset_bounds-run-i invariant-loop decreases-loop
 mul-buffer c = omega arith
 
-shared-slice-read-buffer : tie.Need-shared-slice-read-buffer invariant-loop decreases-loop
+shared-slice-read-buffer : tie.Need-bounds-run-i invariant-loop decreases-loop
 shared-slice-read-buffer c = omega arith
 
-add-buffer : tie.Need-overflow-add-buffer invariant-loop decreases-loop
+add-buffer : tie.Need-overflow_add-buffer invariant-loop decreases-loop
 add-buffer c = omega arith
 
-mul-buffer-2 : tie.Need-overflow-mul-buffer-2 invariant-loop decreases-loop
+mul-buffer-2 : tie.Need-offset_bounds-buffer-at invariant-loop decreases-loop
 mul-buffer-2 c = omega arith
 
-slice-write-buffer : tie.Need-slice-write-buffer invariant-loop decreases-loop
+slice-write-buffer : tie.Need-bounds-buffer-at invariant-loop decreases-loop
 slice-write-buffer c = omega arith
 
-add-i : tie.Need-overflow-add-i invariant-loop decreases-loop
+add-i : tie.Need-overflow_add-i invariant-loop decreases-loop
 add-i c = omega arith
 
-loop-less : tie.Need-loop-smaller invariant-loop decreases-loop
+loop-less : tie.Need-loop-i-smaller invariant-loop decreases-loop
 loop-less c = omega arith
 
-loop-again : tie.Need-loop-preserved invariant-loop decreases-loop
+loop-again : tie.Need-loop-i-preserved invariant-loop decreases-loop
 loop-again c =
-    let at = c.before.before in
-    let a = at.before.args in (
+    let at = c in
+    let a = at.args in (
       omega arith,
-      length-set at.loop.buffer (a.at + at.loop.i) (get_or a.run.now at.loop.i 0) ∙ at.loop.invariant.1,
-      turn at.loop.buffer a.run.now a.at at.loop.i c.before.loop-test.true (omega arith) ∙ at.loop.invariant.2,
+      length-set at.loop-i.buffer (a.at + at.loop-i.i) (get_or a.run.now at.loop-i.i 0) ∙ at.loop-i.invariant.1,
+      turn at.loop-i.buffer a.run.now a.at at.loop-i.i c.loop-i-test.true (omega arith) ∙ at.loop-i.invariant.2,
     )
 
-same_length : tie.Need-same-length invariant-loop decreases-loop
+same_length : tie.Need-shape_of-buffer invariant-loop decreases-loop
 same_length c = omega arith
 
 returns : tie.Need-returns invariant-loop decreases-loop
 returns c =
-    let a = c.before.before.args in
-    ended c.before.loop.buffer a.run.now a.at c.before.loop.i c.loop-test.false ∙ c.before.loop.invariant.2
+    let a = c.args in
+    ended c.loop-i.buffer a.run.now a.at c.loop-i.i c.loop-i-test.false ∙ c.loop-i.invariant.2
 
-pub copy-into-spec : {M : Type 1} → statement M
-copy-into-spec =
-    tie.close
-    (tie.spec
+pub copy_into_spec : {M : Type 1} → statement M
+copy_into_spec = tie.close (tie.spec
     invariant-loop
     decreases-loop
     loop-holds

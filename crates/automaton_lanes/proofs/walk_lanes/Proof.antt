@@ -1,25 +1,19 @@
 -- `automaton_lanes::walk_lanes` meets its contract: the quarters, then the bytes left.
 use mathlib.Core.Path.{◌≡◌, refl, sym, ap, ◌∙◌}
 use mathlib.Core.List.{List, ◌++◌}
-use Prim.Native.Nat.{ℕ, ◌+◌, ◌*◌, ◌/◌, ◌-◌, ◌^◌, ◌≤◌, ◌<◌}
+use Prim.Native.Nat.{ℕ, ◌+◌, ◌*◌, ◌/◌, ◌-◌, ◌≤◌, ◌<◌}
 use native.Mathlib.Omega.{arith}
 use lib.ListN.{length, take, drop, length-drop, length-take, take-append-drop}
 use lib.Seq.{length-take-le, take_all}
-use Rattle.spec.specs.Bytes.{splice, written}
 use Rattle.spec.specs.Keywords.{folded_keywords, keyword_front_code}
 use Rattle.spec.proofs.Splices.{splice-tail}
 use Rattle.trie.specs.Numbers.{node_count}
-use Rattle.automaton.specs.Walking.{CanWalk, walked_of, walk_log}
-use Rattle.automaton_lanes.specs.Lanes.{CanWalkLanes}
+use Rattle.automaton.specs.Walking.{walked_of, walk_log}
 use Rattle.automaton.specs.declared.Walked.{Walked}
 use Rattle.automaton.proofs.Parts.{logged-is, log-short, walked-inside, walked-moves, walked-two}
 use borrow.Author.Rules.{rules}
 use Rattle.automaton_lanes.proofs.walk_lanes.Statement.{statement}
 use Rattle.automaton_lanes.proofs.walk_lanes.Tie as tie
-use Rattle.automaton_lanes.proofs.walk_lanes.Reads as reads
-use Rattle.automaton_lanes.proofs.walk_lanes.Lts as lts
-use Rattle.automaton.proofs.walk.Reads as walk-reads
-use Rattle.automaton_lanes.proofs.walk_quarters.Reads as walk-quarters-reads
 
 -- ---- the quarters, and the bytes left
 
@@ -68,23 +62,23 @@ rest-few list front node at bytes v h e = (
 walk-requires : tie.Need-walk-requires
 walk-requires c κs = search rules
 
-same_length : tie.Need-same-length
+same_length : tie.Need-shape_of-log-then-bytes-lt256
 same_length c = omega arith
 
-returns : tie.Need-returns
+returns : tie.Need-returns-then-bytes-lt256
 returns c = search rules
 
-mul-walk-quarters : tie.Need-overflow-mul-walk-quarters
+mul-walk-quarters : tie.Need-overflow_mul-q
 mul-walk-quarters c = omega arith
 
-slice-aggregate-walk-quarters : tie.Need-slice-aggregate-walk-quarters
-slice-aggregate-walk-quarters c = let s = c.before.before.before.before.before.before.before.before.before in
+slice-aggregate-walk-quarters : tie.Need-slice_bounds-walk_quarters-end
+slice-aggregate-walk-quarters c = let s = c in
     let a = s.args in
     let can = s.requires.walks in
     sym (even-length a.bytes.now)
 
-walk-quarters-requires : tie.Need-walk-quarters-requires
-walk-quarters-requires c κs = let s = c.before.before.before.before.before.before.before.before.before.before.before.before.before in
+walk-quarters-requires : tie.Need-walk_quarters-w-requires
+walk-quarters-requires c κs = let s = c in
     let a = s.args in
     let can = s.requires.walks in
     let n = even-length a.bytes.now in (
@@ -94,89 +88,89 @@ walk-quarters-requires c κs = let s = c.before.before.before.before.before.befo
         long2 = omega (arith, n, s.requires.long2);
         long3 = omega (arith, n, s.requires.long3);
       },
-      (n, omega (arith, c.before.before.before.before.before.if1.false)),
+      (n, omega (arith, c.if-bytes-lt256.false)),
     )
 
-mul-walk : tie.Need-overflow-mul-walk
+mul-walk : tie.Need-overflow_mul-q-2
 mul-walk c = omega arith
 
-sub-walk : tie.Need-overflow-sub-walk
+sub-walk : tie.Need-slice_bounds-walk-count
 sub-walk c = omega arith
 
-part-walk-start : tie.Need-slice-bounds-walk-start
+part-walk-start : tie.Need-slice_bounds-walk-start
 part-walk-start c = omega arith
 
-part-walk-end : tie.Need-slice-bounds-walk-end
+part-walk-end : tie.Need-slice_bounds-walk-end
 part-walk-end c = omega arith
 
-mul-walk-2 : tie.Need-overflow-mul-walk-2
+mul-walk-2 : tie.Need-overflow_mul-q-3
 mul-walk-2 c = omega arith
 
-add-walk : tie.Need-overflow-add-walk
+add-walk : tie.Need-overflow_add-at
 add-walk c = omega arith
 
-mul-walk-3 : tie.Need-overflow-mul-walk-3
-mul-walk-3 c = let s = c.before.before.before.before.before.before.before.before.before.before.before.before.before.before.before.before.before.before.before.before.before.before.before in
+mul-walk-3 : tie.Need-offset_bounds-log-k
+mul-walk-3 c = let s = c in
     let a = s.args in
     let can = s.requires.walks in
-    let w = c.before.before.before.before.before.before.before.before.before.walk-quarters in
+    let w = c.walk_quarters-w in
     omega (
       arith,
       logged-few a.list.now can.rows.accepted a.node a.at a.bytes.now w.result w.ensures.0,
-      w.auto.1.1.1.1.1.1.0,
+      w.auto.log,
       can.long,
       can.places,
     )
 
-sub-walk-2 : tie.Need-overflow-sub-walk-2
-sub-walk-2 c = let s = c.before.before.before.before.before.before.before.before.before.before.before.before.before.before.before.before.before.before.before.before.before.before.before in
+sub-walk-2 : tie.Need-slice_bounds-walk-count-2
+sub-walk-2 c = let s = c in
     let a = s.args in
     let can = s.requires.walks in
-    let w = c.before.before.before.before.before.before.before.before.before.walk-quarters in
+    let w = c.walk_quarters-w in
     omega (
       arith,
       logged-few a.list.now can.rows.accepted a.node a.at a.bytes.now w.result w.ensures.0,
-      w.auto.1.1.1.1.1.1.0,
+      w.auto.log,
       can.long,
       can.places,
     )
 
-part-walk-start-2 : tie.Need-slice-bounds-walk-start-2
-part-walk-start-2 c = let s = c.before.before.before.before.before.before.before.before.before.before.before.before.before.before.before.before.before.before.before.before.before.before.before in
+part-walk-start-2 : tie.Need-slice_bounds-walk-start-2
+part-walk-start-2 c = let s = c in
     let a = s.args in
     let can = s.requires.walks in
-    let w = c.before.before.before.before.before.before.before.before.before.walk-quarters in
+    let w = c.walk_quarters-w in
     omega (
       arith,
       logged-few a.list.now can.rows.accepted a.node a.at a.bytes.now w.result w.ensures.0,
-      w.auto.1.1.1.1.1.1.0,
+      w.auto.log,
       can.long,
       can.places,
     )
 
-part-walk-end-2 : tie.Need-slice-bounds-walk-end-2
+part-walk-end-2 : tie.Need-slice_bounds-walk-end-2
 part-walk-end-2 c = omega arith
 
-walk-requires-2 : tie.Need-walk-requires-2
-walk-requires-2 c κs = let s = c.before.before.before.before.before.before.before.before.before.before.before.before.before.before.before.before.before.before.before.before.before.before.before.before in
+walk-requires-2 : tie.Need-walk-rest-requires
+walk-requires-2 c κs = let s = c in
     let a = s.args in
     let can = s.requires.walks in
-    let w = c.before.before.before.before.before.before.before.before.before.before.walk-quarters in
+    let w = c.walk_quarters-w in
     let n = left-length a.bytes.now in
     let k = logged-few a.list.now can.rows.accepted a.node a.at a.bytes.now w.result w.ensures.0 in
     record {
       rows = can.rows;
       inside = node-inside a.list.now can.rows.accepted a.node a.at a.bytes.now w.result w.ensures.0 can.inside;
       places = omega (arith, n, can.places);
-      long = simp (length-take, length-drop) (omega (arith, n, k, w.auto.1.1.1.1.1.1.0, can.long));
+      long = simp (length-take, length-drop) (omega (arith, n, k, w.auto.log, can.long));
     }
 
-add-t39 : tie.Need-overflow-add-t39
-add-t39 c = let s = c.before.before.before.before.before.before.before.before.before.before.before.before.before.before.before.before.before.before.before.before.before.before.before.before.before.before.before.before.before in
+add-t39 : tie.Need-overflow_add-result
+add-t39 c = let s = c in
     let a = s.args in
     let can = s.requires.walks in
-    let w = c.before.before.before.before.before.before.before.before.before.before.before.before.before.before.before.walk-quarters in
-    let v = c.before.before.before.before.walk2 in
+    let w = c.walk_quarters-w in
+    let v = c.walk-rest in
     let few = rest-few a.list.now can.rows.accepted w.result.node (a.at + 4 * (length a.bytes.now / 4)) a.bytes.now v.result
     (node-inside a.list.now can.rows.accepted a.node a.at a.bytes.now w.result w.ensures.0 can.inside) v.ensures.0 in
     omega (
@@ -186,51 +180,49 @@ add-t39 c = let s = c.before.before.before.before.before.before.before.before.be
       can.places,
     )
 
-add-t14 : tie.Need-overflow-add-t14
-add-t14 c = let s = c.before.before.before.before.before.before.before.before.before.before.before.before.before.before.before.before.before.before.before.before.before.before.before.before.before.before.before.before.before.before in
+add-t14 : tie.Need-overflow_add-result-2
+add-t14 c = let s = c in
     let a = s.args in
     let can = s.requires.walks in
-    let w = c.before.before.before.before.before.before.before.before.before.before.before.before.before.before.before.before.walk-quarters in
-    let v = c.before.before.before.before.before.walk2 in
+    let w = c.walk_quarters-w in
+    let v = c.walk-rest in
     let few = rest-few a.list.now can.rows.accepted w.result.node (a.at + 4 * (length a.bytes.now / 4)) a.bytes.now v.result
     (node-inside a.list.now can.rows.accepted a.node a.at a.bytes.now w.result w.ensures.0 can.inside) v.ensures.0 in
     omega (arith, logged-few a.list.now can.rows.accepted a.node a.at a.bytes.now w.result w.ensures.0, few.1, can.places)
 
-same-length-2 : tie.Need-same-length-2
+same-length-2 : tie.Need-shape_of-log
 same-length-2 c = omega arith
 
-same-length-3 : tie.Need-same-length-3
+same-length-3 : tie.Need-shape_of-run1
 same-length-3 c = omega arith
 
-same-length-4 : tie.Need-same-length-4
+same-length-4 : tie.Need-shape_of-run2
 same-length-4 c = omega arith
 
-same-length-5 : tie.Need-same-length-5
+same-length-5 : tie.Need-shape_of-run3
 same-length-5 c = omega arith
 
-returns-2 : tie.Need-returns-2
-returns-2 c = let s = c.before.before.before.before.before.before.before.before.before.before.before.before.before.before.before.before.before.before.before.before.before.before.before.before.before.before.before.before.before.before in
+returns-2 : tie.Need-returns
+returns-2 c = let s = c in
     let a = s.args in
     let can = s.requires.walks in
-    let w = c.before.before.before.before.before.before.before.before.before.before.before.before.before.before.before.before.walk-quarters in
-    let v = c.before.before.before.before.before.walk2 in
+    let w = c.walk_quarters-w in
+    let v = c.walk-rest in
     let few = rest-few a.list.now can.rows.accepted w.result.node (a.at + 4 * (length a.bytes.now / 4)) a.bytes.now v.result
     (node-inside a.list.now can.rows.accepted a.node a.at a.bytes.now w.result w.ensures.0 can.inside) v.ensures.0 in
     let k = logged-few a.list.now can.rows.accepted a.node a.at a.bytes.now w.result w.ensures.0 in
     let p = a.at + 4 * (length a.bytes.now / 4) in
     let m = logged-is a.list.now can.rows.accepted w.result.node (left a.bytes.now) p in
     walked-two a.list.now can.rows.accepted a.node w.result.node a.at p a.bytes.now (even a.bytes.now) (left a.bytes.now)
-    a.log.now w.new.1.1.1.1.1.1.0 _ w.result v.result can.inside (both a.bytes.now) (omega (arith, even-length a.bytes.now))
+    a.log.now w.new.log _ w.result v.result can.inside (both a.bytes.now) (omega (arith, even-length a.bytes.now))
     can.long
     w.ensures.0 w.ensures.1 refl v.ensures.0
-    (splice-tail w.result.logged w.new.1.1.1.1.1.1.0 v.new.1.1.1.1.1.0 (walk_log a.list.now w.result.node (left
+    (splice-tail w.result.logged w.new.log v.new.log (walk_log a.list.now w.result.node (left
     a.bytes.now) p)
-    (omega (arith, k, few.1, m, ap (λ (r : Walked). r.logged) v.ensures.0, w.auto.1.1.1.1.1.1.0, can.long)) v.ensures.1)
+    (omega (arith, k, few.1, m, ap (λ (r : Walked). r.logged) v.ensures.0, w.auto.log, can.long)) v.ensures.1)
 
-pub walk-lanes-spec : {M : Type 1} → statement M
-walk-lanes-spec =
-    tie.close
-    (tie.spec
+pub walk_lanes_spec : {M : Type 1} → statement M
+walk_lanes_spec = tie.close (tie.spec
     walk-requires
     same_length
     returns

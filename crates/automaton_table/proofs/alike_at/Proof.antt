@@ -1,54 +1,50 @@
 -- `automaton_table::alike_at` meets its contract.
-use mathlib.Core.Path.{◌≡◌, refl, sym, ap, ◌∙◌}
+use mathlib.Core.Path.{◌≡◌, sym, ap, ◌∙◌}
 use native.Mathlib.Omega.{arith}
 use mathlib.Core.Bool.{Bool}
 use mathlib.Core.List.{List}
-use Prim.Native.Nat.{ℕ, ◌+◌, ◌-◌, ◌≤◌, ◌<◌}
+use Prim.Native.Nat.{ℕ, ◌+◌, ◌-◌, ◌≤◌}
 use lib.ListN.{length, take, drop}
 use Rattle.spec.specs.Bytes.{same, occurs_at}
 use Rattle.spec.specs.Keywords.{folded}
-use borrow.Author.Rules.{rules}
 use Rattle.spec.proofs.Same.{same-lengths}
 use Rattle.automaton_table.specs.Building.{run}
 use Rattle.automaton_table.proofs.Numbered.{run_length, alike_is}
 use Rattle.automaton_table.proofs.alike_at.Statement.{statement}
 use Rattle.automaton_table.proofs.alike_at.Tie as tie
-use Rattle.automaton_table.proofs.alike_at.Reads as reads
-use Rattle.automaton_table.proofs.alike_at.Lts as lts
-use Rattle.matcher.proofs.occurs_at.Reads as occurs-at-reads
 
-returns : tie.Need-returns
-returns c = let s = c.before.before in
+returns : tie.Need-returns-then-m-n
+returns c = let s = c in
     let a = s.args in
     let list = a.list.now in
     same-lengths (run a.flag list a.a a.m) (run a.flag list a.b a.n)
-    (λ e. c.if1.true (sym (run_length a.flag list a.a a.m s.requires.0) ∙ e ∙ run_length a.flag list a.b a.n s.requires.1))
+    (λ e. c.if-m-n.true (sym (run_length a.flag list a.a a.m s.requires.0) ∙ e ∙ run_length a.flag list a.b a.n s.requires.1))
 
-add-occurs-at : tie.Need-overflow-add-occurs-at
+add-occurs-at : tie.Need-overflow_add-a
 add-occurs-at c = omega arith
 
-sub-occurs-at : tie.Need-overflow-sub-occurs-at
+sub-occurs-at : tie.Need-slice_bounds-occurs_at-count
 sub-occurs-at c = omega arith
 
-part-occurs-at-start : tie.Need-slice-bounds-occurs-at-start
+part-occurs-at-start : tie.Need-slice_bounds-occurs_at-start
 part-occurs-at-start c = omega arith
 
-part-occurs-at-end : tie.Need-slice-bounds-occurs-at-end
+part-occurs-at-end : tie.Need-slice_bounds-occurs_at-end
 part-occurs-at-end c = omega arith
 
-add-occurs-at-2 : tie.Need-overflow-add-occurs-at-2
+add-occurs-at-2 : tie.Need-overflow_add-b
 add-occurs-at-2 c = omega arith
 
-sub-occurs-at-2 : tie.Need-overflow-sub-occurs-at-2
+sub-occurs-at-2 : tie.Need-slice_bounds-occurs_at-count-2
 sub-occurs-at-2 c = omega arith
 
-part-occurs-at-start-2 : tie.Need-slice-bounds-occurs-at-start-2
+part-occurs-at-start-2 : tie.Need-slice_bounds-occurs_at-start-2
 part-occurs-at-start-2 c = omega arith
 
-part-occurs-at-end-2 : tie.Need-slice-bounds-occurs-at-end-2
+part-occurs-at-end-2 : tie.Need-slice_bounds-occurs_at-end-2
 part-occurs-at-end-2 c = omega arith
 
-occurs-at-requires : tie.Need-occurs-at-requires
+occurs-at-requires : tie.Need-occurs_at-requires
 occurs-at-requires c κs = omega arith
 
 equal : (flag : ℕ) (list : List ℕ) (a m b n : ℕ) (r : Bool) → a + m ≤ length list → b + n ≤ length list → m ≡ n
@@ -59,16 +55,14 @@ equal flag list a m b n r h l q e =
     e ∙ ap (λ (k : ℕ). occurs_at (folded flag (take (a + m - a) (drop a list))) (folded flag (take (b + k - b) (drop b list))) 0) (sym q) in
     e' ∙ alike_is flag list a b m h (omega arith) ∙ ap (λ (k : ℕ). same (run flag list a m) (run flag list b k)) q
 
-returns-2 : tie.Need-returns-2
-returns-2 c = let s = c.before.before.before.before.before in
+returns-2 : tie.Need-returns
+returns-2 c = let s = c in
     let a = s.args in
-    equal a.flag a.list.now a.a a.m a.b a.n c.occurs-at.result s.requires.0 s.requires.1 c.before.before.before.if1.false
-    c.occurs-at.ensures
+    equal a.flag a.list.now a.a a.m a.b a.n c.occurs_at.result s.requires.0 s.requires.1 c.if-m-n.false
+    c.occurs_at.ensures
 
-pub alike-at-spec : {M : Type 1} → statement M
-alike-at-spec =
-    tie.close
-    (tie.spec
+pub alike_at_spec : {M : Type 1} → statement M
+alike_at_spec = tie.close (tie.spec
     returns
     add-occurs-at
     sub-occurs-at

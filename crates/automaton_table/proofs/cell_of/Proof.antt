@@ -1,39 +1,34 @@
 -- `automaton_table::cell_of` meets its contract: the three cases of a step.
-use mathlib.Core.Path.{◌≡◌, refl, sym, ap, ap₂, ◌∙◌}
+use mathlib.Core.Path.{◌≡◌, sym, ap, ◌∙◌}
 use mathlib.Core.Logic.{◌≢◌}
 use mathlib.Core.Bool.{cond}
 use mathlib.Core.List.{List, []}
-use Prim.Native.Nat.{ℕ, ◌+◌, ◌*◌, ◌≤◌, ◌<◌}
+use Prim.Native.Nat.{ℕ, ◌+◌, ◌*◌, ◌<◌}
 use native.Mathlib.Omega.{arith}
 use lib.Dec.{ltb}
-use lib.ListN.{length, get_or}
+use lib.ListN.{get_or}
 use Rattle.spec.specs.Keywords.{fold_byte, flag_of, folded_keywords}
 use Rattle.spec.specs.Trie.{step}
 use Rattle.trie.specs.Numbers.{node_count, node_at}
-use Rattle.trie.proofs.Numbering.{number-is-node, root-number, number-below}
-use Rattle.automaton.specs.Automaton.{ending_set, packed, cell_of}
+use Rattle.trie.proofs.Numbering.{number-is-node, root-number}
+use Rattle.automaton.specs.Automaton.{packed, cell_of}
 use Rattle.automaton_table.specs.Building.{child_number, CanFill}
 use Rattle.automaton.proofs.Cells.{small, unpacked}
 use Rattle.automaton_table.proofs.Rows.{no-child, child-below, to-child, to-root, to-link, some_bytes}
-use borrow.Author.Rules.{rules}
 use Rattle.automaton_table.proofs.cell_of.Statement.{statement}
 use Rattle.automaton_table.proofs.cell_of.Tie as tie
-use Rattle.automaton_table.proofs.cell_of.Reads as reads
-use Rattle.automaton_table.proofs.cell_of.Lts as lts
-use Rattle.automaton_table.proofs.pack.Reads as pack-reads
-use Rattle.folding.proofs.fold.Reads as fold-reads
 
-fold-requires : tie.Need-fold-requires
+fold-requires : tie.Need-fold-c-requires
 fold-requires c κs = omega arith
 
-cast-c : tie.Need-overflow-cast-c
+cast-c : tie.Need-overflow_cast-c
 cast-c c = omega arith
 
-mul-t : tie.Need-overflow-mul-t
+mul-t : tie.Need-offset_bounds-children-c
 mul-t c = omega arith
 
-shared-slice-read-t : tie.Need-shared-slice-read-t
-shared-slice-read-t c = let s = c.before.before.before.before.before.before in omega (arith, s.requires.born.wide)
+shared-slice-read-t : tie.Need-bounds-children-c
+shared-slice-read-t c = let s = c in omega (arith, s.requires.born.wide)
 
 module _ (list table sets children : List ℕ) (flag s linked : ℕ) (r : CanFill list table sets children flag s linked) (b c : ℕ) (e : c ≡ fold_byte flag b)
     (h : c < 256) where
@@ -85,92 +80,90 @@ module _ (list table sets children : List ℕ) (flag s linked : ℕ) (r : CanFil
       (unpacked (folded_keywords list) (small list r.accepted) (node_at (folded_keywords list) linked) (fold_byte (flag_of list) b)
       (number-is-node (folded_keywords list) linked (r.row z).inside)).small
 
-cast-pack : tie.Need-overflow-cast-pack
-cast-pack c = let s = c.before.before.before.before.before.before.before in
+cast-pack : tie.Need-overflow_cast-t
+cast-pack c = let s = c in
     let a = s.args in
-    let k = c.before.before in
-    let b = below a.list.now a.table.now a.sets.now a.children.now a.flag a.s a.linked s.requires a.b k.fold.result
-    k.fold.ensures (omega arith) c.if1.true in omega (arith, b, (small a.list.now s.requires.accepted).count)
+    let k = c in
+    let b = below a.list.now a.table.now a.sets.now a.children.now a.flag a.s a.linked s.requires a.b k.fold-c.result
+    k.fold-c.ensures (omega arith) c.if-t-ne0.true in omega (arith, b, (small a.list.now s.requires.accepted).count)
 
-mul-pack : tie.Need-overflow-mul-pack
-mul-pack c = let s = c.before.before.before.before.before.before.before in
+mul-pack : tie.Need-offset_bounds-sets-t
+mul-pack c = let s = c in
     let a = s.args in
-    let k = c.before.before in
-    let b = below a.list.now a.table.now a.sets.now a.children.now a.flag a.s a.linked s.requires a.b k.fold.result
-    k.fold.ensures (omega arith) c.if1.true in omega (arith, b, (small a.list.now s.requires.accepted).count)
+    let k = c in
+    let b = below a.list.now a.table.now a.sets.now a.children.now a.flag a.s a.linked s.requires a.b k.fold-c.result
+    k.fold-c.ensures (omega arith) c.if-t-ne0.true in omega (arith, b, (small a.list.now s.requires.accepted).count)
 
-shared-slice-read-pack : tie.Need-shared-slice-read-pack
-shared-slice-read-pack c = let s = c.before.before.before.before.before.before.before.before in
+shared-slice-read-pack : tie.Need-bounds-sets-t
+shared-slice-read-pack c = let s = c in
     let a = s.args in
-    let k = c.before.before.before in
-    let b = below a.list.now a.table.now a.sets.now a.children.now a.flag a.s a.linked s.requires a.b k.fold.result
-    k.fold.ensures (omega arith) c.before.if1.true in omega (arith, b, s.requires.known.wide)
+    let k = c in
+    let b = below a.list.now a.table.now a.sets.now a.children.now a.flag a.s a.linked s.requires a.b k.fold-c.result
+    k.fold-c.ensures (omega arith) c.if-t-ne0.true in omega (arith, b, s.requires.known.wide)
 
 pack-requires : tie.Need-pack-requires
-pack-requires c κs = let s = c.before.before.before.before.before.before.before.before in
+pack-requires c κs = let s = c in
     let a = s.args in
-    let k = c.before.before.before in
-    let b = below a.list.now a.table.now a.sets.now a.children.now a.flag a.s a.linked s.requires a.b k.fold.result
-    k.fold.ensures (omega arith) c.before.if1.true in omega (arith, b, (small a.list.now s.requires.accepted).count)
+    let k = c in
+    let b = below a.list.now a.table.now a.sets.now a.children.now a.flag a.s a.linked s.requires a.b k.fold-c.result
+    k.fold-c.ensures (omega arith) c.if-t-ne0.true in omega (arith, b, (small a.list.now s.requires.accepted).count)
 
-returns : tie.Need-returns
-returns c = let s = c.before.before.before.before.before.before.before.before.before in
+returns : tie.Need-returns-then-t-ne0
+returns c = let s = c in
     let a = s.args in
-    let k = c.before.before.before.before in
-    by-child a.list.now a.table.now a.sets.now a.children.now a.flag a.s a.linked s.requires a.b k.fold.result
-    k.fold.ensures (omega arith) c.pack.result c.before.before.if1.true c.pack.ensures
+    let k = c in
+    by-child a.list.now a.table.now a.sets.now a.children.now a.flag a.s a.linked s.requires a.b k.fold-c.result
+    k.fold-c.ensures (omega arith) c.pack.result c.if-t-ne0.true c.pack.ensures
 
-shared-slice-read-pack-2 : tie.Need-shared-slice-read-pack-2
-shared-slice-read-pack-2 c = let s = c.before.before.before.before.before.before.before.before.before in
+shared-slice-read-pack-2 : tie.Need-bounds-sets-0
+shared-slice-read-pack-2 c = let s = c in
     omega (arith, s.requires.known.wide, s.requires.inside)
 
-pack-requires-2 : tie.Need-pack-requires-2
+pack-requires-2 : tie.Need-pack-requires-then-s-eq0
 pack-requires-2 c κs = omega arith
 
-returns-2 : tie.Need-returns-2
-returns-2 c = let s = c.before.before.before.before.before.before.before.before.before.before in
+returns-2 : tie.Need-returns-then-s-eq0
+returns-2 c = let s = c in
     let a = s.args in
-    let k = c.before.before.before.before.before in
-    at-root a.list.now a.table.now a.sets.now a.children.now a.flag a.s a.linked s.requires a.b k.fold.result
-    k.fold.ensures (omega arith) c.pack2.result c.before.before.before.if1.false c.before.before.if2.true c.pack2.ensures
+    let k = c in
+    at-root a.list.now a.table.now a.sets.now a.children.now a.flag a.s a.linked s.requires a.b k.fold-c.result
+    k.fold-c.ensures (omega arith) c.pack-then-s-eq0.result c.if-t-ne0.false c.if-s-eq0.true c.pack-then-s-eq0.ensures
 
-mul-result : tie.Need-overflow-mul-result
-mul-result c = let s = c.before.before.before.before.before.before.before.before in let r = s.requires.row c.if2.false in
+mul-result : tie.Need-overflow_mul-result
+mul-result c = let s = c in let r = s.requires.row c.if-s-eq0.false in
     omega (arith, r.inside, (small s.args.list.now s.requires.accepted).count)
 
-add-result : tie.Need-overflow-add-result
-add-result c = let s = c.before.before.before.before.before.before.before.before in let r = s.requires.row c.if2.false in
+add-result : tie.Need-overflow_add-result
+add-result c = let s = c in let r = s.requires.row c.if-s-eq0.false in
     omega (arith, r.inside, (small s.args.list.now s.requires.accepted).count)
 
-mul-result-2 : tie.Need-overflow-mul-result-2
-mul-result-2 c = let s = c.before.before.before.before.before.before.before.before in let r = s.requires.row c.if2.false in
+mul-result-2 : tie.Need-offset_bounds-table-linked
+mul-result-2 c = let s = c in let r = s.requires.row c.if-s-eq0.false in
     omega (arith, r.inside, (small s.args.list.now s.requires.accepted).count)
 
-shared-slice-read-result : tie.Need-shared-slice-read-result
-shared-slice-read-result c = let s = c.before.before.before.before.before.before.before.before.before in
-    let r = s.requires.row c.before.if2.false in omega (arith, r.room)
+shared-slice-read-result : tie.Need-bounds-table-linked
+shared-slice-read-result c = let s = c in
+    let r = s.requires.row c.if-s-eq0.false in omega (arith, r.room)
 
-add-result-2 : tie.Need-overflow-add-result-2
-add-result-2 c = let s = c.before.before.before.before.before.before.before.before.before in
+add-result-2 : tie.Need-overflow_add-result-2
+add-result-2 c = let s = c in
     let a = s.args in
-    let k = c.before.before.before.before in
+    let k = c in
     omega (
       arith,
-      link-small a.list.now a.table.now a.sets.now a.children.now a.flag a.s a.linked s.requires a.b k.fold.result
-          k.fold.ensures (omega arith) c.before.if2.false (omega arith),
+      link-small a.list.now a.table.now a.sets.now a.children.now a.flag a.s a.linked s.requires a.b k.fold-c.result
+          k.fold-c.ensures (omega arith) c.if-s-eq0.false (omega arith),
     )
 
-returns-3 : tie.Need-returns-3
-returns-3 c = let s = c.before.before.before.before.before.before.before.before.before in
+returns-3 : tie.Need-returns
+returns-3 c = let s = c in
     let a = s.args in
-    let k = c.before.before.before.before in
-    by-link a.list.now a.table.now a.sets.now a.children.now a.flag a.s a.linked s.requires a.b k.fold.result
-    k.fold.ensures (omega arith) c.before.before.if1.false c.before.if2.false (omega arith)
+    let k = c in
+    by-link a.list.now a.table.now a.sets.now a.children.now a.flag a.s a.linked s.requires a.b k.fold-c.result
+    k.fold-c.ensures (omega arith) c.if-t-ne0.false c.if-s-eq0.false (omega arith)
 
-pub cell-of-spec : {M : Type 1} → statement M
-cell-of-spec =
-    tie.close
-    (tie.spec
+pub cell_of_spec : {M : Type 1} → statement M
+cell_of_spec = tie.close (tie.spec
     fold-requires
     cast-c
     mul-t

@@ -1,10 +1,10 @@
 -- `automaton_table::prefix_at` meets its contract: the invariant says that the prefix is the largest number up to i that passes.
-use mathlib.Core.Path.{◌≡◌, refl, sym, ap, ap₂, ◌∙◌}
+use mathlib.Core.Path.{◌≡◌, sym, ap, ap₂, ◌∙◌}
 use mathlib.Core.Bool.{Bool, true, false}
-use mathlib.Core.List.{List, []}
-use Prim.Native.Nat.{ℕ, ◌+◌, ◌*◌, ◌-◌, ◌≤◌, ◌<◌}
+use mathlib.Core.List.{List}
+use Prim.Native.Nat.{ℕ, ◌-◌, ◌≤◌, ◌<◌}
 use native.Mathlib.Omega.{arith}
-use lib.ListN.{length, take, get_or}
+use lib.ListN.{take, get_or}
 use Rattle.spec.specs.Bytes.{largest}
 use Rattle.spec.specs.Keywords.{flag_of, folded_keywords}
 use Rattle.spec.specs.Join.{keyword_at}
@@ -14,23 +14,19 @@ use Rattle.keywords.specs.Parsed.{Reads}
 use Rattle.trie.specs.Endings.{is_ending, prefix_at}
 use Rattle.automaton_table.specs.Building.{run}
 use Rattle.automaton_table.proofs.Words.{words-few, words-flag, words-all, word_room, word_some, word-most, word-length, word-front, word_none}
-use borrow.Author.Rules.{rules}
 use Rattle.automaton_table.proofs.prefix_at.Statement.{statement}
 use Rattle.automaton_table.proofs.prefix_at.Tie as tie
-use Rattle.automaton_table.proofs.prefix_at.Reads as reads
-use Rattle.automaton_table.proofs.prefix_at.Lts as lts
-use Rattle.automaton_table.proofs.ends_with.Reads as ends-with-reads
 
 -- keyword k's first i bytes are an ending of the n bytes from `at`
 abbrev test : List ℕ → ℕ → ℕ → ℕ → ℕ → Bool
 test list k at n i = is_ending (take i (keyword_at (folded_keywords list) k)) (run (flag_of list) list at n)
 
-abbrev invariant-loop : tie.invariant-loop
+abbrev invariant-loop : tie.invariant-loop-i
 invariant-loop list words k at n start i₀ i =
     (k < words.count) × (i < get_or words.len k 0)
     × (prefix_at (keyword_at (folded_keywords list) k) (run (flag_of list) list at n) ≡ largest (test list k at n) i)
 
-abbrev decreases-loop : tie.decreases-loop
+abbrev decreases-loop : tie.decreases-loop-i
 decreases-loop list words k at n start i₀ i = i
 
 none : (list : List ℕ) (words : Keywords) → Reads list words → (k : ℕ) (u : List ℕ) → words.count ≤ k → 0 ≡ prefix_at (keyword_at (folded_keywords list) k) u
@@ -47,90 +43,88 @@ tested : (list : List ℕ) (words : Keywords) → Reads list words → (k at n i
 tested list words r k at n i h l b t e q =
     ap₂ is_ending (sym (word-front list words r k h i (omega arith))) (ap (λ (f : ℕ). run f list at n) (sym (words-flag list words r))) ∙ sym e ∙ q
 
-returns : tie.Need-returns invariant-loop decreases-loop
-returns c = let s = c.before.before.before in let a = s.args in none a.list.now a.words s.requires.0 a.k _ c.if1.true
+returns : tie.Need-returns-then-words-k invariant-loop decreases-loop
+returns c = let s = c in let a = s.args in none a.list.now a.words s.requires.0 a.k _ c.if-words-k.true
 
-few : (e : tie.Else1 invariant-loop decreases-loop) → e.before.before.before.args.k < 16
-few e = let s = e.before.before.before in omega (arith, words-few s.args.list.now s.args.words s.requires.0, e.if1.false)
+few : (e : tie.Else-words-k invariant-loop decreases-loop) → e.args.k < 16
+few e = let s = e in omega (arith, words-few s.args.list.now s.args.words s.requires.0, e.if-words-k.false)
 
-mul-i : tie.Need-overflow-mul-i invariant-loop decreases-loop
+mul-i : tie.Need-offset_bounds-len-k invariant-loop decreases-loop
 mul-i c = omega (arith, few c.before.before)
 
-array-read-i : tie.Need-array-read-i invariant-loop decreases-loop
+array-read-i : tie.Need-bounds-len-k invariant-loop decreases-loop
 array-read-i c = omega (arith, few c.before.before)
 
-sub-i : tie.Need-overflow-sub-i invariant-loop decreases-loop
-sub-i c = let e = c.before.before in let s = e.before.before.before in omega (
+sub-i : tie.Need-overflow_sub-i invariant-loop decreases-loop
+sub-i c = let e = c.before.before in let s = e in omega (
   arith,
   word_some s.args.list.now s.args.words s.requires.0
-      s.args.k e.if1.false,
+      s.args.k e.if-words-k.false,
 )
 
-loop-holds : tie.Need-loop-init invariant-loop decreases-loop
+loop-holds : tie.Need-loop-i-init invariant-loop decreases-loop
 loop-holds c = let e = c.before.before in
-    let s = e.before.before.before in
+    let s = e in
     let a = s.args in (
-      e.if1.false,
-      omega (arith, word_some a.list.now a.words s.requires.0 a.k e.if1.false),
+      e.if-words-k.false,
+      omega (arith, word_some a.list.now a.words s.requires.0 a.k e.if-words-k.false),
       begin a.list.now a.words s.requires.0 a.k
-          a.at a.n e.if1.false,
+          a.at a.n e.if-words-k.false,
     )
 
-mul-ends-with : tie.Need-overflow-mul-ends-with invariant-loop decreases-loop
+mul-ends-with : tie.Need-offset_bounds-start-k invariant-loop decreases-loop
 mul-ends-with c = omega (arith, few c.before.before.before.before)
 
-array-read-ends-with : tie.Need-array-read-ends-with invariant-loop decreases-loop
+array-read-ends-with : tie.Need-bounds-start-k invariant-loop decreases-loop
 array-read-ends-with c = omega (arith, few c.before.before.before.before)
 
-ends-with-requires : tie.Need-ends-with-requires invariant-loop decreases-loop
+ends-with-requires : tie.Need-ends_with-requires invariant-loop decreases-loop
 ends-with-requires c κs = let p = c.before in
-    let s = p.before.before.before.before.before.before in
+    let s = p in
     let a = s.args in
-    (omega (arith, word_room a.list.now a.words s.requires.0 a.k p.loop.invariant.0, p.loop.invariant.1), s.requires.1)
+    (omega (arith, word_room a.list.now a.words s.requires.0 a.k p.loop-i.invariant.0, p.loop-i.invariant.1), s.requires.1)
 
-cast-result : tie.Need-overflow-cast-result invariant-loop decreases-loop
+cast-result : tie.Need-overflow_cast-result invariant-loop decreases-loop
 cast-result c = let p = c.before.before.before in
-    let s = p.before.before.before.before.before.before in
+    let s = p in
     let a = s.args in
-    omega (arith, word-most a.list.now a.words s.requires.0 a.k p.loop.invariant.0, p.loop.invariant.1)
+    omega (arith, word-most a.list.now a.words s.requires.0 a.k p.loop-i.invariant.0, p.loop-i.invariant.1)
 
-returns-2 : tie.Need-returns-2 invariant-loop decreases-loop
+returns-2 : tie.Need-returns-then-ends_with invariant-loop decreases-loop
 returns-2 c = let p = c.before.before.before in
-    let s = p.before.before.before.before.before.before in
+    let s = p in
     let a = s.args in
-    let o = c.before.ends-with in
-    let yes = tested a.list.now a.words s.requires.0 a.k a.at a.n p.loop.i p.loop.invariant.0 p.loop.invariant.1 o.result true
-    o.ensures c.if2.true in
-    sym (p.loop.invariant.2 ∙ largest-yes (test a.list.now a.k a.at a.n) p.loop.i yes)
+    let o = c.ends_with in
+    let yes = tested a.list.now a.words s.requires.0 a.k a.at a.n p.loop-i.i p.loop-i.invariant.0 p.loop-i.invariant.1 o.result true
+    o.ensures c.if-ends_with.true in
+    sym (p.loop-i.invariant.2 ∙ largest-yes (test a.list.now a.k a.at a.n) p.loop-i.i yes)
 
-sub-i-2 : tie.Need-overflow-sub-i-2 invariant-loop decreases-loop
+sub-i-2 : tie.Need-overflow_sub-i-in-loop-i invariant-loop decreases-loop
 sub-i-2 c = omega arith
 
-loop-less : tie.Need-loop-smaller invariant-loop decreases-loop
+loop-less : tie.Need-loop-i-smaller invariant-loop decreases-loop
 loop-less c = omega arith
 
-loop-again : tie.Need-loop-preserved invariant-loop decreases-loop
+loop-again : tie.Need-loop-i-preserved invariant-loop decreases-loop
 loop-again c = let p = c.before.before.before in
-    let s = p.before.before.before.before.before.before in
+    let s = p in
     let a = s.args in
-    let o = c.before.ends-with in
-    let no = tested a.list.now a.words s.requires.0 a.k a.at a.n p.loop.i p.loop.invariant.0 p.loop.invariant.1 o.result false
-    o.ensures c.if2.false in (
-      p.loop.invariant.0,
-      omega (arith, p.loop.invariant.1),
-      p.loop.invariant.2 ∙ largest-no (test a.list.now a.k a.at a.n) p.loop.i (omega (arith, c.before.before.loop-test.true)) no,
+    let o = c.ends_with in
+    let no = tested a.list.now a.words s.requires.0 a.k a.at a.n p.loop-i.i p.loop-i.invariant.0 p.loop-i.invariant.1 o.result false
+    o.ensures c.if-ends_with.false in (
+      p.loop-i.invariant.0,
+      omega (arith, p.loop-i.invariant.1),
+      p.loop-i.invariant.2 ∙ largest-no (test a.list.now a.k a.at a.n) p.loop-i.i (omega (arith, c.loop-i-test.true)) no,
     )
 
-returns-3 : tie.Need-returns-3 invariant-loop decreases-loop
-returns-3 c = let p = c.before in
-    let a = p.before.before.before.before.before.before.args in
-    let z : p.loop.i ≡ 0 = omega (arith, c.loop-test.false) in
-    sym (p.loop.invariant.2 ∙ ap (largest (test a.list.now a.k a.at a.n)) z)
+returns-3 : tie.Need-returns invariant-loop decreases-loop
+returns-3 c = let p = c in
+    let a = p.args in
+    let z : p.loop-i.i ≡ 0 = omega (arith, c.loop-i-test.false) in
+    sym (p.loop-i.invariant.2 ∙ ap (largest (test a.list.now a.k a.at a.n)) z)
 
-pub prefix-at-spec : {M : Type 1} → statement M
-prefix-at-spec =
-    tie.close
-    (tie.spec
+pub prefix_at_spec : {M : Type 1} → statement M
+prefix_at_spec = tie.close (tie.spec
     invariant-loop
     decreases-loop
     returns

@@ -1,20 +1,17 @@
 -- `automaton_table::with_bit` meets its contract.
-use mathlib.Core.Path.{◌≡◌, refl, sym, ap, ◌∙◌}
+use mathlib.Core.Path.{◌≡◌, ◌∙◌}
 use mathlib.Core.Bool.{Bool, true, false, cond}
-use Prim.Native.Nat.{ℕ, suc, ◌+◌, ◌*◌, ◌%◌, ◌^◌, ◌≤◌, ◌<◌}
+use Prim.Native.Nat.{ℕ, suc, ◌+◌, ◌*◌, ◌%◌, ◌^◌, ◌<◌}
 use native.Mathlib.Nat.{one-mul, zero-mul, zero-add, add_comm}
 use native.Mathlib.Omega.{arith}
 use lib.Pow.{shl_exact, pow_mono}
-use borrow.Author.Rules.{rules}
 use Rattle.automaton_table.proofs.with_bit.Statement.{statement}
 use Rattle.automaton_table.proofs.with_bit.Tie as tie
-use Rattle.automaton_table.proofs.with_bit.Reads as reads
-use Rattle.automaton_table.proofs.with_bit.Lts as lts
 
-cast-result : tie.Need-overflow-cast-result
+cast-result : tie.Need-overflow_cast-result
 cast-result c = omega arith
 
-shl-result : tie.Need-overflow-shl-result
+shl-result : tie.Need-overflow_shl-result
 shl-result c = omega arith
 
 -- the machine's `1 << k`
@@ -30,14 +27,19 @@ bit set k b h e = rw (e, shl_one k h, one-mul) (add_comm set (2 ^ k))
 none : (set k : ℕ) (b : Bool) → b ≡ false → set ≡ cond b 1 0 * 2 ^ k + set
 none set k b e = rw (e, zero-mul, zero-add)
 
-add-result : tie.Need-overflow-add-result
-add-result c = let a = c.before.args in record { fits = room a.set a.k c.before.requires.0 c.before.requires.1 }
+add-result : tie.Need-overflow_add-result
+add-result c = let a = c.args in record { fits = room a.set a.k c.requires.0 c.requires.1 }
 
-returns : tie.Need-returns
-returns c = let a = c.before.args in bit a.set a.k a.holds c.before.requires.0 c.if1.true
+returns : tie.Need-returns-then-holds
+returns c = let a = c.args in bit a.set a.k a.holds c.requires.0 c.if-holds.true
 
-returns-2 : tie.Need-returns-2
-returns-2 c = let a = c.before.args in none a.set a.k a.holds c.if1.false
+returns-2 : tie.Need-returns
+returns-2 c = let a = c.args in none a.set a.k a.holds c.if-holds.false
 
-pub with-bit-spec : {M : Type 1} → statement M
-with-bit-spec = tie.close (tie.spec cast-result shl-result add-result returns returns-2)
+pub with_bit_spec : {M : Type 1} → statement M
+with_bit_spec = tie.close (tie.spec
+    cast-result
+    shl-result
+    add-result
+    returns
+    returns-2)

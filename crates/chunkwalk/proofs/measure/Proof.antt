@@ -5,52 +5,50 @@ use Rattle.chunkwalk.proofs.measure.Statement.{statement}
 use Rattle.chunkwalk.proofs.measure.Tie as tie
 
 -- where the function starts, and where the chunk is counted
-abbrev outset : tie.After-count → tie.Start
+abbrev outset : tie.After-count-w → tie.Start
 outset w = w.before.before.before.before.before.before.before.before.before.before.before.before.before.before
 
-abbrev counted : tie.After-slice-known8 → tie.After-count
+abbrev counted : tie.After-slice_known-8-1 → tie.After-count-w
 counted c = c.before.before.before.before.before.before.before.before
 
-count-requires : tie.Need-count-requires
+count-requires : tie.Need-count-w-requires
 count-requires c κs =
-    let s = c.before.before.before.before.before.before.before.before.before.before.before.before.before in
+    let s = c in
     can-window s.requires.0 s.args.chunk.now s.requires.1
 
-body-size-requires : tie.Need-body-size-requires
+body-size-requires : tie.Need-body_size-size-requires
 body-size-requires c κs =
-    let w = counted c in
-    let s = outset w in
-    count-tells s.pre.0 s.args.chunk.now s.pre.1 w.count.result w.count.ensures
-
-mark-of-requires : tie.Need-mark-of-requires
-mark-of-requires c κs =
     let w = counted c.before in
     let s = outset w in
-    omega (arith, count-node s.pre.0 s.args.chunk.now s.pre.1 w.count.result w.count.ensures, last-few s.pre.0 s.args.chunk.now s.pre.1)
+    count-tells s.requires.0 s.args.chunk.now s.requires.1 w.count-w.result w.count-w.ensures
 
-same_length : tie.Need-same-length
-same_length c = (counted c.before.before).count.auto.1.1.1.1.1.0
+mark-of-requires : tie.Need-mark_of-requires
+mark-of-requires c κs =
+    let w = counted c.before.before in
+    let s = outset w in
+    omega (arith, count-node s.requires.0 s.args.chunk.now s.requires.1 w.count-w.result w.count-w.ensures, last-few s.requires.0 s.args.chunk.now s.requires.1)
 
-same-length-2 : tie.Need-same-length-2
-same-length-2 c = (counted c.before.before).count.auto.1.1.1.1.1.1.0
+same_length : tie.Need-shape_of-log
+same_length c = (counted c.before.before.before).count-w.auto.log
 
-same-length-3 : tie.Need-same-length-3
-same-length-3 c = (counted c.before.before).count.auto.1.1.1.1.1.1.1.0
+same-length-2 : tie.Need-shape_of-run1
+same-length-2 c = (counted c.before.before.before).count-w.auto.run1
 
-same-length-4 : tie.Need-same-length-4
-same-length-4 c = (counted c.before.before).count.auto.1.1.1.1.1.1.1.1.0
+same-length-3 : tie.Need-shape_of-run2
+same-length-3 c = (counted c.before.before.before).count-w.auto.run2
+
+same-length-4 : tie.Need-shape_of-run3
+same-length-4 c = (counted c.before.before.before).count-w.auto.run3
 
 returns : tie.Need-returns
 returns c =
-    let w = counted c.before.before in
+    let w = counted c.before.before.before in
     let s = outset w in
-    measured-is s.pre.0 s.args.chunk.now s.pre.1 w.count.result w.count.ensures c.before.body-size.result c.mark_of.result
-    c.before.body-size.ensures c.mark_of.ensures
+    measured-is s.requires.0 s.args.chunk.now s.requires.1 w.count-w.result w.count-w.ensures c.body_size-size.result c.mark_of.result
+    c.body_size-size.ensures c.mark_of.ensures
 
-pub measure-spec : {M : Type 1} → statement M
-measure-spec =
-    tie.close
-    (tie.spec
+pub measure_spec : {M : Type 1} → statement M
+measure_spec = tie.close (tie.spec
     count-requires
     body-size-requires
     mark-of-requires

@@ -6,27 +6,25 @@ use Rattle.chunkwalk.specs.Marks.{nothing}
 use Rattle.chunkwalk.proofs.put_unwalked.Statement.{statement}
 use Rattle.chunkwalk.proofs.put_unwalked.Tie as tie
 
-put-starts-requires : tie.Need-put-starts-requires
-put-starts-requires c κs = c.before.before.before.before.before.requires
+put-starts-requires : tie.Need-put_starts-started-requires
+put-starts-requires c κs = c.requires
 
-same_length : tie.Need-same-length
-same_length c = c.before.before.put-starts.auto.0
+same_length : tie.Need-shape_of-out
+same_length c = c.put_starts-started.auto.out
 
 returns : tie.Need-returns
 returns c =
-    let p = c.before.before in
-    let s = p.before.before.before.before.before.before in
+    let p = c in
+    let s = p in
     let a = s.args in
-    let r = p.put-starts in (
-      body-without a.list.now a.words a.chunk.now a.tails.now a.node nothing s.requires.0 (λ k. zeros 16 k) a.out.now r.new.0
+    let r = p.put_starts-started in (
+      body-without a.list.now a.words a.chunk.now a.tails.now a.node nothing s.requires.0 (λ k. zeros 16 k) a.out.now r.new.out
           s.requires.1 r.ensures.0,
       started-size a.list.now a.chunk.now r.result r.ensures.1,
     )
 
-pub put-unwalked-spec : {M : Type 1} → statement M
-put-unwalked-spec =
-    tie.close
-    (tie.spec
+pub put_unwalked_spec : {M : Type 1} → statement M
+put_unwalked_spec = tie.close (tie.spec
     put-starts-requires
     same_length
     returns)

@@ -4,27 +4,31 @@ use Rattle.compact.proofs.Writing.{none-put, one-room, one-put}
 use Rattle.compact.proofs.put_marked.Statement.{statement}
 use Rattle.compact.proofs.put_marked.Tie as tie
 
-returns : tie.Need-returns
+returns : tie.Need-returns-then-mark-ne1
 returns c =
-    let a = c.before.before.before.args in
-    none-put a.store.now a.out.now a.place.entry a.place.at a.k a.mark c.if1.true
+    let a = c.args in
+    none-put a.store.now a.out.now a.place.entry a.place.at a.k a.mark c.if-mark-ne1.true
 
-put-chunk-requires : tie.Need-put-chunk-requires
+put-chunk-requires : tie.Need-put_chunk-requires
 put-chunk-requires c κs =
-    let s = c.before.before.before.before in
+    let s = c in
     let a = s.args in
-    one-room a.store.now a.out.now a.place.entry a.place.at a.k a.mark c.before.if1.false s.requires
+    one-room a.store.now a.out.now a.place.entry a.place.at a.k a.mark c.if-mark-ne1.false s.requires
 
-same_length : tie.Need-same-length
+same_length : tie.Need-shape_of-out
 same_length c = search rules
 
-returns-2 : tie.Need-returns-2
+returns-2 : tie.Need-returns
 returns-2 c =
     let r = c.before.before in
-    let f = r.before.before in
-    let a = f.before.before.before.args in
-    one-put a.store.now a.out.now a.place.entry a.place.at a.k a.mark f.if1.false
-    r.put-chunk.new.0 r.put-chunk.result.entry r.put-chunk.result.at r.put-chunk.ensures
+    let f = r in
+    let a = f.args in
+    one-put a.store.now a.out.now a.place.entry a.place.at a.k a.mark f.if-mark-ne1.false
+    r.put_chunk.new.out r.put_chunk.result.entry r.put_chunk.result.at r.put_chunk.ensures
 
-pub put-marked-spec : {M : Type 1} → statement M
-put-marked-spec = tie.close (tie.spec returns put-chunk-requires same_length returns-2)
+pub put_marked_spec : {M : Type 1} → statement M
+put_marked_spec = tie.close (tie.spec
+    returns
+    put-chunk-requires
+    same_length
+    returns-2)

@@ -8,10 +8,7 @@ use Rattle.compact.proofs.put_store.Tie as tie
 
 -- where the function starts
 abbrev outset : tie.After-copy → tie.Start
-outset k = k.before.before.before.before.before.before
-
-slice-aggregate-copy : tie.Need-slice-aggregate-copy
-slice-aggregate-copy c = search rules
+outset k = k.before.before.before.before.before.before.before
 
 copy-requires : tie.Need-copy-requires
 copy-requires c κs = search rules
@@ -19,14 +16,14 @@ copy-requires c κs = search rules
 write-requires : tie.Need-write-requires
 write-requires c κs = search rules
 
-put-chunks-requires : tie.Need-put-chunks-requires
+put-chunks-requires : tie.Need-put_chunks-requires
 put-chunks-requires c κs =
     let w = c.before.before.before in
     let k = w.before.before.before.before in
     let s = outset k in
-    record { marked = s.pre.marked; number = s.pre.number; room = omega (arith, s.pre.room, k.copy.auto.0, w.write.auto.0) }
+    record { marked = s.requires.marked; number = s.requires.number; room = omega (arith, s.requires.room, k.copy.auto.out, w.write.auto.out) }
 
-same_length : tie.Need-same-length
+same_length : tie.Need-shape_of-out
 same_length c = search rules
 
 returns : tie.Need-returns
@@ -36,14 +33,11 @@ returns c =
     let k = w.before.before.before.before in
     let s = outset k in
     let a = s.args in
-    store-put a.out.now k.copy.new.0 w.write.new.0 r.put-chunks.new.0 (marked_from a.store.now a.marks.now 0) a.n
-    s.pre.number (omega (arith, s.pre.room)) k.copy.ensures w.write.ensures r.put-chunks.ensures
+    store-put a.out.now k.copy.new.out w.write.new.out r.put_chunks.new.out (marked_from a.store.now a.marks.now 0) a.n
+    s.requires.number (omega (arith, s.requires.room)) k.copy.ensures w.write.ensures r.put_chunks.ensures
 
-pub put-store-spec : {M : Type 1} → statement M
-put-store-spec =
-    tie.close
-    (tie.spec
-    slice-aggregate-copy
+pub put_store_spec : {M : Type 1} → statement M
+put_store_spec = tie.close (tie.spec
     copy-requires
     write-requires
     put-chunks-requires

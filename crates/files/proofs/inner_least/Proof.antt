@@ -6,17 +6,21 @@ use borrow.Author.Rules.{rules}
 use Rattle.files.proofs.inner_least.Statement.{statement}
 use Rattle.files.proofs.inner_least.Tie as tie
 
-returns : tie.Need-returns
-returns c = least-none c.before.args.opened c.if1.true
+returns : tie.Need-returns-then-sets
+returns c = least-none c.args.opened c.if-sets.true
 
-returns-2 : tie.Need-returns-2
-returns-2 c = omega (arith, c.if2.true) ∙ least-longest c.before.before.args.opened c.before.if1.false
+returns-2 : tie.Need-returns-then-longest-eq0
+returns-2 c = omega (arith, c.if-longest-eq0.true) ∙ least-longest c.args.opened c.if-sets.false
 
-sub-result : tie.Need-overflow-sub-result
+sub-result : tie.Need-overflow_sub-result
 sub-result c = search rules
 
-returns-3 : tie.Need-returns-3
-returns-3 c = least-longest c.before.before.args.opened c.before.if1.false
+returns-3 : tie.Need-returns
+returns-3 c = least-longest c.args.opened c.if-sets.false
 
-pub inner-least-spec : {M : Type 1} → statement M
-inner-least-spec = tie.close (tie.spec returns returns-2 sub-result returns-3)
+pub inner_least_spec : {M : Type 1} → statement M
+inner_least_spec = tie.close (tie.spec
+    returns
+    returns-2
+    sub-result
+    returns-3)

@@ -5,24 +5,29 @@ use borrow.Author.Rules.{rules}
 use Rattle.files.proofs.keep.Statement.{statement}
 use Rattle.files.proofs.keep.Tie as tie
 
-cast-slots : tie.Need-overflow-cast-slots
+cast-slots : tie.Need-overflow_cast-slots
 cast-slots c = search rules
 
-mul-slots : tie.Need-overflow-mul-slots
+mul-slots : tie.Need-offset_bounds-slots-j
 mul-slots c = search rules
 
-slice-write-slots : tie.Need-slice-write-slots
+slice-write-slots : tie.Need-bounds-slots-j
 slice-write-slots c = search rules
 
-same_length : tie.Need-same-length
+same_length : tie.Need-shape_of-slots
 same_length c = search rules
 
-returns : tie.Need-returns
+returns : tie.Need-returns-then-j-slots
 returns c = search rules
 
-returns-2 : tie.Need-returns-2
-returns-2 c = let a = c.before.args in sym (set_out a.slots.now a.j a.k c.if1.false)
+returns-2 : tie.Need-returns-else-j-slots
+returns-2 c = let a = c.args in sym (set_out a.slots.now a.j a.k c.if-j-slots.false)
 
 pub keep_spec : {M : Type 1} → statement M
-keep_spec =
-    tie.close (tie.spec cast-slots mul-slots slice-write-slots same_length returns returns-2)
+keep_spec = tie.close (tie.spec
+    cast-slots
+    mul-slots
+    slice-write-slots
+    same_length
+    returns
+    returns-2)

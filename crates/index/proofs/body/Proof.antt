@@ -12,61 +12,59 @@ use Rattle.index.proofs.body.Statement.{statement}
 use Rattle.index.proofs.body.Tie as tie
 
 -- the entry that was found
-told : (c : tie.After-known-told)
-    → let a = c.before.before.before.before.before.before.args in
+told : (c : tie.In-Done)
+    → let a = c.args in
     (find_body (form_of a.index.now) a.index.now a.fp.now ≡ 0)
-    × (c.before.k.given.0.0 ≡ position_of a.fp.now (index_keys a.index.now))
+    × (c.in-Done.k ≡ position_of a.fp.now (index_keys a.index.now))
 told c =
-    let called = c.before.before.before in
-    let a = called.before.before.before.args in
-    told-done a.index.now a.fp.now c.before.k.given.0.0 (sym c.before.k.given.1 ∙ called.locate.ensures)
+    let called = c in
+    let a = called.args in
+    told-done a.index.now a.fp.now c.in-Done.k (sym c.in-Done.is ∙ called.locate.ensures)
 
 locate-requires : tie.Need-locate-requires
 locate-requires c κs = search rules
 
-enum-known-k : tie.Need-enum-known-k
+enum-known-k : tie.Need-enum_known-k
 enum-known-k c = search rules
 
-body-at-requires : tie.Need-body-at-requires
+body-at-requires : tie.Need-body_at-requires
 body-at-requires c κs =
-    let a = c.before.before.before.before.before.before.args in
+    let a = c.args in
     let t = told c in
-    found-entry a.index.now a.fp.now c.before.k.given.0.0 t.0 t.1
+    found-entry a.index.now a.fp.now c.in-Done.k t.0 t.1
 
-enum_told : tie.Need-enum-told
+enum_told : tie.Need-enum_told-1
 enum_told c = search rules
 
-slice-aggregate-result : tie.Need-slice-aggregate-result
+slice-aggregate-result : tie.Need-slice_bounds-result-end
 slice-aggregate-result c = search rules
 
-returns : tie.Need-returns
+returns : tie.Need-returns-in-Done
 returns c =
-    let a = c.before.before.before.before.before.before.before.args in
+    let a = c.args in
     let t = told c.before in
-    let k = c.before.before.k.given.0.0 in
+    let k = c.in-Done.k in
     let s = c.body_at.ensures in (
       body-there a.index.now a.fp.now k t.0 t.1 s.0,
       s.1,
       s.2 ∙ ap (λ (n : ℕ). n + a.index.ref_ptr.1) (offset-there a.index.now a.fp.now k t.0 t.1),
     )
 
-returns-2 : tie.Need-returns-2
+returns-2 : tie.Need-returns-in-Refused
 returns-2 c =
-    let called = c.before.before.before in
-    let a = called.before.before.before.args in
+    let called = c in
+    let a = called.args in
     let index = a.index.now in
     let fp = a.fp.now in
-    let refused = c.before.enum_told.given in
-    let d = (told-refused index fp refused.0.0 (sym refused.1 ∙ called.locate.ensures)).1 in (
+    let refused = c.in-Refused in
+    let d = (told-refused index fp refused.field-0 (sym refused.is ∙ called.locate.ensures)).1 in (
       slice-none index fp d,
       refl,
-      sym (zero-add a.index.ptr.1) ∙ ap (λ (n : ℕ). n + a.index.ptr.1) (start_none index fp d),
+      sym (zero-add a.index.ref_ptr.1) ∙ ap (λ (n : ℕ). n + a.index.ref_ptr.1) (start_none index fp d),
     )
 
-pub body-spec : {M : Type 1} → statement M
-body-spec =
-    tie.close
-    (tie.spec
+pub body_spec : {M : Type 1} → statement M
+body_spec = tie.close (tie.spec
     locate-requires
     enum-known-k
     body-at-requires

@@ -5,7 +5,7 @@ use borrow.Author.Rules.{rules}
 use Rattle.index.proofs.check.Statement.{statement}
 use Rattle.index.proofs.check.Tie as tie
 
-slice-aggregate-examine : tie.Need-slice-aggregate-examine
+slice-aggregate-examine : tie.Need-slice_bounds-examine-end
 slice-aggregate-examine c = refl
 
 examine-requires : tie.Need-examine-requires
@@ -14,6 +14,8 @@ examine-requires c κs = zeros
 returns : tie.Need-returns
 returns c = search rules
 
-pub check-spec : {M : Type 1} → statement M
-check-spec =
-    tie.close (tie.spec slice-aggregate-examine examine-requires returns)
+pub check_spec : {M : Type 1} → statement M
+check_spec = tie.close (tie.spec
+    slice-aggregate-examine
+    examine-requires
+    returns)

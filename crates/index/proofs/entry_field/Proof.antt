@@ -9,36 +9,41 @@ use Rattle.index.proofs.entry_field.Statement.{statement}
 use Rattle.index.proofs.entry_field.Tie as tie
 
 -- the entry lies in the index
-room : (c : tie.After-opened)
-    → let a = c.before.before.args in
-    c.opened.result.directory + 32 * a.k + 32 ≤ length a.index.now
+room : (c : tie.After-opened-known)
+    → let a = c.args in
+    c.opened-known.result.directory + 32 * a.k + 32 ≤ length a.index.now
 room c =
-    let s = c.before.before in
-    entry-room s.args.index.now s.args.k s.requires.0 c.opened.result.directory
-    (start_is s.args.index.now s.requires.0.checked c.opened.result c.opened.ensures)
+    let s = c in
+    entry-room s.args.index.now s.args.k s.requires.0 c.opened-known.result.directory
+    (start_is s.args.index.now s.requires.0.checked c.opened-known.result c.opened-known.ensures)
 
-opened-requires : tie.Need-opened-requires
+opened-requires : tie.Need-opened-known-requires
 opened-requires c κs = search rules
 
-mul-read : tie.Need-overflow-mul-read
+mul-read : tie.Need-overflow_mul-k
 mul-read c = let r = room c in record { fits = omega arith }
 
-add_read : tie.Need-overflow-add-read
+add_read : tie.Need-overflow_add-start
 add_read c = let r = room c in record { fits = omega arith }
 
-add-read-2 : tie.Need-overflow-add-read-2
-add-read-2 c = let r = room c in record { fits = omega (arith, c.before.before.requires.1) }
+add-read-2 : tie.Need-overflow_add-start-2
+add-read-2 c = let r = room c in record { fits = omega (arith, c.requires.1) }
 
 read-requires : tie.Need-read-requires
-read-requires c κs = (omega arith, omega (arith, room c, c.before.before.requires.1))
+read-requires c κs = (omega arith, omega (arith, room c, c.requires.1))
 
 returns : tie.Need-returns
 returns c =
     let begun = c.before in
-    let s = begun.before.before in
-    c.read.ensures ∙ entry-is s.args.index.now s.args.k s.requires.0 begun.opened.result.directory
-    (start_is s.args.index.now s.requires.0.checked begun.opened.result begun.opened.ensures) s.args.at
+    let s = begun in
+    c.read.ensures ∙ entry-is s.args.index.now s.args.k s.requires.0 begun.opened-known.result.directory
+    (start_is s.args.index.now s.requires.0.checked begun.opened-known.result begun.opened-known.ensures) s.args.at
 
-pub entry-field-spec : {M : Type 1} → statement M
-entry-field-spec =
-    tie.close (tie.spec opened-requires mul-read add_read add-read-2 read-requires returns)
+pub entry_field_spec : {M : Type 1} → statement M
+entry_field_spec = tie.close (tie.spec
+    opened-requires
+    mul-read
+    add_read
+    add-read-2
+    read-requires
+    returns)

@@ -7,43 +7,41 @@ use Rattle.index_writer.proofs.put_entry.Tie as tie
 copy-requires : tie.Need-copy-requires
 copy-requires c κs = search rules
 
-add-write : tie.Need-overflow-add-write
+add-write : tie.Need-overflow_add-at
 add-write c = search rules
 
 write-requires : tie.Need-write-requires
 write-requires c κs = search rules
 
-add-write-2 : tie.Need-overflow-add-write-2
+add-write-2 : tie.Need-overflow_add-at-2
 add-write-2 c = search rules
 
 write-requires-2 : tie.Need-write-requires-2
 write-requires-2 c κs = search rules
 
-add-write-3 : tie.Need-overflow-add-write-3
+add-write-3 : tie.Need-overflow_add-at-3
 add-write-3 c = search rules
 
 write-requires-3 : tie.Need-write-requires-3
 write-requires-3 c κs = search rules
 
-same_length : tie.Need-same-length
+same_length : tie.Need-shape_of-out
 same_length c = search rules
 
 returns : tie.Need-returns
 returns c =
-    let w3 = c.before.before in
-    let w2 = w3.before.before.before.before in
-    let w1 = w2.before.before.before.before in
-    let k = w1.before.before.before.before in
-    let s = k.before.before.before.before in
+    let w3 = c in
+    let w2 = w3 in
+    let w1 = w2 in
+    let k = w1 in
+    let s = k in
     let a = s.args in
-    entry-put a.out.now k.copy.new.0 w1.write.new.0 w2.write2.new.0 w3.write3.new.0
+    entry-put a.out.now k.copy.new.out w1.write.new.out w2.write-2.new.out w3.write-3.new.out
     a.key.now a.at a.size a.offset a.len s.requires.room s.requires.long
-    k.copy.ensures w1.write.ensures w2.write2.ensures w3.write3.ensures
+    k.copy.ensures w1.write.ensures w2.write-2.ensures w3.write-3.ensures
 
-pub put-entry-spec : {M : Type 1} → statement M
-put-entry-spec =
-    tie.close
-    (tie.spec
+pub put_entry_spec : {M : Type 1} → statement M
+put_entry_spec = tie.close (tie.spec
     copy-requires
     add-write
     write-requires

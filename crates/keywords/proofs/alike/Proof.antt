@@ -10,71 +10,69 @@ use Rattle.spec.proofs.Folding.{left, alike-lengths, alike-on, alike-not, alike_
 use Rattle.keywords.proofs.alike.Statement.{statement}
 use Rattle.keywords.proofs.alike.Tie as tie
 
-abbrev invariant-loop : tie.invariant-loop
+abbrev invariant-loop : tie.invariant-loop-i
 invariant-loop flag a b i₀ i = (length a ≡ length b) × (i ≤ length a) × (left flag a b i ≡ same (folded flag a) (folded flag b))
 
-abbrev decreases-loop : tie.decreases-loop
+abbrev decreases-loop : tie.decreases-loop-i
 decreases-loop flag a b i₀ i = length a - i
 
-returns : tie.Need-returns invariant-loop decreases-loop
-returns c = let s = c.before.before.before in alike-lengths s.args.flag s.args.a.now s.args.b.now c.if1.true
+returns : tie.Need-returns-then-a-b invariant-loop decreases-loop
+returns c = let s = c in alike-lengths s.args.flag s.args.a.now s.args.b.now c.if-a-b.true
 
-loop-holds : tie.Need-loop-init invariant-loop decreases-loop
+loop-holds : tie.Need-loop-i-init invariant-loop decreases-loop
 loop-holds c = search rules
 
-shared-slice-read-fold : tie.Need-shared-slice-read-fold invariant-loop decreases-loop
+shared-slice-read-fold : tie.Need-bounds-a-i invariant-loop decreases-loop
 shared-slice-read-fold c = search rules
 
-fold-requires : tie.Need-fold-requires invariant-loop decreases-loop
+fold-requires : tie.Need-fold-x-requires invariant-loop decreases-loop
 fold-requires c κs = search rules
 
-shared-slice-read-fold-2 : tie.Need-shared-slice-read-fold-2 invariant-loop decreases-loop
+shared-slice-read-fold-2 : tie.Need-bounds-b-i invariant-loop decreases-loop
 shared-slice-read-fold-2 c = search rules
 
-fold-requires-2 : tie.Need-fold-requires-2 invariant-loop decreases-loop
+fold-requires-2 : tie.Need-fold-y-requires invariant-loop decreases-loop
 fold-requires-2 c κs = search rules
 
-returns-2 : tie.Need-returns-2 invariant-loop decreases-loop
+returns-2 : tie.Need-returns-then-x-y invariant-loop decreases-loop
 returns-2 c =
     let at = c.before.before.before.before.before.before in
-    let s = at.before.before.before.before in
+    let s = at in
     let a = s.args in
-    let one = c.before.before.before.fold in
-    let two = c.before.fold2 in
-    alike-not a.flag a.a.now a.b.now at.loop.i one.result two.result (omega arith) (omega arith)
-    one.ensures two.ensures c.if2.true
-    ∙ at.loop.invariant.2
+    let one = c.fold-x in
+    let two = c.fold-y in
+    alike-not a.flag a.a.now a.b.now at.loop-i.i one.result two.result (omega arith) (omega arith)
+    one.ensures two.ensures c.if-x-y.true
+    ∙ at.loop-i.invariant.2
 
-add-i : tie.Need-overflow-add-i invariant-loop decreases-loop
+add-i : tie.Need-overflow_add-i invariant-loop decreases-loop
 add-i c = search rules
 
-loop-less : tie.Need-loop-smaller invariant-loop decreases-loop
+loop-less : tie.Need-loop-i-smaller invariant-loop decreases-loop
 loop-less c = search rules
 
-loop-again : tie.Need-loop-preserved invariant-loop decreases-loop
+loop-again : tie.Need-loop-i-preserved invariant-loop decreases-loop
 loop-again c =
     let at = c.before.before.before.before.before.before in
-    let s = at.before.before.before.before in
+    let s = at in
     let a = s.args in
-    let one = c.before.before.before.fold in
-    let two = c.before.fold2 in (
-      at.loop.invariant.0,
+    let one = c.fold-x in
+    let two = c.fold-y in (
+      at.loop-i.invariant.0,
       omega arith,
-      alike-on a.flag a.a.now a.b.now at.loop.i one.result two.result (omega arith) (omega arith)
-          one.ensures two.ensures c.if2.false
-          ∙ at.loop.invariant.2,
+      alike-on a.flag a.a.now a.b.now at.loop-i.i one.result two.result (omega arith) (omega arith)
+          one.ensures two.ensures c.if-x-y.false
+          ∙ at.loop-i.invariant.2,
     )
 
-returns-3 : tie.Need-returns-3 invariant-loop decreases-loop
+returns-3 : tie.Need-returns invariant-loop decreases-loop
 returns-3 c =
     let at = c.before in
-    let s = at.before.before.before.before in
-    alike_end s.args.flag s.args.a.now s.args.b.now at.loop.i (omega arith) (omega arith) ∙ at.loop.invariant.2
+    let s = at in
+    alike_end s.args.flag s.args.a.now s.args.b.now at.loop-i.i (omega arith) (omega arith) ∙ at.loop-i.invariant.2
 
 pub alike_spec : {M : Type 1} → statement M
-alike_spec =
-    tie.close
-    (tie.spec
+alike_spec = tie.close (tie.spec
     invariant-loop
     decreases-loop
     returns

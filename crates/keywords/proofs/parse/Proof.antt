@@ -5,10 +5,12 @@ use Rattle.keywords.proofs.parse.Statement.{statement}
 use Rattle.keywords.proofs.parse.Tie as tie
 
 split-requires : tie.Need-split-requires
-split-requires c κs = readable c.before.args.list.now c.before.requires
+split-requires c κs = readable c.args.list.now c.requires
 
 returns : tie.Need-returns
 returns c = search rules
 
-pub parse-spec : {M : Type 1} → statement M
-parse-spec = tie.close (tie.spec split-requires returns)
+pub parse_spec : {M : Type 1} → statement M
+parse_spec = tie.close (tie.spec
+    split-requires
+    returns)

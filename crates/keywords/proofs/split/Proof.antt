@@ -9,89 +9,87 @@ use Rattle.keywords.proofs.Reading.{Next, Reading, reading-start, reading-next, 
 use Rattle.keywords.proofs.split.Statement.{statement}
 use Rattle.keywords.proofs.split.Tie as tie
 
-abbrev invariant-loop : tie.invariant-loop
+abbrev invariant-loop : tie.invariant-loop-k
 invariant-loop list count start₀ len₀ most₀ at₀ k₀ start len most at k = (count ≡ count_of list) × Reading list k at most start len
 
-abbrev decreases-loop : tie.decreases-loop
+abbrev decreases-loop : tie.decreases-loop-k
 decreases-loop list count start₀ len₀ most₀ at₀ k₀ start len most at k = count - k
 
 -- the keyword that a turn reads
-turn : (c : tie.In-loop invariant-loop decreases-loop)
-    → let at = c.before in
-    let list = at.before.before.before.args.list.now in
-    Next list (count_of list - (at.loop.k + 1)) at.loop.at (get_or list at.loop.at 0)
+turn : (c : tie.In-loop-k invariant-loop decreases-loop)
+    → let at = c in
+    let list = at.args.list.now in
+    Next list (count_of list - (at.loop-k.k + 1)) at.loop-k.at (get_or list at.loop-k.at 0)
 turn c =
-    let at = c.before.loop in
-    let list = c.before.before.before.before.args.list.now in
+    let at = c.loop-k in
+    let list = c.args.list.now in
     reading-next list at.k at.at at.most at.start at.len at.invariant.1 (omega arith)
 
-shared-slice-read-count : tie.Need-shared-slice-read-count invariant-loop decreases-loop
+shared-slice-read-count : tie.Need-bounds-list-0 invariant-loop decreases-loop
 shared-slice-read-count c = search rules
 
-cast-count : tie.Need-overflow-cast-count invariant-loop decreases-loop
+cast-count : tie.Need-overflow_cast-count invariant-loop decreases-loop
 cast-count c = search rules
 
-loop-holds : tie.Need-loop-init invariant-loop decreases-loop
-loop-holds c = let s = c.before.before in (refl, reading-start s.args.list.now s.requires)
+loop-holds : tie.Need-loop-k-init invariant-loop decreases-loop
+loop-holds c = let s = c in (refl, reading-start s.args.list.now s.requires)
 
-shared-slice-read-n : tie.Need-shared-slice-read-n invariant-loop decreases-loop
+shared-slice-read-n : tie.Need-bounds-list-at invariant-loop decreases-loop
 shared-slice-read-n c = omega (arith, (turn c.before).room)
 
-cast-n : tie.Need-overflow-cast-n invariant-loop decreases-loop
+cast-n : tie.Need-overflow_cast-n invariant-loop decreases-loop
 cast-n c = omega (arith, (turn c.before).most)
 
-add_start : tie.Need-overflow-add-start invariant-loop decreases-loop
+add_start : tie.Need-overflow_add-start invariant-loop decreases-loop
 add_start c = omega (arith, (turn c.before).room)
 
-mul-start : tie.Need-overflow-mul-start invariant-loop decreases-loop
+mul-start : tie.Need-offset_bounds-start-k invariant-loop decreases-loop
 mul-start c = search rules
 
-array-write-start : tie.Need-array-write-start invariant-loop decreases-loop
+array-write-start : tie.Need-bounds-start-k invariant-loop decreases-loop
 array-write-start c = search rules
 
-mul-len : tie.Need-overflow-mul-len invariant-loop decreases-loop
+mul-len : tie.Need-offset_bounds-len-k invariant-loop decreases-loop
 mul-len c = search rules
 
-array-write-len : tie.Need-array-write-len invariant-loop decreases-loop
+array-write-len : tie.Need-bounds-len-k invariant-loop decreases-loop
 array-write-len c = search rules
 
-larger-requires : tie.Need-larger-requires invariant-loop decreases-loop
+larger-requires : tie.Need-larger-most-requires invariant-loop decreases-loop
 larger-requires c κs = search rules
 
-add_at : tie.Need-overflow-add-at invariant-loop decreases-loop
+add_at : tie.Need-overflow_add-at invariant-loop decreases-loop
 add_at c = omega (arith, (turn c.before.before).room)
 
-add-at-2 : tie.Need-overflow-add-at-2 invariant-loop decreases-loop
+add-at-2 : tie.Need-overflow_add-at-in-loop-k invariant-loop decreases-loop
 add-at-2 c = omega (arith, (turn c.before.before).room)
 
-add-k : tie.Need-overflow-add-k invariant-loop decreases-loop
+add-k : tie.Need-overflow_add-k invariant-loop decreases-loop
 add-k c = search rules
 
-loop-less : tie.Need-loop-smaller invariant-loop decreases-loop
+loop-less : tie.Need-loop-k-smaller invariant-loop decreases-loop
 loop-less c = search rules
 
-loop-again : tie.Need-loop-preserved invariant-loop decreases-loop
+loop-again : tie.Need-loop-k-preserved invariant-loop decreases-loop
 loop-again c =
     let at = c.before.before.before in
-    let s = at.before.before.before in (
+    let s = at in (
       refl,
-      reading-on s.args.list.now at.loop.k at.loop.at at.loop.most at.loop.start at.loop.len at.loop.invariant.1 (omega arith)
-          s.requires.most _ c.larger.result refl c.larger.ensures,
+      reading-on s.args.list.now at.loop-k.k at.loop-k.at at.loop-k.most at.loop-k.start at.loop-k.len at.loop-k.invariant.1 (omega arith)
+          s.requires.most _ c.larger-most.result refl c.larger-most.ensures,
     )
 
-shared-slice-read-t10 : tie.Need-shared-slice-read-t10 invariant-loop decreases-loop
+shared-slice-read-t10 : tie.Need-bounds-list-1 invariant-loop decreases-loop
 shared-slice-read-t10 c = search rules
 
 returns : tie.Need-returns invariant-loop decreases-loop
 returns c =
     let at = c.before.before in
-    let s = at.before.before.before in
-    reading-end s.args.list.now at.loop.k at.loop.at at.loop.most at.loop.start at.loop.len at.loop.invariant.1 (omega arith) _ refl
+    let s = at in
+    reading-end s.args.list.now at.loop-k.k at.loop-k.at at.loop-k.most at.loop-k.start at.loop-k.len at.loop-k.invariant.1 (omega arith) _ refl
 
-pub split-spec : {M : Type 1} → statement M
-split-spec =
-    tie.close
-    (tie.spec
+pub split_spec : {M : Type 1} → statement M
+split_spec = tie.close (tie.spec
     invariant-loop
     decreases-loop
     shared-slice-read-count

@@ -1,6 +1,5 @@
 -- `listing::least` meets its contract.
 use mathlib.Core.Path.{◌≡◌, refl, sym, ap, ◌∙◌}
-use mathlib.Core.Logic.{⊎_elim}
 use mathlib.Core.List.{List}
 use Prim.Native.Nat.{ℕ, ◌+◌, ◌-◌, ◌≤◌, ◌<◌}
 use native.Mathlib.Omega.{arith}
@@ -10,8 +9,7 @@ use borrow.Author.Rules.{rules}
 use borrow.Author.Count.{below_more}
 use Rattle.listing.proofs.least.Statement.{statement}
 use Rattle.listing.proofs.least.Tie as tie
-use Rattle.listing.proofs.least.Reads as reads
-use Rattle.listing.proofs.least.Lts as lts
+use Rattle.listing.proofs.least.Lts.{then-x-y, else-x-y}
 
 -- the least of the heads up to i, of which f gives one each
 took : (f : ℕ → ℕ) (k' y' i y : ℕ) → k' ≡ i → y' ≡ f i → f i < y → ((j : ℕ) → j < i → y ≤ f j)
@@ -27,21 +25,15 @@ left f k' y' i k y e q h same all first =
 abbrev head_at : List (List ℕ) → ℕ → ℕ
 head_at streams j = get_or (stream_of streams j) 0 0
 
-abbrev invariant-loop : tie.invariant-loop
+abbrev invariant-loop : tie.invariant-loop-i
 invariant-loop streams count k₀ y₀ i₀ k y i =
     (1 ≤ i) × (i ≤ count) × (count ≤ 16) × (k < i)
     × (y ≡ head_at streams k) × ((j : ℕ) → j < i → y ≤ head_at streams j) × ((j : ℕ) → j < k → y < head_at streams j)
 
-abbrev decreases-loop : tie.decreases-loop
+abbrev decreases-loop : tie.decreases-loop-i
 decreases-loop streams count k₀ y₀ i₀ k y i = count - i
 
-index-1-y : tie.Need-bounds-1-y invariant-loop decreases-loop
-index-1-y c = search rules
-
-index-2-y : tie.Need-bounds-2-y invariant-loop decreases-loop
-index-2-y c = search rules
-
-loop-holds : tie.Need-loop-init invariant-loop decreases-loop
+loop-holds : tie.Need-loop-i-init invariant-loop decreases-loop
 loop-holds c = (
   omega arith,
   omega arith,
@@ -52,51 +44,53 @@ loop-holds c = (
   (λ j h. let z : ⊥ = omega arith in absurd z),
 )
 
-mul-x : tie.Need-overflow-mul-x invariant-loop decreases-loop
+mul-x : tie.Need-offset_bounds-streams-i invariant-loop decreases-loop
 mul-x c = omega arith
 
-index-1-x : tie.Need-bounds-1-x invariant-loop decreases-loop
-index-1-x c = omega arith
-
-index-2-x : tie.Need-bounds-2-x invariant-loop decreases-loop
-index-2-x c = omega arith
-
-add-i : tie.Need-overflow-add-i invariant-loop decreases-loop
+add-i : tie.Need-overflow_add-i invariant-loop decreases-loop
 add-i c = omega arith
 
-loop-less : tie.Need-loop-smaller invariant-loop decreases-loop
+loop-less : tie.Need-loop-i-smaller invariant-loop decreases-loop
 loop-less c = omega arith
 
-loop-again : tie.Need-loop-preserved invariant-loop decreases-loop
+loop-again : tie.Need-loop-i-preserved invariant-loop decreases-loop
 loop-again c =
-    let p = c.before.before.before.loop in
-    let f = head_at c.before.before.before.before.before.args.streams.now in
-    ⊎_elim
-    (λ w.
-    let t = took f c.if1.k c.if1.y p.i p.y w.1 w.2 w.0.taken p.invariant.5 in
-    (omega arith, omega arith, omega arith, omega arith, t.0, t.1, t.2))
-    (λ w.
-    let t = left f c.if1.k c.if1.y p.i p.k p.y w.1 w.2 w.0.left p.invariant.4 p.invariant.5 p.invariant.6 in
-    (omega arith, omega arith, omega arith, omega arith, t.0, t.1, t.2))
-    c.if1.branch
+    let p = c.loop-i in
+    let f = head_at c.args.streams.now in
+    elim c.if-x-y.branch [
+      | then-x-y w ↦ let t = took f c.if-x-y.k c.if-x-y.y p.i p.y w.k-is w.y-is w.if-x-y.true p.invariant.5 in
+          (omega arith, omega arith, omega arith, omega arith, t.0, t.1, t.2)
+      | else-x-y w ↦ let t = left f c.if-x-y.k c.if-x-y.y p.i p.k p.y w.k-is w.y-is w.if-x-y.false p.invariant.4 p.invariant.5 p.invariant.6 in
+          (omega arith, omega arith, omega arith, omega arith, t.0, t.1, t.2)
+    ]
 
 returns : tie.Need-returns invariant-loop decreases-loop
 returns c =
-    let p = c.before.loop in
+    let p = c.loop-i in
     record { within = omega arith; low = λ j h. omega (arith, p.invariant.5 j (omega arith)); first = λ j h. omega (arith, p.invariant.6 j h) }
 
-pub least-spec : {M : Type 1} → statement M
-least-spec =
-    tie.close
-    (tie.spec
+the-bounds-streams-0 : tie.Need-bounds-streams-0 invariant-loop decreases-loop
+the-bounds-streams-0 c = search rules
+
+the-bounds-streams-0-2 : tie.Need-bounds-streams-0-2 invariant-loop decreases-loop
+the-bounds-streams-0-2 c = search rules
+
+the-bounds-streams-i : tie.Need-bounds-streams-i invariant-loop decreases-loop
+the-bounds-streams-i c = omega arith
+
+the-bounds-streams-0-in-loop-i : tie.Need-bounds-streams-0-in-loop-i invariant-loop decreases-loop
+the-bounds-streams-0-in-loop-i c = omega arith
+
+pub least_spec : {M : Type 1} → statement M
+least_spec = tie.close (tie.spec
     invariant-loop
     decreases-loop
-    index-1-y
-    index-2-y
+    the-bounds-streams-0
+    the-bounds-streams-0-2
     loop-holds
     mul-x
-    index-1-x
-    index-2-x
+    the-bounds-streams-i
+    the-bounds-streams-0-in-loop-i
     add-i
     loop-less
     loop-again

@@ -5,68 +5,66 @@ use Rattle.loader.proofs.Loading.{Loading, loading-start, loading-on, loading-en
 use Rattle.loader.proofs.load.Statement.{statement}
 use Rattle.loader.proofs.load.Tie as tie
 
-abbrev invariant-loop : tie.invariant-loop
+abbrev invariant-loop : tie.invariant-loop-k
 invariant-loop index format at len count rows₀ end place₀ k₀ rows place k = (k ≤ count) × Loading format index at len count rows₀ rows place k
 
-abbrev decreases-loop : tie.decreases-loop
+abbrev decreases-loop : tie.decreases-loop-k
 decreases-loop index format at len count rows₀ end place₀ k₀ rows place k = count - k
 
-add-end : tie.Need-overflow-add-end invariant-loop decreases-loop
-add-end c = omega (arith, c.before.requires.inside)
+add-end : tie.Need-overflow_add-end invariant-loop decreases-loop
+add-end c = omega (arith, c.requires.inside)
 
-loop-holds : tie.Need-loop-init invariant-loop decreases-loop
+loop-holds : tie.Need-loop-k-init invariant-loop decreases-loop
 loop-holds c =
-    let s = c.before in
+    let s = c in
     let a = s.args in
     (omega arith, loading-start a.format a.index.now a.at a.len a.count a.rows.now s.requires)
 
-sub-keyword-at : tie.Need-overflow-sub-keyword-at invariant-loop decreases-loop
-sub-keyword-at c = omega (arith, c.before.loop.invariant.1.within)
+sub-keyword-at : tie.Need-overflow_sub-end invariant-loop decreases-loop
+sub-keyword-at c = omega (arith, c.loop-k.invariant.1.within)
 
-keyword-at-requires : tie.Need-keyword-at-requires invariant-loop decreases-loop
+keyword-at-requires : tie.Need-keyword_at-step-requires invariant-loop decreases-loop
 keyword-at-requires c κs =
-    let p = c.before in
-    let a = c.before.before.before.args in
-    let w = p.loop.invariant.1.within in (
-      omega (arith, p.loop.invariant.1.inside),
-      keyword-room a.format a.index.now a.at a.len a.count a.rows.now p.loop.rows p.loop.place p.loop.k p.loop.invariant.1
-          c.loop-test.true,
-      p.loop.invariant.1.wide,
+    let p = c in
+    let a = c.args in
+    let w = p.loop-k.invariant.1.within in (
+      omega (arith, p.loop-k.invariant.1.inside),
+      keyword-room a.format a.index.now a.at a.len a.count a.rows.now p.loop-k.rows p.loop-k.place p.loop-k.k p.loop-k.invariant.1
+          c.loop-k-test.true,
+      p.loop-k.invariant.1.wide,
     )
 
-mul-row : tie.Need-overflow-mul-row invariant-loop decreases-loop
+mul-row : tie.Need-offset_bounds-rows-k invariant-loop decreases-loop
 mul-row c = omega arith
 
-element-set-from-row : tie.Need-element-set-from-row invariant-loop decreases-loop
+element-set-from-row : tie.Need-bounds-rows-k invariant-loop decreases-loop
 element-set-from-row c = omega arith
 
-add-k : tie.Need-overflow-add-k invariant-loop decreases-loop
+add-k : tie.Need-overflow_add-k invariant-loop decreases-loop
 add-k c = omega arith
 
-loop-less : tie.Need-loop-smaller invariant-loop decreases-loop
+loop-less : tie.Need-loop-k-smaller invariant-loop decreases-loop
 loop-less c = omega arith
 
-loop-again : tie.Need-loop-preserved invariant-loop decreases-loop
+loop-again : tie.Need-loop-k-preserved invariant-loop decreases-loop
 loop-again c =
     let q = c.before in
-    let p = q.before.before in
-    let a = p.before.before.args in (
+    let p = q in
+    let a = p.args in (
       omega arith,
-      loading-on a.format a.index.now a.at a.len a.count a.rows.now p.loop.rows p.loop.place p.loop.k p.loop.invariant.1
-          q.before.loop-test.true q.keyword-at.result.row q.keyword-at.result.next q.keyword-at.ensures.0 q.keyword-at.ensures.1,
+      loading-on a.format a.index.now a.at a.len a.count a.rows.now p.loop-k.rows p.loop-k.place p.loop-k.k p.loop-k.invariant.1
+          q.loop-k-test.true q.keyword_at-step.result.row q.keyword_at-step.result.next q.keyword_at-step.ensures.0 q.keyword_at-step.ensures.1,
     )
 
 returns : tie.Need-returns invariant-loop decreases-loop
 returns c =
-    let p = c.before in
-    let a = c.before.before.before.args in
-    loading-end a.format a.index.now a.at a.len a.count a.rows.now p.loop.rows p.loop.place p.loop.k
-    p.loop.invariant.1 (omega arith)
+    let p = c in
+    let a = c.args in
+    loading-end a.format a.index.now a.at a.len a.count a.rows.now p.loop-k.rows p.loop-k.place p.loop-k.k
+    p.loop-k.invariant.1 (omega arith)
 
 pub load_spec : {M : Type 1} → statement M
-load_spec =
-    tie.close
-    (tie.spec
+load_spec = tie.close (tie.spec
     invariant-loop
     decreases-loop
     add-end

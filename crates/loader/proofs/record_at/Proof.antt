@@ -19,13 +19,13 @@ use Rattle.loader.proofs.record_at.Tie as tie
 least : (s : tie.Start) → s.args.at + 3 ≤ length s.args.index.now
 least s = head-least (form_in s.args.format) s.args.index.now s.args.at s.args.len s.args.k s.requires.0 s.requires.1 s.requires.3 s.requires.4
 
-full : (c : tie.Else1)
-    → let a = c.before.before.before.before.args in
+full : (c : tie.Else-kind-eq0)
+    → let a = c.args in
     a.at + 5 ≤ length a.index.now
 full c =
-    let s = c.before.before.before.before in
+    let s = c in
     head-full (form_in s.args.format) s.args.index.now s.args.at s.args.len s.args.k s.requires.0 s.requires.1 s.requires.3 s.requires.4
-    c.if1.false
+    c.if-kind-eq0.false
 
 -- a kind other than a set's: its record is next, and lies whole in the body
 alone : (s : tie.Start) → get_or s.args.index.now (s.args.at + 1) 0 ≢ 4
@@ -48,95 +48,93 @@ its-row s h =
     row_here (form_in s.args.format) s.args.index.now s.args.at s.args.len s.args.k s.requires.0 s.requires.1 s.requires.3 s.requires.4
     (alone s h)
 
-add-kind : tie.Need-overflow-add-kind
+add-kind : tie.Need-overflow_add-kind
 add-kind c = search rules
 
-shared-slice-read-kind : tie.Need-shared-slice-read-kind
+shared-slice-read-kind : tie.Need-bounds-index-at
 shared-slice-read-kind c = let s = c.before.before in omega (arith, least s)
 
-add-prefix : tie.Need-overflow-add-prefix
+add-prefix : tie.Need-overflow_add-prefix
 add-prefix c = search rules
 
-shared-slice-read-prefix : tie.Need-shared-slice-read-prefix
+shared-slice-read-prefix : tie.Need-bounds-index-at-2
 shared-slice-read-prefix c = let s = c.before.before.before in omega (arith, least s)
 
-cast-prefix : tie.Need-overflow-cast-prefix
-cast-prefix c = omega (arith, c.shared-slice-known3.given (c.before.before.before.args.at + 2))
+cast-prefix : tie.Need-overflow_cast-prefix
+cast-prefix c = omega (arith, c.shared_slice_known-3-1.given (c.args.at + 2))
 
-add-t18 : tie.Need-overflow-add-t18
+add-t18 : tie.Need-overflow_add-result
 add-t18 c = search rules
 
-returns : tie.Need-returns
+returns : tie.Need-returns-then-kind-eq0
 returns c =
     let s = c.before.before.before.before in
-    its-row s (λ e. omega (arith, c.if1.true)) (row-tiny (form_in s.args.format) s.args.index.now s.args.at s.args.len s.requires.0 (whole s (λ e. omega (arith, c.if1.true))) c.if1.true)
+    its-row s (λ e. omega (arith, c.if-kind-eq0.true)) (row-tiny (form_in s.args.format) s.args.index.now s.args.at s.args.len s.requires.0 (whole s (λ e. omega (arith, c.if-kind-eq0.true))) c.if-kind-eq0.true)
 
-add-suffix : tie.Need-overflow-add-suffix
+add-suffix : tie.Need-overflow_add-suffix
 add-suffix c = search rules
 
-shared-slice-read-suffix : tie.Need-shared-slice-read-suffix
+shared-slice-read-suffix : tie.Need-bounds-index-at-3
 shared-slice-read-suffix c = omega (arith, full c.before)
 
-cast-suffix : tie.Need-overflow-cast-suffix
-cast-suffix c = omega (arith, c.shared-slice-known4.given (c.before.before.before.before.before.args.at + 3))
+cast-suffix : tie.Need-overflow_cast-suffix
+cast-suffix c = omega (arith, c.shared_slice_known-4-1.given (c.args.at + 3))
 
-add-count : tie.Need-overflow-add-count
+add-count : tie.Need-overflow_add-count
 add-count c = search rules
 
-shared-slice-read-count : tie.Need-shared-slice-read-count
+shared-slice-read-count : tie.Need-bounds-index-at-4
 shared-slice-read-count c = omega (arith, full c.before.before)
 
-cast-count : tie.Need-overflow-cast-count
-cast-count c = omega (arith, c.shared-slice-known5.given (c.before.before.before.before.before.before.args.at + 4))
+cast-count : tie.Need-overflow_cast-count
+cast-count c = omega (arith, c.shared_slice_known-5-1.given (c.args.at + 4))
 
-add-t22 : tie.Need-overflow-add-t22
+add-t22 : tie.Need-overflow_add-result-then-count-eq0
 add-t22 c = search rules
 
-add-t23 : tie.Need-overflow-add-t23
+add-t23 : tie.Need-overflow_add-result-then-count-eq0-2
 add-t23 c = search rules
 
-returns-2 : tie.Need-returns-2
+returns-2 : tie.Need-returns-then-count-eq0
 returns-2 c =
     let s = c.before.before.before.before.before.before.before.before in
-    its-row s (λ e. omega (arith, c.before.if2.true))
-    (row-none (form_in s.args.format) s.args.index.now s.args.at s.args.len s.requires.0 (whole s (λ e. omega (arith, c.before.if2.true)))
-    c.before.before.before.before.if1.false c.before.if2.true c.if3.true)
+    its-row s (λ e. omega (arith, c.if-kind-eq1.true))
+    (row-none (form_in s.args.format) s.args.index.now s.args.at s.args.len s.requires.0 (whole s (λ e. omega (arith, c.if-kind-eq1.true)))
+    c.if-kind-eq0.false c.if-kind-eq1.true c.if-count-eq0.true)
 
-add-t24 : tie.Need-overflow-add-t24
+add-t24 : tie.Need-overflow_add-result-then-kind-eq1
 add-t24 c = search rules
 
-returns-3 : tie.Need-returns-3
+returns-3 : tie.Need-returns-then-kind-eq1
 returns-3 c =
     let s = c.before.before.before.before.before.before.before.before in
-    its-row s (λ e. omega (arith, c.before.if2.true))
-    (row_one (form_in s.args.format) s.args.index.now s.args.at s.args.len s.requires.0 (whole s (λ e. omega (arith, c.before.if2.true)))
-    c.before.before.before.before.if1.false c.before.if2.true c.if3.false)
+    its-row s (λ e. omega (arith, c.if-kind-eq1.true))
+    (row_one (form_in s.args.format) s.args.index.now s.args.at s.args.len s.requires.0 (whole s (λ e. omega (arith, c.if-kind-eq1.true)))
+    c.if-kind-eq0.false c.if-kind-eq1.true c.if-count-eq0.false)
 
-add-t25 : tie.Need-overflow-add-t25
+add-t25 : tie.Need-overflow_add-result-then-kind-eq2
 add-t25 c = search rules
 
-add-t26 : tie.Need-overflow-add-t26
+add-t26 : tie.Need-overflow_add-result-then-kind-eq2-2
 add-t26 c = search rules
 
-returns-4 : tie.Need-returns-4
+returns-4 : tie.Need-returns-then-kind-eq2
 returns-4 c =
     let s = c.before.before.before.before.before.before.before.before in
-    its-row s (λ e. omega (arith, c.if4.true))
-    (row-two (form_in s.args.format) s.args.index.now s.args.at s.args.len s.requires.0 (whole s (λ e. omega (arith, c.if4.true)))
-    c.before.before.before.before.if1.false c.if4.true)
+    its-row s (λ e. omega (arith, c.if-kind-eq2.true))
+    (row-two (form_in s.args.format) s.args.index.now s.args.at s.args.len s.requires.0 (whole s (λ e. omega (arith, c.if-kind-eq2.true)))
+    c.if-kind-eq0.false c.if-kind-eq2.true)
 
-exact-at-requires : tie.Need-exact-at-requires
+exact-at-requires : tie.Need-exact_at-requires
 exact-at-requires c κs =
-    let s = c.before.before.before.before.before.before.before.before in
-    (s.requires.0, s.requires.1, s.requires.2, s.requires.3, s.requires.4, omega (arith, c.before.before.before.before.if1.false, c.before.if2.false, c.if4.false))
+    let s = c in
+    (s.requires.0, s.requires.1, s.requires.2, s.requires.3, s.requires.4, omega (arith, c.if-kind-eq0.false, c.if-kind-eq1.false, c.if-kind-eq2.false))
 
-returns-5 : tie.Need-returns-5
-returns-5 c = c.exact-at.ensures
+returns-5 : tie.Need-returns
+returns-5 c = c.exact_at.ensures
 
-pub record-at-spec : {M : Type 1} → statement M
-record-at-spec =
-    tie.close
-    (tie.spec
+pub record_at_spec : {M : Type 1} → statement M
+record_at_spec = tie.close (tie.spec
     add-kind
     shared-slice-read-kind
     add-prefix

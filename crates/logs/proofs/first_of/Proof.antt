@@ -4,11 +4,13 @@ use Rattle.spec.proofs.Tests.{eqb-ne}
 use Rattle.logs.proofs.first_of.Statement.{statement}
 use Rattle.logs.proofs.first_of.Tie as tie
 
-returns : tie.Need-returns
-returns c = rw c.if1.true refl
+returns : tie.Need-returns-then-count-eq0
+returns c = rw c.if-count-eq0.true refl
 
-returns-2 : tie.Need-returns-2
-returns-2 c = rw (eqb-ne c.before.args.count 0 c.if1.false) refl
+returns-2 : tie.Need-returns
+returns-2 c = rw (eqb-ne c.args.count 0 c.if-count-eq0.false) refl
 
-pub first-of-spec : {M : Type 1} → statement M
-first-of-spec = tie.close (tie.spec returns returns-2)
+pub first_of_spec : {M : Type 1} → statement M
+first_of_spec = tie.close (tie.spec
+    returns
+    returns-2)

@@ -53,87 +53,87 @@ joined before more counts firsts c f =
     let q = sixteen (first before.counts before.firsts more.firsts) firsts f.size f.done in
     λ i. record { counts = p i; firsts = q i }
 
-abbrev invariant-loop : tie.invariant-loop
+abbrev invariant-loop : tie.invariant-loop-k
 invariant-loop more-counts more-firsts counts₀ firsts₀ k₀ counts firsts k =
     (k ≤ 16) × Front (sum counts₀ more-counts) counts₀ counts k × Front (first counts₀ firsts₀ more-firsts) firsts₀ firsts k
 
-abbrev decreases-loop : tie.decreases-loop
+abbrev decreases-loop : tie.decreases-loop-k
 decreases-loop more-counts more-firsts counts₀ firsts₀ k₀ counts firsts k = 16 - k
 
-abbrev start : tie.In-loop invariant-loop decreases-loop → tie.Start invariant-loop decreases-loop
+abbrev start : tie.In-loop-k invariant-loop decreases-loop → tie.Start invariant-loop decreases-loop
 start c = c.before.before.before.before.before.before
 
 -- an element for each keyword
-below : (c : tie.In-loop invariant-loop decreases-loop) → c.before.loop.k < 16
-below c = c.loop-test.true
+below : (c : tie.In-loop-k invariant-loop decreases-loop) → c.loop-k.k < 16
+below c = c.loop-k-test.true
 
-loop-holds : tie.Need-loop-init invariant-loop decreases-loop
+loop-holds : tie.Need-loop-k-init invariant-loop decreases-loop
 loop-holds c =
-    let s = c.before.before.before.before in
+    let s = c in
     let a = s.args in (
       omega arith,
       front-start (sum a.before.counts a.more.counts) a.before.counts s.requires.counted,
       front-start (first a.before.counts a.before.firsts a.more.firsts) a.before.firsts s.requires.kept,
     )
 
-mul-first-of : tie.Need-overflow-mul-first-of invariant-loop decreases-loop
-mul-first-of c = omega (arith, below c)
+mul-first-of : tie.Need-offset_bounds-counts-k invariant-loop decreases-loop
+mul-first-of c = omega (arith, c.loop-k-test.true)
 
-array-read-first-of : tie.Need-array-read-first-of invariant-loop decreases-loop
-array-read-first-of c = below c
+array-read-first-of : tie.Need-bounds-counts-k invariant-loop decreases-loop
+array-read-first-of c = c.loop-k-test.true
 
-mul-first-of-2 : tie.Need-overflow-mul-first-of-2 invariant-loop decreases-loop
-mul-first-of-2 c = omega (arith, below c)
+mul-first-of-2 : tie.Need-offset_bounds-firsts-k invariant-loop decreases-loop
+mul-first-of-2 c = omega (arith, c.loop-k-test.true)
 
-array-read-first-of-2 : tie.Need-array-read-first-of-2 invariant-loop decreases-loop
-array-read-first-of-2 c = below c
+array-read-first-of-2 : tie.Need-bounds-firsts-k invariant-loop decreases-loop
+array-read-first-of-2 c = c.loop-k-test.true
 
-mul-first-of-3 : tie.Need-overflow-mul-first-of-3 invariant-loop decreases-loop
-mul-first-of-3 c = omega (arith, below c)
+mul-first-of-3 : tie.Need-offset_bounds-more_firsts-k invariant-loop decreases-loop
+mul-first-of-3 c = omega (arith, c.loop-k-test.true)
 
-array-read-first-of-3 : tie.Need-array-read-first-of-3 invariant-loop decreases-loop
-array-read-first-of-3 c = below c
+array-read-first-of-3 : tie.Need-bounds-more_firsts-k invariant-loop decreases-loop
+array-read-first-of-3 c = c.loop-k-test.true
 
-first-of-requires : tie.Need-first-of-requires invariant-loop decreases-loop
+first-of-requires : tie.Need-first_of-requires invariant-loop decreases-loop
 first-of-requires c κs = search rules
 
-mul-firsts : tie.Need-overflow-mul-firsts invariant-loop decreases-loop
+mul-firsts : tie.Need-offset_bounds-firsts-k-in-loop-k invariant-loop decreases-loop
 mul-firsts c = omega (arith, below c.before)
 
-array-write-firsts : tie.Need-array-write-firsts invariant-loop decreases-loop
+array-write-firsts : tie.Need-bounds-firsts-k-in-loop-k invariant-loop decreases-loop
 array-write-firsts c = below c.before
 
-mul-counts : tie.Need-overflow-mul-counts invariant-loop decreases-loop
+mul-counts : tie.Need-offset_bounds-more_counts-k invariant-loop decreases-loop
 mul-counts c = omega (arith, below c.before)
 
-array-read-counts : tie.Need-array-read-counts invariant-loop decreases-loop
+array-read-counts : tie.Need-bounds-more_counts-k invariant-loop decreases-loop
 array-read-counts c = below c.before
 
-mul-counts-2 : tie.Need-overflow-mul-counts-2 invariant-loop decreases-loop
+mul-counts-2 : tie.Need-offset_bounds-counts-k-in-loop-k invariant-loop decreases-loop
 mul-counts-2 c = omega (arith, below c.before)
 
-array-read-counts-2 : tie.Need-array-read-counts-2 invariant-loop decreases-loop
+array-read-counts-2 : tie.Need-bounds-counts-k-in-loop-k invariant-loop decreases-loop
 array-read-counts-2 c = below c.before
 
-add-counts : tie.Need-overflow-add-counts invariant-loop decreases-loop
+add-counts : tie.Need-overflow_add-counts invariant-loop decreases-loop
 add-counts c =
     let i = c.before in
-    let l = i.before.loop in
+    let l = i.loop-k in
     omega (arith, l.invariant.1.left l.k (omega arith), (start i).requires.room l.k)
 
-array-write-counts : tie.Need-array-write-counts invariant-loop decreases-loop
+array-write-counts : tie.Need-bounds-counts-k-in-loop-k-2 invariant-loop decreases-loop
 array-write-counts c = below c.before
 
-add-k : tie.Need-overflow-add-k invariant-loop decreases-loop
+add-k : tie.Need-overflow_add-k invariant-loop decreases-loop
 add-k c = omega (arith, below c.before)
 
-loop-less : tie.Need-loop-smaller invariant-loop decreases-loop
+loop-less : tie.Need-loop-k-smaller invariant-loop decreases-loop
 loop-less c = omega (arith, below c.before)
 
-loop-again : tie.Need-loop-preserved invariant-loop decreases-loop
+loop-again : tie.Need-loop-k-preserved invariant-loop decreases-loop
 loop-again c =
     let i = c.before in
-    let l = i.before.loop in
+    let l = i.loop-k in
     let a = (start i).args in
     let k = l.k in
     let was = l.invariant.1.left k (omega arith) in
@@ -147,15 +147,13 @@ loop-again c =
 
 returns : tie.Need-returns invariant-loop decreases-loop
 returns c =
-    let l = c.before.loop in
-    let a = c.before.before.before.before.before.before.args in
-    let z : l.k ≡ 16 = omega (arith, c.loop-test.false, l.invariant.0) in
+    let l = c.loop-k in
+    let a = c.args in
+    let z : l.k ≡ 16 = omega (arith, c.loop-k-test.false, l.invariant.0) in
     joined a.before a.more l.counts l.firsts (rw z at l.invariant.1) (rw z at l.invariant.2)
 
-pub tally-with-spec : {M : Type 1} → statement M
-tally-with-spec =
-    tie.close
-    (tie.spec
+pub tally_with_spec : {M : Type 1} → statement M
+tally_with_spec = tie.close (tie.spec
     invariant-loop
     decreases-loop
     loop-holds

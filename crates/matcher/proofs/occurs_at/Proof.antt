@@ -11,78 +11,76 @@ use Rattle.spec.proofs.Folding.{rest, rest-same, rest-differs, rest-done, occurs
 use Rattle.matcher.proofs.occurs_at.Statement.{statement}
 use Rattle.matcher.proofs.occurs_at.Tie as tie
 
-abbrev invariant-loop : tie.invariant-loop
+abbrev invariant-loop : tie.invariant-loop-k
 invariant-loop keyword chunk at flag k₀ k =
     (k ≤ length keyword) × (at + length keyword ≤ length chunk)
     × (occurs_at (folded flag keyword) (folded flag chunk) at ≡ rest flag keyword chunk at k)
 
-abbrev decreases-loop : tie.decreases-loop
+abbrev decreases-loop : tie.decreases-loop-k
 decreases-loop keyword chunk at flag k₀ k = length keyword - k
 
-returns : tie.Need-returns invariant-loop decreases-loop
+returns : tie.Need-returns-then-keyword-eq0 invariant-loop decreases-loop
 returns c =
-    let a = c.before.before.before.args in
+    let a = c.args in
     sym ((rw add-zero at (rest-done a.flag a.keyword.now a.chunk.now a.at 0 (omega arith))))
 
-returns-2 : tie.Need-returns-2 invariant-loop decreases-loop
+returns-2 : tie.Need-returns-then-chunk-at invariant-loop decreases-loop
 returns-2 c =
-    let a = c.before.before.before.before.args in
+    let a = c.args in
     sym (occurs_at-out a.flag a.keyword.now a.chunk.now a.at (omega arith))
 
-sub-if3 : tie.Need-overflow-sub-if3 invariant-loop decreases-loop
+sub-if3 : tie.Need-overflow_sub-chunk invariant-loop decreases-loop
 sub-if3 c = search rules
 
-returns-3 : tie.Need-returns-3 invariant-loop decreases-loop
+returns-3 : tie.Need-returns-then-chunk-at-2 invariant-loop decreases-loop
 returns-3 c =
-    let a = c.before.before.before.before.before.args in
+    let a = c.args in
     sym (occurs_at-out a.flag a.keyword.now a.chunk.now a.at (omega arith))
 
-loop-holds : tie.Need-loop-init invariant-loop decreases-loop
+loop-holds : tie.Need-loop-k-init invariant-loop decreases-loop
 loop-holds c = (omega arith, omega arith, rw add-zero)
 
-shared-slice-read-fold : tie.Need-shared-slice-read-fold invariant-loop decreases-loop
+shared-slice-read-fold : tie.Need-bounds-keyword-k invariant-loop decreases-loop
 shared-slice-read-fold c = omega arith
 
-fold-requires : tie.Need-fold-requires invariant-loop decreases-loop
+fold-requires : tie.Need-fold-x-requires invariant-loop decreases-loop
 fold-requires c κs = search rules
 
-add-fold : tie.Need-overflow-add-fold invariant-loop decreases-loop
+add-fold : tie.Need-overflow_add-at invariant-loop decreases-loop
 add-fold c = omega arith
 
-shared-slice-read-fold-2 : tie.Need-shared-slice-read-fold-2 invariant-loop decreases-loop
+shared-slice-read-fold-2 : tie.Need-bounds-chunk-at invariant-loop decreases-loop
 shared-slice-read-fold-2 c = omega arith
 
-fold-requires-2 : tie.Need-fold-requires-2 invariant-loop decreases-loop
+fold-requires-2 : tie.Need-fold-y-requires invariant-loop decreases-loop
 fold-requires-2 c κs = search rules
 
-returns-4 : tie.Need-returns-4 invariant-loop decreases-loop
+returns-4 : tie.Need-returns-then-x-y invariant-loop decreases-loop
 returns-4 c =
-    let l = c.before.before.before.before.before.before in
-    let a = l.before.before.before.before.before.before.args in
-    sym (l.loop.invariant.2 ∙ rest-differs a.flag a.keyword.now a.chunk.now a.at l.loop.k (omega arith) (omega arith) (omega arith))
+    let l = c in
+    let a = l.args in
+    sym (l.loop-k.invariant.2 ∙ rest-differs a.flag a.keyword.now a.chunk.now a.at l.loop-k.k (omega arith) (omega arith) (omega arith))
 
-add-k : tie.Need-overflow-add-k invariant-loop decreases-loop
+add-k : tie.Need-overflow_add-k invariant-loop decreases-loop
 add-k c = omega arith
 
-loop-less : tie.Need-loop-smaller invariant-loop decreases-loop
+loop-less : tie.Need-loop-k-smaller invariant-loop decreases-loop
 loop-less c = omega arith
 
-loop-again : tie.Need-loop-preserved invariant-loop decreases-loop
+loop-again : tie.Need-loop-k-preserved invariant-loop decreases-loop
 loop-again c =
-    let l = c.before.before.before.before.before.before in
-    let a = l.before.before.before.before.before.before.args in
-    let same = rest-same a.flag a.keyword.now a.chunk.now a.at l.loop.k (omega arith) (omega arith) (omega arith) in
-    (omega arith, omega arith, l.loop.invariant.2 ∙ same)
+    let l = c in
+    let a = l.args in
+    let same = rest-same a.flag a.keyword.now a.chunk.now a.at l.loop-k.k (omega arith) (omega arith) (omega arith) in
+    (omega arith, omega arith, l.loop-k.invariant.2 ∙ same)
 
-returns-5 : tie.Need-returns-5 invariant-loop decreases-loop
+returns-5 : tie.Need-returns invariant-loop decreases-loop
 returns-5 c =
-    let a = c.before.before.before.before.before.before.before.args in
-    sym (c.before.loop.invariant.2 ∙ rest-done a.flag a.keyword.now a.chunk.now a.at c.before.loop.k (omega arith))
+    let a = c.args in
+    sym (c.loop-k.invariant.2 ∙ rest-done a.flag a.keyword.now a.chunk.now a.at c.loop-k.k (omega arith))
 
-pub occurs-at-spec : {M : Type 1} → statement M
-occurs-at-spec =
-    tie.close
-    (tie.spec
+pub occurs_at_spec : {M : Type 1} → statement M
+occurs_at_spec = tie.close (tie.spec
     invariant-loop
     decreases-loop
     returns

@@ -1,6 +1,6 @@
 -- `matcher::suffix_of` meets its contract. The invariant: the suffix is the largest number up to j that passes. Assumes nothing.
 use mathlib.Core.Path.{◌≡◌, sym, ap, ◌∙◌}
-use Prim.Native.Nat.{◌-◌, ◌≤◌}
+use Prim.Native.Nat.{◌≤◌}
 use native.Mathlib.Omega.{arith}
 use borrow.Author.Rules.{rules}
 use lib.ListN.{length}
@@ -12,71 +12,69 @@ use Rattle.spec.proofs.Folding.{suffix-down, starts-part}
 use Rattle.matcher.proofs.suffix_of.Statement.{statement}
 use Rattle.matcher.proofs.suffix_of.Tie as tie
 
-abbrev invariant-loop : tie.invariant-loop
+abbrev invariant-loop : tie.invariant-loop-j
 invariant-loop keyword chunk flag j₀ j =
     (j ≤ length keyword) × (j ≤ length chunk)
     × (suffix_of (folded flag keyword) (folded flag chunk) ≡ largest (starts_with (folded flag keyword) (folded flag chunk)) j)
 
-abbrev decreases-loop : tie.decreases-loop
+abbrev decreases-loop : tie.decreases-loop-j
 decreases-loop keyword chunk flag j₀ j = j
 
-reach-of-requires : tie.Need-reach-of-requires invariant-loop decreases-loop
+reach-of-requires : tie.Need-reach_of-j-requires invariant-loop decreases-loop
 reach-of-requires c κs = search rules
 
-loop-holds : tie.Need-loop-init invariant-loop decreases-loop
+loop-holds : tie.Need-loop-j-init invariant-loop decreases-loop
 unfolding reach
 loop-holds c =
-    let a = c.before.before.before.args in
-    (omega arith, omega arith, rw c.reach_of.ensures (suffix-down a.flag a.keyword.now a.chunk.now))
+    let a = c.args in
+    (omega arith, omega arith, rw c.reach_of-j.ensures (suffix-down a.flag a.keyword.now a.chunk.now))
 
-sub-from : tie.Need-overflow-sub-from invariant-loop decreases-loop
+sub-from : tie.Need-overflow_sub-from invariant-loop decreases-loop
 sub-from c = omega arith
 
-sub-occurs-at : tie.Need-overflow-sub-occurs-at invariant-loop decreases-loop
+sub-occurs-at : tie.Need-slice_bounds-occurs_at-count invariant-loop decreases-loop
 sub-occurs-at c = omega arith
 
-part-occurs-at-start : tie.Need-slice-bounds-occurs-at-start invariant-loop decreases-loop
+part-occurs-at-start : tie.Need-slice_bounds-occurs_at-start invariant-loop decreases-loop
 part-occurs-at-start c = omega arith
 
-part-occurs-at-end : tie.Need-slice-bounds-occurs-at-end invariant-loop decreases-loop
+part-occurs-at-end : tie.Need-slice_bounds-occurs_at-end invariant-loop decreases-loop
 part-occurs-at-end c = omega arith
 
-occurs-at-requires : tie.Need-occurs-at-requires invariant-loop decreases-loop
+occurs-at-requires : tie.Need-occurs_at-requires invariant-loop decreases-loop
 occurs-at-requires c κs = omega arith
 
-returns : tie.Need-returns invariant-loop decreases-loop
+returns : tie.Need-returns-then-occurs_at invariant-loop decreases-loop
 returns c =
-    let l = c.before.before.before.before in
-    let a = l.before.before.before.before.args in
-    sym (l.loop.invariant.2 ∙ largest-yes _ l.loop.j
-    (sym (starts-part a.flag a.keyword.now a.chunk.now l.loop.j) ∙ sym c.before.occurs-at.ensures ∙ c.if1.true))
+    let l = c in
+    let a = l.args in
+    sym (l.loop-j.invariant.2 ∙ largest-yes (starts_with (folded a.flag a.keyword.now) (folded a.flag a.chunk.now)) l.loop-j.j
+    (sym (starts-part a.flag a.keyword.now a.chunk.now l.loop-j.j) ∙ sym c.occurs_at.ensures ∙ c.if-occurs_at.true))
 
-sub-j : tie.Need-overflow-sub-j invariant-loop decreases-loop
+sub-j : tie.Need-overflow_sub-j invariant-loop decreases-loop
 sub-j c = omega arith
 
-loop-less : tie.Need-loop-smaller invariant-loop decreases-loop
+loop-less : tie.Need-loop-j-smaller invariant-loop decreases-loop
 loop-less c = omega arith
 
-loop-again : tie.Need-loop-preserved invariant-loop decreases-loop
+loop-again : tie.Need-loop-j-preserved invariant-loop decreases-loop
 loop-again c =
-    let l = c.before.before.before.before in
-    let a = l.before.before.before.before.args in (
+    let l = c in
+    let a = l.args in (
       omega arith,
       omega arith,
-      l.loop.invariant.2 ∙ largest-no _ l.loop.j (omega arith)
-          (sym (starts-part a.flag a.keyword.now a.chunk.now l.loop.j) ∙ sym c.before.occurs-at.ensures ∙ c.if1.false),
+      l.loop-j.invariant.2 ∙ largest-no (starts_with (folded a.flag a.keyword.now) (folded a.flag a.chunk.now)) l.loop-j.j (omega arith)
+          (sym (starts-part a.flag a.keyword.now a.chunk.now l.loop-j.j) ∙ sym c.occurs_at.ensures ∙ c.if-occurs_at.false),
     )
 
-returns-2 : tie.Need-returns-2 invariant-loop decreases-loop
+returns-2 : tie.Need-returns invariant-loop decreases-loop
 returns-2 c =
-    let a = c.before.before.before.before.before.args in
-    let z : c.before.loop.j ≡ 0 = omega arith in
-    sym (c.before.loop.invariant.2 ∙ ap (largest (starts_with (folded a.flag a.keyword.now) (folded a.flag a.chunk.now))) z)
+    let a = c.args in
+    let z : c.loop-j.j ≡ 0 = omega arith in
+    sym (c.loop-j.invariant.2 ∙ ap (largest (starts_with (folded a.flag a.keyword.now) (folded a.flag a.chunk.now))) z)
 
-pub suffix-of-spec : {M : Type 1} → statement M
-suffix-of-spec =
-    tie.close
-    (tie.spec
+pub suffix_of_spec : {M : Type 1} → statement M
+suffix_of_spec = tie.close (tie.spec
     invariant-loop
     decreases-loop
     reach-of-requires

@@ -4,37 +4,41 @@ use Rattle.plan.proofs.Stages.{front-index, front-recipes}
 use Rattle.plan.proofs.prepare.Statement.{statement}
 use Rattle.plan.proofs.prepare.Tie as tie
 
-examine-requires : tie.Need-examine-requires
-examine-requires c κs = c.before.before.before.before.requires
+examine-requires : tie.Need-examine-code-requires
+examine-requires c κs = c.requires
 
-same_length : tie.Need-same-length
-same_length c = c.before.before.before.examine.auto.1.0
+same_length : tie.Need-shape_of-chains-then-code-ne0
+same_length c = c.examine-code.auto.chains
 
-returns : tie.Need-returns
+returns : tie.Need-returns-then-code-ne0
 returns c =
-    let a = c.before.before.before.before.before.before.before.before.args in
-    let e = c.before.before.before.examine in
+    let a = c.args in
+    let e = c.examine-code in
     record {
-      number = e.ensures.0 ∙ front-index a.index.now a.recipes.now (λ z. c.if1.true (e.ensures.0 ∙ z));
+      number = e.ensures.0 ∙ front-index a.index.now a.recipes.now (λ z. c.if-code-ne0.true (e.ensures.0 ∙ z));
       chained = e.ensures.1;
     }
 
 check-requires : tie.Need-check-requires
 check-requires c κs = tt
 
-same-length-2 : tie.Need-same-length-2
-same-length-2 c = c.before.before.before.before.examine.auto.1.0
+same-length-2 : tie.Need-shape_of-chains
+same-length-2 c = c.examine-code.auto.chains
 
-returns-2 : tie.Need-returns-2
+returns-2 : tie.Need-returns
 returns-2 c =
-    let a = c.before.before.before.before.before.before.before.before.before.args in
-    let e = c.before.before.before.before.examine in
+    let a = c.args in
+    let e = c.examine-code in
     record {
-      number = c.check.ensures ∙ front-recipes a.index.now a.recipes.now (sym e.ensures.0 ∙ c.before.if1.false);
+      number = c.check.ensures ∙ front-recipes a.index.now a.recipes.now (sym e.ensures.0 ∙ c.if-code-ne0.false);
       chained = e.ensures.1;
     }
 
-pub prepare-spec : {M : Type 1} → statement M
-prepare-spec =
-    tie.close
-    (tie.spec examine-requires same_length returns check-requires same-length-2 returns-2)
+pub prepare_spec : {M : Type 1} → statement M
+prepare_spec = tie.close (tie.spec
+    examine-requires
+    same_length
+    returns
+    check-requires
+    same-length-2
+    returns-2)

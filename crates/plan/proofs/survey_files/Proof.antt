@@ -23,216 +23,214 @@ use Rattle.plan.proofs.Stages.{inner-least, files-number, refused-plan, done-pla
 use Rattle.plan.proofs.survey_files.Statement.{statement}
 use Rattle.plan.proofs.survey_files.Tie as tie
 
-abbrev invariant-loop : tie.invariant-loop
+abbrev invariant-loop : tie.invariant-loop-k
 invariant-loop index recipes chains tables query opened lengths slots₀ marks₀ counts₀ files total₀ at₀ k₀ slots marks counts total at k =
     (files ≡ file_count recipes) × (length slots ≡ 65536) × Surveying index recipes query marks k at total × CountingFiles query index recipes counts k
 
-abbrev decreases-loop : tie.decreases-loop
+abbrev decreases-loop : tie.decreases-loop-k
 decreases-loop index recipes chains tables query opened lengths slots₀ marks₀ counts₀ files total₀ at₀ k₀ slots marks counts total at k = files - k
 
 -- the start, seen from the loop, and from where a file is tested
-abbrev outset : tie.At-loop invariant-loop decreases-loop → tie.Start invariant-loop decreases-loop
+abbrev outset : tie.At-loop-k invariant-loop decreases-loop → tie.Start invariant-loop decreases-loop
 outset p = p.before.before.before.before.before.before.before.before
 
-abbrev turn : tie.After-file-code invariant-loop decreases-loop → tie.At-loop invariant-loop decreases-loop
+abbrev turn : tie.After-file_code-code invariant-loop decreases-loop → tie.At-loop-k invariant-loop decreases-loop
 turn c = c.before.before.before.before
 
 -- the file that the survey is at lies in the recipes
-room : (c : tie.After-file-at invariant-loop decreases-loop) → let p = c.before.before in
-    p.loop.at + 4 + length c.file-at.result.now ≤ length (outset p).args.recipes.now
+room : (c : tie.After-file_at-file invariant-loop decreases-loop) → let p = c.before.before in
+    p.loop-k.at + 4 + length c.file_at-file.result.now ≤ length (outset p).args.recipes.now
 room c =
     let p = c.before.before in
     let a = (outset p).args in
-    let f = c.file-at in
-    (file-next a.recipes.now p.loop.k p.loop.at p.loop.invariant.2.walk (omega arith) f.result.now f.ensures).within
+    let f = c.file_at-file in
+    (file-next a.recipes.now p.loop-k.k p.loop-k.at p.loop-k.invariant.2.walk (omega arith) f.result.now f.ensures).within
 
 -- the slots that its test leaves
-abbrev slots₁ : tie.After-file-code invariant-loop decreases-loop → List ℕ
-slots₁ c = c.file-code.new.1.1.1.1.0
+abbrev slots₁ : tie.After-file_code-code invariant-loop decreases-loop → List ℕ
+slots₁ c = c.file_code-code.new.slots
 
 -- what its test says
-test : (c : tie.After-file-code invariant-loop decreases-loop)
-    → c.file-code.result ≡ code_of (outset (turn c)).args.index.now (named c.before.before.file-at.result.now)
+test : (c : tie.After-file_code-code invariant-loop decreases-loop)
+    → c.file_code-code.result ≡ code_of (outset (turn c)).args.index.now (named c.file_at-file.result.now)
 test c =
     let s = outset (turn c) in
     let a = s.args in
-    let d = s.pre.0.looked.checked in
-    let f = c.before.before.file-at in
-    let t = c.file-code in
+    let d = s.requires.0.looked.checked in
+    let f = c.file_at-file in
+    let t = c.file_code-code in
     let o = a.survey.opened in
     index-code a.index.now o.directory o.entries (starts a.index.now o d) (counts a.index.now o d)
-    (least_in o) (named f.result.now) (turn c).loop.slots (slots₁ c) t.result t.ensures
+    (least_in o) (named f.result.now) (turn c).loop-k.slots (slots₁ c) t.result t.ensures
     ∙ ap (λ (n : ℕ). file_code (index_keys a.index.now) (size_at (index_layout a.index.now) a.index.now) n (named f.result.now))
     (inner-least a.index.now o d.read)
 
 -- the file that passed can be walked
-walks : (c : tie.After-file-code invariant-loop decreases-loop) → c.file-code.result ≡ 0
-    → File (outset (turn c)).args.index.now c.before.before.file-at.result.now (slots₁ c)
+walks : (c : tie.After-file_code-code invariant-loop decreases-loop) → c.file_code-code.result ≡ 0
+    → File (outset (turn c)).args.index.now c.file_at-file.result.now (slots₁ c)
 walks c z =
     let p = turn c in
     let s = outset p in
     let a = s.args in
-    let d = s.pre.0.looked.checked in
-    let f = c.before.before.file-at in
-    let l = p.loop in
-    let t = c.file-code in
+    let d = s.requires.0.looked.checked in
+    let f = c.file_at-file in
+    let l = p.loop-k in
+    let t = c.file_code-code in
     let o = a.survey.opened in
-    file-walks a.index.now a.recipes.now l.k l.at l.inv.2.walk (omega arith) f.result.now f.ensures
+    file-walks a.index.now a.recipes.now l.k l.at l.invariant.2.walk (omega arith) f.result.now f.ensures
     (slots₁ c) (sym (test c) ∙ z)
     (index-slotted a.index.now o.directory o.entries (starts a.index.now o d) (counts a.index.now o d)
     (least_in o) (named f.result.now) l.slots (slots₁ c) t.result t.ensures z)
 
 -- the file's occurrences are few, and so are its rows
-few : (c : tie.After-rows-in invariant-loop decreases-loop) → let t = c.before.before.before.before.before in
-    length (file_list (turn t).loop.k (outset (turn t)).args.index.now t.before.before.file-at.result.now) < 2 ^ 36
+few : (c : tie.After-rows_in-n invariant-loop decreases-loop) → let t = c.before.before.before.before.before in
+    length (file_list (turn t).loop-k.k (outset (turn t)).args.index.now t.file_at-file.result.now) < 2 ^ 36
 few c =
     let t = c.before.before.before.before.before in
     let s = outset (turn t) in
     let a = s.args in
     let index = a.index.now in
-    let file = t.before.before.file-at.result.now in
+    let file = t.file_at-file.result.now in
     omega (
       arith,
-      count-any index file (turn t).loop.k,
-      count-few index a.survey.opened file (slots₁ t) s.pre.0.looked.checked (walks t c.before.before.before.if1.false),
+      count-any index file (turn t).loop-k.k,
+      count-few index a.survey.opened file (slots₁ t) s.requires.0.looked.checked (walks t c.if-code-ne0.false),
     )
 
-small : (c : tie.After-rows-in invariant-loop decreases-loop) → c.rows_in.result < 2 ^ 36
+small : (c : tie.After-rows_in-n invariant-loop decreases-loop) → c.rows_in-n.result < 2 ^ 36
 small c =
     let t = c.before.before.before.before.before in
     let a = (outset (turn t)).args in
     let index = a.index.now in
-    let file = t.before.before.file-at.result.now in
-    let k = (turn t).loop.k in
-    omega (arith, c.rows_in.ensures.0, rows_few (lengths_in index) a.query.now k (file_list k index file) (few c))
+    let file = t.file_at-file.result.now in
+    let k = (turn t).loop-k.k in
+    omega (arith, c.rows_in-n.ensures.0, rows_few (lengths_in index) a.query.now k (file_list k index file) (few c))
 
-count-at-requires : tie.Need-count-at-requires invariant-loop decreases-loop
+count-at-requires : tie.Need-count_at-files-requires invariant-loop decreases-loop
 count-at-requires c κs =
-    let s = c.before.before.before.before.before.before in
+    let s = c in
     omega (arith, (accepted s.args.recipes.now s.requires.0.named).header)
 
-loop-holds : tie.Need-loop-init invariant-loop decreases-loop
+loop-holds : tie.Need-loop-k-init invariant-loop decreases-loop
 loop-holds c =
-    let s = c.before.before.before.before.before.before.before in
+    let s = c in
     let a = s.args in (
-      c.count_at.ensures,
+      c.count_at-files.ensures,
       length-replicate {A = ℕ} 65536 0,
       survey-start a.index.now a.recipes.now a.query.now s.requires.0.named,
       counts_start a.query.now a.index.now a.recipes.now,
     )
 
-file-at-requires : tie.Need-file-at-requires invariant-loop decreases-loop
+file-at-requires : tie.Need-file_at-file-requires invariant-loop decreases-loop
 file-at-requires c κs =
     let p = c.before in
     let recipes = (outset p).args.recipes.now in
-    (walk-file recipes p.loop.k p.loop.at (field_at recipes p.loop.at 4) p.loop.invariant.2.walk (omega arith) refl).room
+    (walk-file recipes p.loop-k.k p.loop-k.at (field_at recipes p.loop-k.at 4) p.loop-k.invariant.2.walk (omega arith) refl).room
 
-slice-aggregate-file-code : tie.Need-slice-aggregate-file-code invariant-loop decreases-loop
-slice-aggregate-file-code c = sym c.before.before.before.loop.invariant.1
+slice-aggregate-file-code : tie.Need-slice_bounds-file_code-end invariant-loop decreases-loop
+slice-aggregate-file-code c = sym c.loop-k.invariant.1
 
-file-code-requires : tie.Need-file-code-requires invariant-loop decreases-loop
+file-code-requires : tie.Need-file_code-code-requires invariant-loop decreases-loop
 file-code-requires c κs =
     let s = outset c.before.before.before in
-    (lies s.args.index.now s.args.survey.opened s.pre.0.looked.checked, s.pre.0.looked.chained)
+    (lies s.args.index.now s.args.survey.opened s.requires.0.looked.checked, s.requires.0.looked.chained)
 
 refused-requires : tie.Need-refused-requires invariant-loop decreases-loop
 refused-requires c κs = tt
 
-returns : tie.Need-returns invariant-loop decreases-loop
+returns : tie.Need-returns-then-code-ne0 invariant-loop decreases-loop
 returns c =
     let t = c.before.before.before in
     let p = turn t in
     let s = outset p in
     let a = s.args in
-    let l = p.loop in
-    let f = t.before.before.file-at in
-    let code = t.file-code.result in
-    let taken = c.before.if1.true in
+    let l = p.loop-k in
+    let f = t.file_at-file in
+    let code = t.file_code-code.result in
+    let taken = c.if-code-ne0.true in
     let all = survey-refused a.index.now a.recipes.now a.query.now l.k l.at (omega arith) f.result.now f.ensures
-    l.marks l.total l.inv.2 code (test t) taken in
+    l.marks l.total l.invariant.2 code (test t) taken in
     refused-plan a.index.now a.recipes.now a.query.now code c.refused.result
-    (all ∙ files-number a.index.now a.recipes.now s.pre.0.looked.checked.good s.pre.0.named) taken c.refused.ensures
+    (all ∙ files-number a.index.now a.recipes.now s.requires.0.looked.checked.good s.requires.0.named) taken c.refused.ensures
 
-slice-aggregate-rows-in : tie.Need-slice-aggregate-rows-in invariant-loop decreases-loop
-slice-aggregate-rows-in c = let t = c.before.before.before in sym (t.file-code.auto.1.1.1.1.0 ∙ (turn t).loop.invariant.1)
+slice-aggregate-rows-in : tie.Need-slice_bounds-rows_in-end invariant-loop decreases-loop
+slice-aggregate-rows-in c = let t = c.before.before.before in sym (t.file_code-code.auto.slots ∙ (turn t).loop-k.invariant.1)
 
-slice-aggregate-rows-in-2 : tie.Need-slice-aggregate-rows-in-2 invariant-loop decreases-loop
-slice-aggregate-rows-in-2 c = sym c.before.before.before.before.before.before.before.before.loop.invariant.3.long
+slice-aggregate-rows-in-2 : tie.Need-slice_bounds-rows_in-end-in-loop-k invariant-loop decreases-loop
+slice-aggregate-rows-in-2 c = sym c.loop-k.invariant.3.long
 
-rows-in-requires : tie.Need-rows-in-requires invariant-loop decreases-loop
+rows-in-requires : tie.Need-rows_in-n-requires invariant-loop decreases-loop
 rows-in-requires c κs =
     let t = c.before.before.before.before in
     let p = turn t in
     let s = outset p in
-    let g = p.loop.inv.3 in (
-      (s.pre.0.looked, s.pre.0.tabled),
-      (walks t c.before.before.if1.false, (s.pre.1, (g.long, λ k h. omega (arith, g.small k h, p.loop.inv.2.few)))),
+    let g = p.loop-k.invariant.3 in (
+      (s.requires.0.looked, s.requires.0.tabled),
+      (walks t c.if-code-ne0.false, (s.requires.1, (g.long, λ k h. omega (arith, g.small k h, p.loop-k.invariant.2.few)))),
     )
 
-mark-of-requires : tie.Need-mark-of-requires invariant-loop decreases-loop
+mark-of-requires : tie.Need-mark_of-requires invariant-loop decreases-loop
 mark-of-requires c κs = tt
 
-array-write-marks : tie.Need-array-write-marks invariant-loop decreases-loop
+array-write-marks : tie.Need-bounds-marks-k invariant-loop decreases-loop
 array-write-marks c =
-    let p = c.before.before.before.before.before.before.before.before.before.before.before in
-    omega (arith, p.loop.invariant.0, p.loop.invariant.2.few, p.loop.invariant.2.wide)
+    let p = c in
+    omega (arith, p.loop-k.invariant.0, p.loop-k.invariant.2.few, p.loop-k.invariant.2.wide)
 
-add_total : tie.Need-overflow-add-total invariant-loop decreases-loop
+add_total : tie.Need-overflow_add-total invariant-loop decreases-loop
 add_total c =
-    let p = c.before.before.before.before.before.before.before.before.before.before.before in
-    omega (arith, p.loop.invariant.2.small, p.loop.invariant.2.few, small c.before.before)
+    let p = c in
+    omega (arith, p.loop-k.invariant.2.small, p.loop-k.invariant.2.few, small c.before.before)
 
-add_at : tie.Need-overflow-add-at invariant-loop decreases-loop
+add_at : tie.Need-overflow_add-at invariant-loop decreases-loop
 add_at c = let f = c.before.before.before.before.before.before.before.before.before in omega (arith, room f, outset f.before.before)
 
-add-at-2 : tie.Need-overflow-add-at-2 invariant-loop decreases-loop
+add-at-2 : tie.Need-overflow_add-at-in-loop-k invariant-loop decreases-loop
 add-at-2 c = let f = c.before.before.before.before.before.before.before.before.before in omega (arith, room f, outset f.before.before)
 
-add-k : tie.Need-overflow-add-k invariant-loop decreases-loop
+add-k : tie.Need-overflow_add-k invariant-loop decreases-loop
 add-k c = omega arith
 
-loop-less : tie.Need-loop-smaller invariant-loop decreases-loop
+loop-less : tie.Need-loop-k-smaller invariant-loop decreases-loop
 loop-less c = omega arith
 
-loop-again : tie.Need-loop-preserved invariant-loop decreases-loop
+loop-again : tie.Need-loop-k-preserved invariant-loop decreases-loop
 loop-again c =
-    let n = c.before.before.rows_in in
+    let n = c.rows_in-n in
     let t = c.before.before.before.before.before.before.before in
-    let f = t.before.before.file-at in
+    let f = t.file_at-file in
     let p = turn t in
     let a = (outset p).args in
-    let l = p.loop in
-    let counts = n.new.1.1.1.1.1.1.1.0 in (
-      l.inv.0,
-      t.file-code.auto.1.1.1.1.0 ∙ l.inv.1,
+    let l = p.loop-k in
+    let counts = n.new.counts in (
+      l.invariant.0,
+      t.file_code-code.auto.slots ∙ l.invariant.1,
       survey-on a.index.now a.recipes.now a.query.now l.k l.at (omega arith) f.result.now f.ensures
-          l.marks l.total l.inv.2 t.file-code.result (test t) c.before.before.before.before.before.if1.false
+          l.marks l.total l.invariant.2 t.file_code-code.result (test t) c.if-code-ne0.false
           n.result c.mark_of.result n.ensures.0 (small c.before.before) c.mark_of.ensures,
-      counts-on a.query.now a.index.now a.recipes.now l.k l.at l.inv.2.walk (omega arith) f.result.now f.ensures
-          l.counts counts l.inv.3 n.ensures.1 (few c.before.before),
+      counts-on a.query.now a.index.now a.recipes.now l.k l.at l.invariant.2.walk (omega arith) f.result.now f.ensures
+          l.counts counts l.invariant.3 n.ensures.1 (few c.before.before),
     )
 
-returns-2 : tie.Need-returns-2 invariant-loop decreases-loop
+returns-2 : tie.Need-returns invariant-loop decreases-loop
 returns-2 c =
     let p = c.before in
     let s = outset p in
     let index = s.args.index.now in
     let recipes = s.args.recipes.now in
     let query = s.args.query.now in
-    let l = p.loop in
+    let l = p.loop-k in
     let done : file_count recipes ≤ l.k = omega arith in
     done-plan index recipes query l.total l.counts s.args.survey.opened l.marks
-    (sym (files-number index recipes s.pre.0.looked.checked.good s.pre.0.named)
+    (sym (files-number index recipes s.requires.0.looked.checked.good s.requires.0.named)
     ∙ survey-passed index recipes query l.marks l.k l.at l.total l.invariant.2 done)
     (survey-total index recipes query l.marks l.k l.at l.total l.invariant.2 done)
     (counts_end query index recipes l.k l.at l.invariant.2.walk done l.counts l.invariant.3)
-    s.pre.0.looked.checked.read
+    s.requires.0.looked.checked.read
     (survey-marks index recipes query l.marks l.k l.at l.total l.invariant.2 done)
 
-pub survey-files-spec : {M : Type 1} → statement M
-survey-files-spec =
-    tie.close
-    (tie.spec
+pub survey_files_spec : {M : Type 1} → statement M
+survey_files_spec = tie.close (tie.spec
     invariant-loop
     decreases-loop
     count-at-requires

@@ -5,22 +5,27 @@ use borrow.Author.Rules.{rules}
 use Rattle.records.proofs.is_tiny.Statement.{statement}
 use Rattle.records.proofs.is_tiny.Tie as tie
 
-returns : tie.Need-returns
-returns c = λ n. tiny-count c.before.before.args.s n (omega arith)
+returns : tie.Need-returns-then-s-ne0
+returns c = λ n. tiny-count c.args.s n (omega arith)
 
-returns-2 : tie.Need-returns-2
-returns-2 c = λ n. tiny-prefix c.before.before.before.before.args.s n (omega arith) (omega arith)
+returns-2 : tie.Need-returns-then-s-gt-TINY_MOST
+returns-2 c = λ n. tiny-prefix c.args.s n (omega arith) (omega arith)
 
-returns-3 : tie.Need-returns-3
-returns-3 c = λ n. tiny-suffix c.before.before.before.before.before.before.args.s n (omega arith) (omega arith) (omega arith)
+returns-3 : tie.Need-returns-then-s-gt-TINY_MOST-2
+returns-3 c = λ n. tiny-suffix c.args.s n (omega arith) (omega arith) (omega arith)
 
-is-empty-requires : tie.Need-is-empty-requires
+is-empty-requires : tie.Need-is_empty-requires
 is-empty-requires c κs = search rules
 
-returns-4 : tie.Need-returns-4
+returns-4 : tie.Need-returns
 returns-4 c =
-    λ n. tiny-some c.before.before.before.before.before.before.before.args.s n c.is-empty.result (omega arith) (omega arith) (omega arith)
-    c.is-empty.ensures
+    λ n. tiny-some c.args.s n c.is_empty.result (omega arith) (omega arith) (omega arith)
+    c.is_empty.ensures
 
-pub is-tiny-spec : {M : Type 1} → statement M
-is-tiny-spec = tie.close (tie.spec returns returns-2 returns-3 is-empty-requires returns-4)
+pub is_tiny_spec : {M : Type 1} → statement M
+is_tiny_spec = tie.close (tie.spec
+    returns
+    returns-2
+    returns-3
+    is-empty-requires
+    returns-4)

@@ -5,26 +5,30 @@ use Rattle.records.proofs.SetLaws.{start-length, put_both}
 use Rattle.records.proofs.put_start.Statement.{statement}
 use Rattle.records.proofs.put_start.Tie as tie
 
-put-record-requires : tie.Need-put-record-requires
-put-record-requires c κs = c.before.before.requires
+put-record-requires : tie.Need-put_record-end-requires
+put-record-requires c κs = c.requires
 
-put-set-requires : tie.Need-put-set-requires
+put-set-requires : tie.Need-put_set-requires
 put-set-requires c κs =
     let p = c.before.before.before in
-    let s = p.before.before.before in
-    let r = p.put_record in
-    (omega (arith, s.requires.room, r.auto.0, (r.ensures 0).ends, start-length 0 s.args.k s.args.s), s.requires.number)
+    let s = p in
+    let r = p.put_record-end in
+    (omega (arith, s.requires.room, r.auto.out, (r.ensures 0).ends, start-length 0 s.args.k s.args.s), s.requires.number)
 
-same_length : tie.Need-same-length
-same_length c = let x = c.before.before in x.put-set.auto.0 ∙ x.before.before.before.before.put_record.auto.0
+same_length : tie.Need-shape_of-out
+same_length c = let x = c in x.put_set.auto.out ∙ x.put_record-end.auto.out
 
 returns : tie.Need-returns
 returns c = λ n.
     let x = c.before.before in
-    let p = x.before.before.before.before in
-    let a = p.before.before.before.args in
-    let r = p.put_record in
-    put_both a.out.now r.new.0 x.put-set.new.0 n a.k r.result x.put-set.result a.s (r.ensures n) x.put-set.ensures
+    let p = x in
+    let a = p.args in
+    let r = p.put_record-end in
+    put_both a.out.now r.new.out x.put_set.new.out n a.k r.result x.put_set.result a.s (r.ensures n) x.put_set.ensures
 
-pub put-start-spec : {M : Type 1} → statement M
-put-start-spec = tie.close (tie.spec put-record-requires put-set-requires same_length returns)
+pub put_start_spec : {M : Type 1} → statement M
+put_start_spec = tie.close (tie.spec
+    put-record-requires
+    put-set-requires
+    same_length
+    returns)

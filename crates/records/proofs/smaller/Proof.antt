@@ -24,23 +24,29 @@ kept-most n false = (omega arith, omega arith)
 picked : (a b : ℕ) → a * (1 - bool_byte (ltb b a)) + b * bool_byte (ltb b a) ≡ min a b
 picked a b = ⊎_elim (λ h. rw (le-ltb b a h) (omega arith)) (λ h. rw (lt-ltb b a h) (omega arith)) (le-or-lt a b)
 
-cast-above : tie.Need-overflow-cast-above
+cast-above : tie.Need-overflow_cast-above
 cast-above c = search rules
 
-sub-result : tie.Need-overflow-sub-result
+sub-result : tie.Need-overflow_sub-result
 sub-result c = bit-most (ltb c.args.b c.args.a)
 
-mul-result : tie.Need-overflow-mul-result
+mul-result : tie.Need-overflow_mul-result
 mul-result c = let a = c.args in omega (arith, (kept-most a.a (ltb a.b a.a)).0)
 
-mul-result-2 : tie.Need-overflow-mul-result-2
+mul-result-2 : tie.Need-overflow_mul-result-2
 mul-result-2 c = let a = c.args in omega (arith, (kept-most a.b (ltb a.b a.a)).1)
 
-add-result : tie.Need-overflow-add-result
+add-result : tie.Need-overflow_add-result
 add-result c = omega (arith, picked c.args.a c.args.b)
 
 returns : tie.Need-returns
 returns c = picked c.args.a c.args.b
 
-pub smaller-spec : {M : Type 1} → statement M
-smaller-spec = tie.close (tie.spec cast-above sub-result mul-result mul-result-2 add-result returns)
+pub smaller_spec : {M : Type 1} → statement M
+smaller_spec = tie.close (tie.spec
+    cast-above
+    sub-result
+    mul-result
+    mul-result-2
+    add-result
+    returns)

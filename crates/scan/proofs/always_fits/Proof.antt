@@ -6,51 +6,49 @@ use Rattle.scan.proofs.Fits.{count-few, share-few, shares-few, most-is, fits-nev
 use Rattle.scan.proofs.always_fits.Statement.{statement}
 use Rattle.scan.proofs.always_fits.Tie as tie
 
-returns : tie.Need-returns
-returns c = fits-never c.before.requires c.if1.true c.before.args.room
+returns : tie.Need-returns-then-store-gt-LARGEST
+returns c = fits-never c.requires c.if-store-gt-LARGEST.true c.args.room
 
-add_most : tie.Need-overflow-add-most
+add_most : tie.Need-overflow_add-most
 add_most c = search rules
 
-mul_most : tie.Need-overflow-mul-most
-mul_most c = omega (arith, count-few c.before.requires)
+mul_most : tie.Need-overflow_mul-most
+mul_most c = omega (arith, count-few c.requires)
 
-add-most-2 : tie.Need-overflow-add-most-2
-add-most-2 c = omega (arith, count-few c.before.requires)
+add-most-2 : tie.Need-overflow_add-most-2
+add-most-2 c = omega (arith, count-few c.requires)
 
-mul-most-2 : tie.Need-overflow-mul-most-2
-mul-most-2 c = omega (arith, count-few c.before.requires)
+mul-most-2 : tie.Need-overflow_mul-most-2
+mul-most-2 c = omega (arith, count-few c.requires)
 
-mul-most-3 : tie.Need-overflow-mul-most-3
-mul-most-3 c = omega (arith, c.if1.false)
+mul-most-3 : tie.Need-overflow_mul-most-3
+mul-most-3 c = omega (arith, c.if-store-gt-LARGEST.false)
 
-add-most-3 : tie.Need-overflow-add-most-3
-add-most-3 c = omega (arith, share-few c.before.requires c.if1.false)
+add-most-3 : tie.Need-overflow_add-most-3
+add-most-3 c = omega (arith, share-few c.requires c.if-store-gt-LARGEST.false)
 
-mul-most-4 : tie.Need-overflow-mul-most-4
+mul-most-4 : tie.Need-overflow_mul-most-4
 mul-most-4 c =
-    let short = c.before.if1.false in
-    omega (arith, shares-few c.before.before.requires short)
+    let short = c.if-store-gt-LARGEST.false in
+    omega (arith, shares-few c.requires short)
 
-add-most-4 : tie.Need-overflow-add-most-4
+add-most-4 : tie.Need-overflow_add-most-4
 add-most-4 c =
-    let s = c.before.before in
-    omega (arith, count-few s.requires, shares-few s.requires c.before.if1.false)
+    let s = c in
+    omega (arith, count-few s.requires, shares-few s.requires c.if-store-gt-LARGEST.false)
 
-returns-2 : tie.Need-returns-2
+returns-2 : tie.Need-returns-then-room-most
 returns-2 c =
-    let s = c.before.before.before in
-    fits_not s.requires _ s.args.room (most-is s.requires) c.if2.true
+    let s = c in
+    fits_not s.requires _ s.args.room (most-is s.requires) c.if-room-most.true
 
-returns-3 : tie.Need-returns-3
+returns-3 : tie.Need-returns
 returns-3 c =
-    let s = c.before.before.before in
-    fits-so s.requires _ s.args.room (most-is s.requires) c.if2.false
+    let s = c in
+    fits-so s.requires _ s.args.room (most-is s.requires) c.if-room-most.false
 
-pub always-fits-spec : {M : Type 1} → statement M
-always-fits-spec =
-    tie.close
-    (tie.spec
+pub always_fits_spec : {M : Type 1} → statement M
+always_fits_spec = tie.close (tie.spec
     returns
     add_most
     mul_most

@@ -4,11 +4,13 @@ use Rattle.scan.proofs.Checks.{first-refused, second-asked}
 use Rattle.scan.proofs.first_code.Statement.{statement}
 use Rattle.scan.proofs.first_code.Tie as tie
 
-returns : tie.Need-returns
-returns c = let a = c.before.args in first-refused a.first a.second (omega arith)
+returns : tie.Need-returns-then-first-ne0
+returns c = let a = c.args in first-refused a.first a.second (omega arith)
 
-returns-2 : tie.Need-returns-2
-returns-2 c = let a = c.before.args in second-asked a.first a.second c.if1.false
+returns-2 : tie.Need-returns
+returns-2 c = let a = c.args in second-asked a.first a.second c.if-first-ne0.false
 
-pub first-code-spec : {M : Type 1} → statement M
-first-code-spec = tie.close (tie.spec returns returns-2)
+pub first_code_spec : {M : Type 1} → statement M
+first_code_spec = tie.close (tie.spec
+    returns
+    returns-2)

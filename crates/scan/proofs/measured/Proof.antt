@@ -11,155 +11,153 @@ use Rattle.scan.proofs.measured.Statement.{statement}
 use Rattle.scan.proofs.measured.Tie as tie
 
 -- where the function starts, and where the bodies are measured
-abbrev begun : tie.After-measure-bodies-arg5 → tie.Start
+abbrev begun : tie.After-measure_bodies-arg-5-1 → tie.Start
 begun c = c.before.before.before.before.before.before.before.before.before.before.before.before.before.before.before.before
 
-abbrev outset : tie.After-measure-bodies → tie.Start
+abbrev outset : tie.After-measure_bodies-bodies → tie.Start
 outset m = begun m.before
 
-abbrev summed : tie.After-slice-known11 → tie.After-measure-bodies
+abbrev summed : tie.After-slice_known-11-1 → tie.After-measure_bodies-bodies
 summed c = c.before.before.before.before.before.before.before.before.before.before
 
-abbrev walked : tie.After-struct-known → tie.After-measure-bodies
+abbrev walked : tie.After-struct_known-1 → tie.After-measure_bodies-bodies
 walked c = summed c.before
 
 -- at the end: where the index was written, and where the bodies were measured before it
-abbrev indexed : tie.After-slice-known16 → tie.After-put-index
+abbrev indexed : tie.After-slice_known-16-1 → tie.After-put_index
 indexed c = c.before.before.before.before.before.before.before.before.before.before
 
-abbrev refitted : tie.After-slice-known16 → tie.Else2
-refitted c = (indexed c).before.before.before.before.before.before.before
+abbrev refitted : tie.After-slice_known-16-1 → tie.Else-len-gt-LARGEST
+refitted c = (indexed c).before.before.before.before.before.before
 
-abbrev first : tie.After-slice-known16 → tie.After-measure-bodies
+abbrev first : tie.After-slice_known-16-1 → tie.After-measure_bodies-bodies
 first c = walked (refitted c).before.before
 
 -- the index's length
-abbrev len : tie.After-struct-known → ℕ
+abbrev len : tie.After-struct_known-1 → ℕ
 len c =
     let m = walked c in
     let a = (outset m).args in
-    8 + length a.list.now + 32 * a.count + m.measure-bodies.result.size
+    8 + length a.list.now + 32 * a.count + m.measure_bodies-bodies.result.size
 
-measure-bodies-requires : tie.Need-measure-bodies-requires
+measure-bodies-requires : tie.Need-measure_bodies-bodies-requires
 measure-bodies-requires c κs = (begun c).requires.0
 
-add-len : tie.Need-overflow-add-len
-add-len c = let s = outset (summed c) in omega (arith, s.good.1.0)
+add-len : tie.Need-overflow_add-len
+add-len c = let s = outset (summed c) in omega (arith, s.well_formed)
 
-mul-len : tie.Need-overflow-mul-len
-mul-len c = let s = outset (summed c) in omega (arith, count-few s.pre.0.walks)
+mul-len : tie.Need-overflow_mul-len
+mul-len c = let s = outset (summed c) in omega (arith, count-few s.requires.0.walks)
 
-add-len-2 : tie.Need-overflow-add-len-2
-add-len-2 c = let s = outset (summed c) in omega (arith, s.good.1.0, count-few s.pre.0.walks)
+add-len-2 : tie.Need-overflow_add-len-2
+add-len-2 c = let s = outset (summed c) in omega (arith, s.well_formed, count-few s.requires.0.walks)
 
-add-len-3 : tie.Need-overflow-add-len-3
+add-len-3 : tie.Need-overflow_add-len-3
 add-len-3 c =
     let m = walked c in
     let s = outset m in
-    let w = s.pre.0.walks in
-    omega (arith, s.good.1.0, count-few w, size_few w m.measure-bodies.result.size m.measure-bodies.ensures.0)
+    let w = s.requires.0.walks in
+    omega (arith, s.well_formed, count-few w, size_few w m.measure_bodies-bodies.result.size m.measure_bodies-bodies.ensures.0)
 
-same_length : tie.Need-same-length
-same_length c = (walked c.before).measure-bodies.auto.1.1.1.1.1.1.1.0
+same_length : tie.Need-shape_of-log-then-out-len
+same_length c = (walked c.before).measure_bodies-bodies.auto.log
 
-same-length-2 : tie.Need-same-length-2
-same-length-2 c = (walked c.before).measure-bodies.auto.1.1.1.1.1.1.1.1.0
+same-length-2 : tie.Need-shape_of-run1-then-out-len
+same-length-2 c = (walked c.before).measure_bodies-bodies.auto.run1
 
-same-length-3 : tie.Need-same-length-3
-same-length-3 c = (walked c.before).measure-bodies.auto.1.1.1.1.1.1.1.1.1.0
+same-length-3 : tie.Need-shape_of-run2-then-out-len
+same-length-3 c = (walked c.before).measure_bodies-bodies.auto.run2
 
-same-length-4 : tie.Need-same-length-4
-same-length-4 c = (walked c.before).measure-bodies.auto.1.1.1.1.1.1.1.1.1.1.0
+same-length-4 : tie.Need-shape_of-run3-then-out-len
+same-length-4 c = (walked c.before).measure_bodies-bodies.auto.run3
 
-same-length-5 : tie.Need-same-length-5
-same-length-5 c = (walked c.before).measure-bodies.auto.1.1.1.1.1.1.1.1.1.1.1.0
+same-length-5 : tie.Need-shape_of-marks-then-out-len
+same-length-5 c = (walked c.before).measure_bodies-bodies.auto.marks
 
-returns : tie.Need-returns
+returns : tie.Need-returns-then-out-len
 returns c =
     let m = walked c.before in
     let s = outset m in
     let a = s.args in
-    scan-short a.list.now a.store.now 0 (sym s.pre.1) a.out.now (len c.before) refl
-    (len_is s.pre.0.walks m.measure-bodies.result.size m.measure-bodies.ensures.0) c.if1.true
+    scan-short a.list.now a.store.now 0 (sym s.requires.1) a.out.now (len c.before) refl
+    (len_is s.requires.0.walks m.measure_bodies-bodies.result.size m.measure_bodies-bodies.ensures.0) c.if-out-len.true
 
-same-length-6 : tie.Need-same-length-6
-same-length-6 c = (walked c.before.before).measure-bodies.auto.1.1.1.1.1.1.1.0
+same-length-6 : tie.Need-shape_of-log-then-len-gt-LARGEST
+same-length-6 c = (walked c.before.before).measure_bodies-bodies.auto.log
 
-same-length-7 : tie.Need-same-length-7
-same-length-7 c = (walked c.before.before).measure-bodies.auto.1.1.1.1.1.1.1.1.0
+same-length-7 : tie.Need-shape_of-run1-then-len-gt-LARGEST
+same-length-7 c = (walked c.before.before).measure_bodies-bodies.auto.run1
 
-same-length-8 : tie.Need-same-length-8
-same-length-8 c = (walked c.before.before).measure-bodies.auto.1.1.1.1.1.1.1.1.1.0
+same-length-8 : tie.Need-shape_of-run2-then-len-gt-LARGEST
+same-length-8 c = (walked c.before.before).measure_bodies-bodies.auto.run2
 
-same-length-9 : tie.Need-same-length-9
-same-length-9 c = (walked c.before.before).measure-bodies.auto.1.1.1.1.1.1.1.1.1.1.0
+same-length-9 : tie.Need-shape_of-run3-then-len-gt-LARGEST
+same-length-9 c = (walked c.before.before).measure_bodies-bodies.auto.run3
 
-same-length-10 : tie.Need-same-length-10
-same-length-10 c = (walked c.before.before).measure-bodies.auto.1.1.1.1.1.1.1.1.1.1.1.0
+same-length-10 : tie.Need-shape_of-marks-then-len-gt-LARGEST
+same-length-10 c = (walked c.before.before).measure_bodies-bodies.auto.marks
 
-returns-2 : tie.Need-returns-2
+returns-2 : tie.Need-returns-then-len-gt-LARGEST
 returns-2 c =
     let m = walked c.before.before in
     let s = outset m in
     let a = s.args in
-    scan-large a.list.now a.store.now 0 (sym s.pre.1) a.out.now (len c.before.before) refl
-    (len_is s.pre.0.walks m.measure-bodies.result.size m.measure-bodies.ensures.0) c.if2.true
+    scan-large a.list.now a.store.now 0 (sym s.requires.1) a.out.now (len c.before.before) refl
+    (len_is s.requires.0.walks m.measure_bodies-bodies.result.size m.measure_bodies-bodies.ensures.0) c.if-len-gt-LARGEST.true
 
-put-index-requires : tie.Need-put-index-requires
+put-index-requires : tie.Need-put_index-requires
 put-index-requires c κs =
-    let e = c.before.before.before.before.before.before.before in
-    let m = walked e.before in
+    let e = c in
+    let m = walked e.before.before.before.before.before.before.before in
     let s = outset m in
     let a = s.args in
-    let r = m.measure-bodies in
-    let p = s.pre.0 in
-    let marks = r.last.1.1.1.1.1.1.1.1.1.1.1.0 in
+    let r = m.measure_bodies-bodies in
+    let p = s.requires.0 in
+    let marks = r.new.marks in
     record {
       measures = record {
         walks = p.walks;
-        equipped = equipped-on p.equipped r.kept.1.1.1.1.1.1.1.0 r.kept.1.1.1.1.1.1.1.1.0
-            r.kept.1.1.1.1.1.1.1.1.1.0 r.kept.1.1.1.1.1.1.1.1.1.1.0;
-        long = omega (arith, r.kept.1.1.1.1.1.1.1.1.1.1.1.0, p.long);
+        equipped = equipped-on p.equipped r.auto.log r.auto.run1
+            r.auto.run2 r.auto.run3;
+        long = omega (arith, r.auto.marks, p.long);
       };
       usable = marked-usable a.list.now a.store.now marks (marked a.list.now a.store.now a.marks.now marks r.ensures.2);
-      room = omega (arith, e.if1.false, r.ensures.0);
+      room = omega (arith, e.if-out-len.false, r.ensures.0);
     }
 
-same-length-11 : tie.Need-same-length-11
-same-length-11 c = (indexed c).put-index.auto.0
+same-length-11 : tie.Need-shape_of-out
+same-length-11 c = (indexed c).put_index.auto.out
 
-same-length-12 : tie.Need-same-length-12
-same-length-12 c = (indexed c).put-index.auto.1.1.1.1.1.1.1.1.0 ∙ (first c).measure-bodies.auto.1.1.1.1.1.1.1.0
+same-length-12 : tie.Need-shape_of-log
+same-length-12 c = (indexed c).put_index.auto.log ∙ (first c).measure_bodies-bodies.auto.log
 
-same-length-13 : tie.Need-same-length-13
-same-length-13 c = (indexed c).put-index.auto.1.1.1.1.1.1.1.1.1.0 ∙ (first c).measure-bodies.auto.1.1.1.1.1.1.1.1.0
+same-length-13 : tie.Need-shape_of-run1
+same-length-13 c = (indexed c).put_index.auto.run1 ∙ (first c).measure_bodies-bodies.auto.run1
 
-same-length-14 : tie.Need-same-length-14
-same-length-14 c = (indexed c).put-index.auto.1.1.1.1.1.1.1.1.1.1.0 ∙ (first c).measure-bodies.auto.1.1.1.1.1.1.1.1.1.0
+same-length-14 : tie.Need-shape_of-run2
+same-length-14 c = (indexed c).put_index.auto.run2 ∙ (first c).measure_bodies-bodies.auto.run2
 
-same-length-15 : tie.Need-same-length-15
-same-length-15 c = (indexed c).put-index.auto.1.1.1.1.1.1.1.1.1.1.1.0 ∙ (first c).measure-bodies.auto.1.1.1.1.1.1.1.1.1.1.0
+same-length-15 : tie.Need-shape_of-run3
+same-length-15 c = (indexed c).put_index.auto.run3 ∙ (first c).measure_bodies-bodies.auto.run3
 
-same-length-16 : tie.Need-same-length-16
-same-length-16 c = (first c).measure-bodies.auto.1.1.1.1.1.1.1.1.1.1.1.0
+same-length-16 : tie.Need-shape_of-marks
+same-length-16 c = (first c).measure_bodies-bodies.auto.marks
 
-returns-3 : tie.Need-returns-3
+returns-3 : tie.Need-returns
 returns-3 c =
     let w = indexed c in
     let e2 = refitted c in
-    let e1 = e2.before in
-    let m = walked e1.before in
+    let e1 = e2 in
+    let m = walked e1.before.before in
     let s = outset m in
     let a = s.args in
-    let r = m.measure-bodies in
-    scan-done a.list.now a.store.now 0 (sym s.pre.1) a.out.now (len e1.before) r.result.moves w.put-index.last.0 refl
-    (len_is s.pre.0.walks r.result.size r.ensures.0) r.ensures.1 (omega (arith, e1.if1.left)) (omega (arith, e2.if2.left))
-    w.put-index.ensures.0
+    let r = m.measure_bodies-bodies in
+    scan-done a.list.now a.store.now 0 (sym s.requires.1) a.out.now (len e1.before.before) r.result.moves w.put_index.new.out refl
+    (len_is s.requires.0.walks r.result.size r.ensures.0) r.ensures.1 (omega (arith, e1.if-out-len.false)) (omega (arith, e2.if-len-gt-LARGEST.false))
+    w.put_index.ensures.0
 
-pub measured-spec : {M : Type 1} → statement M
-measured-spec =
-    tie.close
-    (tie.spec
+pub measured_spec : {M : Type 1} → statement M
+measured_spec = tie.close (tie.spec
     measure-bodies-requires
     add-len
     mul-len

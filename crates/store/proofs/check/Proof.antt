@@ -5,14 +5,17 @@ use Rattle.directory.proofs.ChainLaws.{zeros}
 use Rattle.store.proofs.check.Statement.{statement}
 use Rattle.store.proofs.check.Tie as tie
 
-slice-aggregate-examine : tie.Need-slice-aggregate-examine
+slice-aggregate-examine : tie.Need-slice_bounds-examine-end
 slice-aggregate-examine c = length-replicate {A = ℕ} 130536 0
 
 examine-requires : tie.Need-examine-requires
 examine-requires c κs = zeros
 
 returns : tie.Need-returns
-returns c = c.before.examine.ensures.0
+returns c = c.examine.ensures.0
 
-pub check-spec : {M : Type 1} → statement M
-check-spec = tie.close (tie.spec slice-aggregate-examine examine-requires returns)
+pub check_spec : {M : Type 1} → statement M
+check_spec = tie.close (tie.spec
+    slice-aggregate-examine
+    examine-requires
+    returns)

@@ -12,61 +12,59 @@ use Rattle.store.proofs.chunk.Statement.{statement}
 use Rattle.store.proofs.chunk.Tie as tie
 
 -- the entry that was found
-told : (c : tie.After-known-told)
-    → let a = c.before.before.before.before.before.before.args in
-    (find_chunk a.store.now a.fp.now ≡ 0) × (c.before.k.given.0.0 ≡ position_of a.fp.now (store_keys a.store.now))
+told : (c : tie.In-Done)
+    → let a = c.args in
+    (find_chunk a.store.now a.fp.now ≡ 0) × (c.in-Done.k ≡ position_of a.fp.now (store_keys a.store.now))
 told c =
-    let called = c.before.before.before in
-    let a = called.before.before.before.args in
-    let k = c.before.k.given in
-    done-code k.0.0 (find_chunk a.store.now a.fp.now) (position_of a.fp.now (store_keys a.store.now))
-    (sym k.1 ∙ called.locate.ensures)
+    let called = c in
+    let a = called.args in
+    let k = c.in-Done in
+    done-code k.k (find_chunk a.store.now a.fp.now) (position_of a.fp.now (store_keys a.store.now))
+    (sym k.is ∙ called.locate.ensures)
 
 locate-requires : tie.Need-locate-requires
 locate-requires c κs = search rules
 
-enum-known-k : tie.Need-enum-known-k
+enum-known-k : tie.Need-enum_known-k
 enum-known-k c = search rules
 
-chunk-at-requires : tie.Need-chunk-at-requires
+chunk-at-requires : tie.Need-chunk_at-requires
 chunk-at-requires c κs =
-    let a = c.before.before.before.before.before.before.args in
+    let a = c.args in
     let t = told c in
-    found-entry a.store.now a.fp.now c.before.k.given.0.0 t.0 t.1
+    found-entry a.store.now a.fp.now c.in-Done.k t.0 t.1
 
-enum_told : tie.Need-enum-told
+enum_told : tie.Need-enum_told-1
 enum_told c = search rules
 
-slice-aggregate-result : tie.Need-slice-aggregate-result
+slice-aggregate-result : tie.Need-slice_bounds-result-end
 slice-aggregate-result c = search rules
 
-returns : tie.Need-returns
+returns : tie.Need-returns-in-Done
 returns c =
-    let a = c.before.before.before.before.before.before.before.args in
+    let a = c.args in
     let t = told c.before in
-    let k = c.before.before.k.given.0.0 in
-    let s = c.chunk-at.ensures in (
+    let k = c.in-Done.k in
+    let s = c.chunk_at.ensures in (
       chunk-found a.store.now a.fp.now k t.0 t.1 s.0,
       s.1,
       s.2 ∙ ap (λ (n : ℕ). n + a.store.ref_ptr.1) (chunk-start-found a.store.now a.fp.now k t.0 t.1),
     )
 
-returns-2 : tie.Need-returns-2
+returns-2 : tie.Need-returns-in-Refused
 returns-2 c =
-    let called = c.before.before.before in
-    let a = called.before.before.before.args in
-    let r = c.before.enum_told.given in
-    let d = (refused-number r.0.0 (find_chunk a.store.now a.fp.now) (position_of a.fp.now (store_keys a.store.now))
-    (sym r.1 ∙ called.locate.ensures)).1 in (
+    let called = c in
+    let a = called.args in
+    let r = c.in-Refused in
+    let d = (refused-number r.field-0 (find_chunk a.store.now a.fp.now) (position_of a.fp.now (store_keys a.store.now))
+    (sym r.is ∙ called.locate.ensures)).1 in (
       slice-refused a.store.now a.fp.now d,
       refl,
       sym (zero-add a.store.ref_ptr.1) ∙ ap (λ (n : ℕ). n + a.store.ref_ptr.1) (chunk-start-refused a.store.now a.fp.now d),
     )
 
-pub chunk-spec : {M : Type 1} → statement M
-chunk-spec =
-    tie.close
-    (tie.spec
+pub chunk_spec : {M : Type 1} → statement M
+chunk_spec = tie.close (tie.spec
     locate-requires
     enum-known-k
     chunk-at-requires

@@ -9,45 +9,43 @@ use Rattle.store.proofs.chunk_at.Statement.{statement}
 use Rattle.store.proofs.chunk_at.Tie as tie
 
 -- the chunk lies in the store
-room : (c : tie.After-entry-field2) → c.before.entry-field.result + c.entry-field2.result ≤ length c.before.before.before.args.store.now
+room : (c : tie.After-entry_field-n) → c.entry_field-at.result + c.entry_field-n.result ≤ length c.args.store.now
 room c =
-    let start = c.before.before.before in
-    omega (arith, c.before.entry-field.ensures, c.entry-field2.ensures, chunk-room start.args.store.now start.args.k start.requires)
+    let start = c in
+    omega (arith, c.entry_field-at.ensures, c.entry_field-n.ensures, chunk-room start.args.store.now start.args.k start.requires)
 
-entry-field-requires : tie.Need-entry-field-requires
+entry-field-requires : tie.Need-entry_field-at-requires
 entry-field-requires c κs = search rules
 
-entry-field-requires-2 : tie.Need-entry-field-requires-2
+entry-field-requires-2 : tie.Need-entry_field-n-requires
 entry-field-requires-2 c κs = search rules
 
-add-result : tie.Need-overflow-add-result
+add-result : tie.Need-overflow_add-result
 add-result c = omega (arith, room c)
 
-sub-result : tie.Need-overflow-sub-result
+sub-result : tie.Need-slice_bounds-result-count
 sub-result c = search rules
 
-part-result-start : tie.Need-slice-bounds-result-start
+part-result-start : tie.Need-slice_bounds-result-start
 part-result-start c = search rules
 
-part-result-end : tie.Need-slice-bounds-result-end
+part-result-end : tie.Need-slice_bounds-result-end
 part-result-end c = let r = room c in search rules
 
 returns : tie.Need-returns
 returns c =
     let sized = c.before in
-    let start = sized.before.before.before in
+    let start = sized in
     let a = start.args in
-    let at = sized.before.entry-field in
-    let size = sized.entry-field2 in (
+    let at = sized.entry_field-at in
+    let size = sized.entry_field-n in (
       chunk-slice a.store.now a.k start.requires at.result size.result at.ensures size.ensures,
       refl,
-      ap (λ (n : ℕ). n + a.store.ptr.1) sized.before.entry-field.ensures,
+      ap (λ (n : ℕ). n + a.store.ref_ptr.1) sized.entry_field-at.ensures,
     )
 
-pub chunk-at-spec : {M : Type 1} → statement M
-chunk-at-spec =
-    tie.close
-    (tie.spec
+pub chunk_at_spec : {M : Type 1} → statement M
+chunk_at_spec = tie.close (tie.spec
     entry-field-requires
     entry-field-requires-2
     add-result

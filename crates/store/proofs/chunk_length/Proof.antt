@@ -11,46 +11,50 @@ use Rattle.store.proofs.chunk_length.Statement.{statement}
 use Rattle.store.proofs.chunk_length.Tie as tie
 
 -- the entry that was found
-told : (c : tie.After-known-told)
-    → let a = c.before.before.before.before.before.before.args in
-    (find_chunk a.store.now a.fp.now ≡ 0) × (c.before.k.given.0.0 ≡ position_of a.fp.now (store_keys a.store.now))
+told : (c : tie.In-Done)
+    → let a = c.args in
+    (find_chunk a.store.now a.fp.now ≡ 0) × (c.in-Done.k ≡ position_of a.fp.now (store_keys a.store.now))
 told c =
-    let called = c.before.before.before in
-    let a = called.before.before.before.args in
-    let k = c.before.k.given in
-    done-code k.0.0 (find_chunk a.store.now a.fp.now) (position_of a.fp.now (store_keys a.store.now))
-    (sym k.1 ∙ called.locate.ensures)
+    let called = c in
+    let a = called.args in
+    let k = c.in-Done in
+    done-code k.k (find_chunk a.store.now a.fp.now) (position_of a.fp.now (store_keys a.store.now))
+    (sym k.is ∙ called.locate.ensures)
 
 locate-requires : tie.Need-locate-requires
 locate-requires c κs = search rules
 
-enum-known-k : tie.Need-enum-known-k
+enum-known-k : tie.Need-enum_known-k
 enum-known-k c = search rules
 
-entry-field-requires : tie.Need-entry-field-requires
+entry-field-requires : tie.Need-entry_field-requires
 entry-field-requires c κs =
-    let a = c.before.before.before.before.before.before.args in
+    let a = c.args in
     let t = told c in
-    (found-entry a.store.now a.fp.now c.before.k.given.0.0 t.0 t.1, omega arith)
+    (found-entry a.store.now a.fp.now c.in-Done.k t.0 t.1, omega arith)
 
-enum_told : tie.Need-enum-told
+enum_told : tie.Need-enum_told-1
 enum_told c = search rules
 
-returns : tie.Need-returns
+returns : tie.Need-returns-in-Done
 returns c =
-    let a = c.before.before.before.before.before.before.before.args in
+    let a = c.args in
     let t = told c.before in
-    c.entry-field.ensures ∙ chunk-length-found a.store.now a.fp.now c.before.before.k.given.0.0 t.0 t.1
+    c.entry_field.ensures ∙ chunk-length-found a.store.now a.fp.now c.in-Done.k t.0 t.1
 
-returns-2 : tie.Need-returns-2
+returns-2 : tie.Need-returns-in-Refused
 returns-2 c =
-    let called = c.before.before in
-    let a = called.before.before.before.args in
+    let called = c in
+    let a = called.args in
     chunk-length-refused a.store.now a.fp.now
-    (refused-number c.enum_told.given.0.0 (find_chunk a.store.now a.fp.now) (position_of a.fp.now (store_keys a.store.now))
-    (sym c.enum_told.given.1 ∙ called.locate.ensures)).1
+    (refused-number c.in-Refused.field-0 (find_chunk a.store.now a.fp.now) (position_of a.fp.now (store_keys a.store.now))
+    (sym c.in-Refused.is ∙ called.locate.ensures)).1
 
-pub chunk-length-spec : {M : Type 1} → statement M
-chunk-length-spec =
-    tie.close
-    (tie.spec locate-requires enum-known-k entry-field-requires enum_told returns returns-2)
+pub chunk_length_spec : {M : Type 1} → statement M
+chunk_length_spec = tie.close (tie.spec
+    locate-requires
+    enum-known-k
+    entry-field-requires
+    enum_told
+    returns
+    returns-2)

@@ -6,10 +6,12 @@ use Rattle.store.proofs.key_at.Statement.{statement}
 use Rattle.store.proofs.key_at.Tie as tie
 
 key-requires : tie.Need-key-requires
-key-requires c κs = let a = c.before in omega (arith, entry-room a.args.store.now a.args.k a.requires)
+key-requires c κs = let a = c in omega (arith, entry-room a.args.store.now a.args.k a.requires)
 
 returns : tie.Need-returns
-returns c = let a = c.before.before in c.key.ensures ∙ key-is a.args.store.now a.args.k a.requires
+returns c = let a = c in c.key.ensures ∙ key-is a.args.store.now a.args.k a.requires
 
-pub key-at-spec : {M : Type 1} → statement M
-key-at-spec = tie.close (tie.spec key-requires returns)
+pub key_at_spec : {M : Type 1} → statement M
+key_at_spec = tie.close (tie.spec
+    key-requires
+    returns)

@@ -9,7 +9,7 @@ use Rattle.store.proofs.position.Tie as tie
 
 find-requires : tie.Need-find-requires
 find-requires c κs =
-    let s = c.before.before.before in
+    let s = c in
     let a = s.args in
     let d = s.requires.0 in (
       lies a.store.now a.count d.checked d.counts,
@@ -21,9 +21,11 @@ find-requires c κs =
 
 returns : tie.Need-returns
 returns c =
-    let s = c.before.before.before.before in
+    let s = c in
     let a = s.args in
     found_at a.store.now a.fp.now a.count s.requires.0.counts c.find.result c.find.ensures
 
-pub position-spec : {M : Type 1} → statement M
-position-spec = tie.close (tie.spec find-requires returns)
+pub position_spec : {M : Type 1} → statement M
+position_spec = tie.close (tie.spec
+    find-requires
+    returns)

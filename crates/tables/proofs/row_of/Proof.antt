@@ -11,57 +11,52 @@ use Rattle.tables.proofs.Cells.{length-cells, cell-inside, cell-behind}
 use Rattle.tables.proofs.Filling.{Filled, filled_none, filled_more, filled-all}
 use Rattle.tables.proofs.row_of.Statement.{statement}
 use Rattle.tables.proofs.row_of.Tie as tie
-use Rattle.tables.proofs.row_of.Reads as reads
-use Rattle.tables.proofs.row_of.Lts as lts
-use Rattle.tables.proofs.cell_of.Reads as cell-of-reads
 
-abbrev invariant-loop : tie.invariant-loop
+abbrev invariant-loop : tie.invariant-loop-j
 invariant-loop flag keyword i row₀ j₀ row j = (j ≤ length keyword) × Filled (cells_of (folded flag keyword) i) 0 32 row j
 
-abbrev decreases-loop : tie.decreases-loop
+abbrev decreases-loop : tie.decreases-loop-j
 decreases-loop flag keyword i row₀ j₀ row j = length keyword - j
 
-loop-holds : tie.Need-loop-init invariant-loop decreases-loop
-loop-holds c = let a = c.before.args in (omega arith, filled_none (cells_of (folded a.flag a.keyword.now) a.i) 0 32)
+loop-holds : tie.Need-loop-j-init invariant-loop decreases-loop
+loop-holds c = let a = c.args in (omega arith, filled_none (cells_of (folded a.flag a.keyword.now) a.i) 0 32)
 
-cell-of-requires : tie.Need-cell-of-requires invariant-loop decreases-loop
+cell-of-requires : tie.Need-cell_of-requires invariant-loop decreases-loop
 cell-of-requires c κs = omega arith
 
-mul-row : tie.Need-overflow-mul-row invariant-loop decreases-loop
+mul-row : tie.Need-offset_bounds-row-j invariant-loop decreases-loop
 mul-row c = omega arith
 
-array-write-row : tie.Need-array-write-row invariant-loop decreases-loop
+array-write-row : tie.Need-bounds-row-j invariant-loop decreases-loop
 array-write-row c = omega arith
 
-add-j : tie.Need-overflow-add-j invariant-loop decreases-loop
+add-j : tie.Need-overflow_add-j invariant-loop decreases-loop
 add-j c = omega arith
 
-loop-less : tie.Need-loop-smaller invariant-loop decreases-loop
+loop-less : tie.Need-loop-j-smaller invariant-loop decreases-loop
 loop-less c = omega arith
 
-loop-again : tie.Need-loop-preserved invariant-loop decreases-loop
+loop-again : tie.Need-loop-j-preserved invariant-loop decreases-loop
 loop-again c =
-    let p = c.before.before in
-    let a = p.before.before.args in
+    let p = c in
+    let a = p.args in
     let w : List ℕ = folded a.flag a.keyword.now in
     let n = folded-length a.flag a.keyword.now in (
       omega arith,
-      filled_more (cells_of w a.i) 0 32 p.loop.row p.loop.j c.cell-of.result p.loop.invariant.1 (omega arith)
-          (c.cell-of.ensures ∙ sym (cell-inside w a.i p.loop.j (omega (arith, n)) (omega (arith, n)) (omega (arith, n)))),
+      filled_more (cells_of w a.i) 0 32 p.loop-j.row p.loop-j.j c.cell_of.result p.loop-j.invariant.1 (omega arith)
+          (c.cell_of.ensures ∙ sym (cell-inside w a.i p.loop-j.j (omega (arith, n)) (omega (arith, n)) (omega (arith, n)))),
     )
 
 returns : tie.Need-returns invariant-loop decreases-loop
 returns c =
-    let p = c.before in
-    let a = p.before.before.args in
+    let p = c in
+    let a = p.args in
     let w : List ℕ = folded a.flag a.keyword.now in
-    filled-all (cells_of w a.i) 0 32 p.loop.row p.loop.j p.loop.invariant.1 (length-cells w a.i)
+    filled-all (cells_of w a.i) 0 32 p.loop-j.row p.loop-j.j p.loop-j.invariant.1 (length-cells w a.i)
     (λ k h l. cell-behind w a.i k (omega (arith, folded-length a.flag a.keyword.now)) l)
 
-pub row-of-spec : {M : Type 1} → statement M
-row-of-spec =
-    tie.close
-    (tie.spec
+pub row_of_spec : {M : Type 1} → statement M
+row_of_spec = tie.close (tie.spec
     invariant-loop
     decreases-loop
     loop-holds
