@@ -1,5 +1,7 @@
 // The search program's whole output, written into a buffer: the list of occurrences, a refusal's number, or the first file that is too
 // long (document 01, "A small vault").
+#![tactic(auto)]
+
 ghost use Rattle.std.specs.Prelude.{◌≡◌, [], ◌∷◌, ◌++◌, ◌+◌, ◌*◌, ◌≤◌, length};
 ghost use Rattle.spec.specs.Join.{read_list};
 ghost use Rattle.spec.specs.Program.{decimal, list_text, refused_text, too_long_text, search_text, program_text, longest_text, printed_length, printed_buffer};

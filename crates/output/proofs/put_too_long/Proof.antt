@@ -7,38 +7,37 @@ use borrow.Author.Rules.{rules}
 use Rattle.output.proofs.put_too_long.Statement.{statement}
 use Rattle.output.proofs.put_too_long.Tie as tie
 
-slice-aggregate-put-word : tie.Need-slice-aggregate-put-word
-slice-aggregate-put-word c = search rules
-
-put-word-requires : tie.Need-put-word-requires
+put-word-requires : tie.Need-put_word-a-requires
 put-word-requires c κs =
-    let s = c.before.before.before.before in
+    let s = c in
     room-first s.args.out.now 0
     (too_long_text s.args.name.now) (too_long_words ++ (0x20 ∷ [])) (s.args.name.now ++ (0x0A ∷ []))
     (too-long-runs s.args.name.now) s.requires
 
-put-word-requires-2 : tie.Need-put-word-requires-2
+put-word-requires-2 : tie.Need-put_word-requires
 put-word-requires-2 c κs =
-    let p = c.before.before.before in
-    let s = p.before.before.before.before.before in
-    room_next s.args.out.now p.put_word.new.0 0 p.put_word.result
+    let p = c in
+    let s = p in
+    room_next s.args.out.now p.put_word-a.new.out 0 p.put_word-a.result
     (too_long_text s.args.name.now) (too_long_words ++ (0x20 ∷ [])) (s.args.name.now ++ (0x0A ∷ []))
-    (too-long-runs s.args.name.now) s.requires p.put_word.ensures
+    (too-long-runs s.args.name.now) s.requires p.put_word-a.ensures
 
-same_length : tie.Need-same-length
+same_length : tie.Need-shape_of-out
 same_length c = search rules
 
 returns : tie.Need-returns
 returns c =
-    let q = c.before.before in
-    let p = q.before.before.before.before in
-    let s = p.before.before.before.before.before in
-    puts-next s.args.out.now p.put_word.new.0 0 p.put_word.result
+    let q = c in
+    let p = q in
+    let s = p in
+    puts-next s.args.out.now p.put_word-a.new.out 0 p.put_word-a.result
     (too_long_text s.args.name.now) (too_long_words ++ (0x20 ∷ [])) (s.args.name.now ++ (0x0A ∷ []))
-    (too-long-runs s.args.name.now) s.requires p.put_word.ensures
-    q.put-word2.new.0 q.put-word2.result q.put-word2.ensures
+    (too-long-runs s.args.name.now) s.requires p.put_word-a.ensures
+    q.put_word.new.out q.put_word.result q.put_word.ensures
 
-pub put-too-long-spec : {M : Type 1} → statement M
-put-too-long-spec =
-    tie.close
-    (tie.spec slice-aggregate-put-word put-word-requires put-word-requires-2 same_length returns)
+pub put_too_long_spec : {M : Type 1} → statement M
+put_too_long_spec = tie.close (tie.spec
+    put-word-requires
+    put-word-requires-2
+    same_length
+    returns)

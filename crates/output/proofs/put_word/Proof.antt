@@ -11,30 +11,35 @@ use Rattle.output.proofs.put_word.Tie as tie
 
 copy-requires : tie.Need-copy-requires
 copy-requires c κs =
-    let s = c.before.before.before in
+    let s = c in
     room-first s.args.out.now s.args.at (s.args.word.now ++ (s.args.end ∷ [])) s.args.word.now (s.args.end ∷ []) refl s.requires
 
-add-place : tie.Need-overflow-add-place
+add-place : tie.Need-overflow_add-place
 add-place c = search rules
 
-slice-write-out : tie.Need-slice-write-out
+slice-write-out : tie.Need-bounds-out-place
 slice-write-out c =
-    let s = c.before.before.before.before.before.before in
-    omega (arith, s.requires, length-append s.args.word.now (s.args.end ∷ []), c.before.before.copy.auto.0)
+    let s = c in
+    omega (arith, s.requires, length-append s.args.word.now (s.args.end ∷ []), c.copy.auto.out)
 
-add-result : tie.Need-overflow-add-result
+add-result : tie.Need-overflow_add-result
 add-result c = search rules
 
-same_length : tie.Need-same-length
+same_length : tie.Need-shape_of-out
 same_length c = search rules
 
 returns : tie.Need-returns
 returns c =
-    let s = c.before.before.before.before.before.before in
-    put-end s.args.out.now c.before.before.copy.new.0
+    let s = c in
+    put-end s.args.out.now c.copy.new.out
     s.args.at s.args.word.now s.args.end (s.args.at + length s.args.word.now)
-    s.requires c.before.before.copy.ensures refl
+    s.requires c.copy.ensures refl
 
-pub put-word-spec : {M : Type 1} → statement M
-put-word-spec =
-    tie.close (tie.spec copy-requires add-place slice-write-out add-result same_length returns)
+pub put_word_spec : {M : Type 1} → statement M
+put_word_spec = tie.close (tie.spec
+    copy-requires
+    add-place
+    slice-write-out
+    add-result
+    same_length
+    returns)
