@@ -1,7 +1,6 @@
 -- `run_forms` is safe and ends. Assumes nothing.
 use borrow.Author.Rules.{rules}
 use mathlib.Core.Path.{◌≡◌}
-use mathlib.Core.Logic.{◌⊎◌}
 use Prim.Native.Nat.{◌≤◌, ◌-◌}
 use lib.ListN.{length}
 use Rattle.tests_runs.proofs.cases.run_forms.Statement.{statement}
