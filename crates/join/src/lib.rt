@@ -1,6 +1,8 @@
 // The join: the logical phase of the search, over a match index and recipes alone (document 01, "Recipes and the join"). It is given no
 // store. The plan tests and counts each file first, so that a refusal changes no byte; then the files that have occurrences are listed. What is
 // listed is added to the tally of the clients, by a key (request #110).
+#![tactic(auto)]
+
 ghost use Rattle.std.specs.Prelude.{◌≡◌, [], ◌*◌, ◌≤◌, length};
 ghost use Rattle.spec.specs.Bytes.{splice};
 ghost use Rattle.spec.specs.Form.{form_of};

@@ -1,5 +1,7 @@
 // Queries of several keywords in order (request #109), over a match index and recipes alone. The plan tests each file and walks it until its choice
 // is complete, so that the lines are counted before a byte is written; files without a line are not walked again.
+#![tactic(auto)]
+
 ghost use Rattle.std.specs.Prelude.{◌≡◌, [], ◌+◌, ◌*◌, ◌≤◌, length, take, replicate};
 ghost use Rattle.spec.specs.Bytes.{splice, fields_bytes, written};
 ghost use Rattle.spec.specs.Form.{form_of};

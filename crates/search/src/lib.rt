@@ -1,5 +1,7 @@
 // The search whole: a scan, and then a join of the index that it wrote. The two are put together through their contracts alone, and the
 // answer is that of a direct search of the restored files (demand 3).
+#![tactic(auto)]
+
 ghost use Rattle.std.specs.Prelude.{◌≡◌, length};
 ghost use Rattle.spec.specs.Form.{newest};
 ghost use Rattle.spec.specs.Scan.{scan_buffer};

@@ -1,6 +1,8 @@
 // The library for C and other languages: numbers, byte slices (a pointer and a length) and single numbers by reference. A call answers
 // document 01's number, 0 for accepted, found or done. A number by reference is told the length, the moves or the count where the work is done, and stays
 // as it was on a refusal. include/vault.h declares these functions.
+#![tactic(auto)]
+
 ghost use Rattle.std.specs.Prelude.{◌≡◌, length};
 ghost use Rattle.spec.specs.Keywords.{keyword_code};
 ghost use Rattle.spec.specs.Store.{store_code};

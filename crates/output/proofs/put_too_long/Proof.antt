@@ -16,7 +16,7 @@ put-word-requires c κs =
 
 put-word-requires-2 : tie.Need-put_word-requires
 put-word-requires-2 c κs =
-    let p = c in
+    let p = c.before.before.before in
     let s = p in
     room_next s.args.out.now p.put_word-a.new.out 0 p.put_word-a.result
     (too_long_text s.args.name.now) (too_long_words ++ (0x20 ∷ [])) (s.args.name.now ++ (0x0A ∷ []))
@@ -27,8 +27,8 @@ same_length c = search rules
 
 returns : tie.Need-returns
 returns c =
-    let q = c in
-    let p = q in
+    let q = c.before.before in
+    let p = q.before.before.before.before in
     let s = p in
     puts-next s.args.out.now p.put_word-a.new.out 0 p.put_word-a.result
     (too_long_text s.args.name.now) (too_long_words ++ (0x20 ∷ [])) (s.args.name.now ++ (0x0A ∷ []))

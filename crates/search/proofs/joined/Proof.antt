@@ -6,41 +6,39 @@ use Rattle.search.proofs.Together.{join-answered}
 use Rattle.search.proofs.joined.Statement.{statement}
 use Rattle.search.proofs.joined.Tie as tie
 
-tallied-requires : tie.Need-tallied-requires
+tallied-requires : tie.Need-tallied-j-requires
 tallied-requires c κs = search rules
 
-enum-known-outcome : tie.Need-enum-known-outcome
+enum-known-outcome : tie.Need-enum_known-outcome
 enum-known-outcome c = search rules
 
-enum-known-outcome-2 : tie.Need-enum-known-outcome-2
+enum-known-outcome-2 : tie.Need-enum_known-outcome-in-Done-1
 enum-known-outcome-2 c = search rules
 
-same_length : tie.Need-same-length
+same_length : tie.Need-shape_of-out-in-Refused
 same_length c = search rules
 
-returns : tie.Need-returns
+returns : tie.Need-returns-in-Refused
 returns c =
-    let called = c.before.before.before.before.before.before in
-    let a = called.before.before.before.before.before.before.args in
-    join-answered a.index.now a.recipes.now (lent a.key.now a.before) a.out.now called.tallied.new.1.1.1.0
-    (counts_of called.tallied.result.tally) (Refused c.before.outcome.given.0.0) called.tallied.result.outcome
-    c.before.outcome.given.1 called.tallied.ensures.0 called.tallied.ensures.1 called.tallied.ensures.2
+    let called = c in
+    let a = called.args in
+    join-answered a.index.now a.recipes.now (lent a.key.now a.before) a.out.now called.tallied-j.new.out
+    (counts_of called.tallied-j.result.tally) (Refused c.in-Refused.code) called.tallied-j.result.outcome
+    c.in-Refused.is called.tallied-j.ensures.0 called.tallied-j.ensures.1 called.tallied-j.ensures.2
 
-same-length-2 : tie.Need-same-length-2
+same-length-2 : tie.Need-shape_of-out-in-Done
 same-length-2 c = search rules
 
-returns-2 : tie.Need-returns-2
+returns-2 : tie.Need-returns-in-Done
 returns-2 c =
-    let called = c.before.before.before.before.before.before in
-    let a = called.before.before.before.before.before.before.args in
-    join-answered a.index.now a.recipes.now (lent a.key.now a.before) a.out.now called.tallied.new.1.1.1.0
-    (counts_of called.tallied.result.tally) (Done c.before.outcome2.given.0.0) called.tallied.result.outcome
-    c.before.outcome2.given.1 called.tallied.ensures.0 called.tallied.ensures.1 called.tallied.ensures.2
+    let called = c in
+    let a = called.args in
+    join-answered a.index.now a.recipes.now (lent a.key.now a.before) a.out.now called.tallied-j.new.out
+    (counts_of called.tallied-j.result.tally) (Done c.in-Done.count) called.tallied-j.result.outcome
+    c.in-Done.is called.tallied-j.ensures.0 called.tallied-j.ensures.1 called.tallied-j.ensures.2
 
-pub joined-spec : {M : Type 1} → statement M
-joined-spec =
-    tie.close
-    (tie.spec
+pub joined_spec : {M : Type 1} → statement M
+joined_spec = tie.close (tie.spec
     tallied-requires
     enum-known-outcome
     enum-known-outcome-2

@@ -10,13 +10,17 @@ compact-requires c κs = search rules
 told-requires : tie.Need-told-requires
 told-requires c κs = search rules
 
-same_length : tie.Need-same-length
+same_length : tie.Need-shape_of-out
 same_length c = search rules
 
 returns : tie.Need-returns
 returns c =
-    let called = c.before.before.before.before in
-    passed-buffer called.compact.result called.compact.ensures.0 called.before.before.before.before.before.args.size.now c.told.ensures called.compact.ensures.1
+    let called = c in
+    passed-buffer called.compact.result called.compact.ensures.0 called.args.size.now c.told.ensures called.compact.ensures.1
 
-pub vault-compact-spec : {M : Type 1} → statement M
-vault-compact-spec = tie.close (tie.spec compact-requires told-requires same_length returns)
+pub vault_compact_spec : {M : Type 1} → statement M
+vault_compact_spec = tie.close (tie.spec
+    compact-requires
+    told-requires
+    same_length
+    returns)

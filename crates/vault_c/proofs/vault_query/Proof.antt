@@ -10,13 +10,17 @@ query-requires c κs = search rules
 told-requires : tie.Need-told-requires
 told-requires c κs = search rules
 
-same_length : tie.Need-same-length
+same_length : tie.Need-shape_of-out
 same_length c = search rules
 
 returns : tie.Need-returns
 returns c =
-    let called = c.before.before.before.before in
-    passed-buffer called.query.result called.query.ensures.0 called.before.before.before.before.before.before.args.lines.now c.told.ensures called.query.ensures.1
+    let called = c in
+    passed-buffer called.query.result called.query.ensures.0 called.args.lines.now c.told.ensures called.query.ensures.1
 
-pub vault-query-spec : {M : Type 1} → statement M
-vault-query-spec = tie.close (tie.spec query-requires told-requires same_length returns)
+pub vault_query_spec : {M : Type 1} → statement M
+vault_query_spec = tie.close (tie.spec
+    query-requires
+    told-requires
+    same_length
+    returns)

@@ -12,8 +12,11 @@ told-requires c κs = search rules
 
 returns : tie.Need-returns
 returns c =
-    let called = c.before.before in
-    passed called.count.result called.count.ensures called.before.before.before.before.args.lines.now c.told.ensures
+    let called = c in
+    passed called.count.result called.count.ensures called.args.lines.now c.told.ensures
 
-pub vault-query-count-spec : {M : Type 1} → statement M
-vault-query-count-spec = tie.close (tie.spec count-requires told-requires returns)
+pub vault_query_count_spec : {M : Type 1} → statement M
+vault_query_count_spec = tie.close (tie.spec
+    count-requires
+    told-requires
+    returns)

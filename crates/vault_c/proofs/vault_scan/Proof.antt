@@ -8,37 +8,35 @@ use Rattle.vault_c.proofs.vault_scan.Tie as tie
 scan-requires : tie.Need-scan-requires
 scan-requires c κs = search rules
 
-enum-known-written : tie.Need-enum-known-written
+enum-known-written : tie.Need-enum_known-written
 enum-known-written c = search rules
 
-enum-known-code : tie.Need-enum-known-code
+enum-known-code : tie.Need-enum_known-code
 enum-known-code c = search rules
 
-same_length : tie.Need-same-length
+same_length : tie.Need-shape_of-out-in-Done
 same_length c = search rules
 
-returns : tie.Need-returns
+returns : tie.Need-returns-in-Done
 returns c =
-    let called = c.before.before.before.before.before in
-    let a = called.before.before.before.before.before.args in
-    let g = c.before.written.given in
-    told-scan (Done g.0.0 g.0.1.0) called.scan.result g.1 called.scan.ensures.0 a.size.now a.moves.now
+    let called = c in
+    let a = called.args in
+    let g = c.in-Done in
+    told-scan (Done g.written g.walked) called.scan.result g.is called.scan.ensures.0 a.size.now a.moves.now
     called.scan.ensures.1
 
-same-length-2 : tie.Need-same-length-2
+same-length-2 : tie.Need-shape_of-out-in-Refused
 same-length-2 c = search rules
 
-returns-2 : tie.Need-returns-2
+returns-2 : tie.Need-returns-in-Refused
 returns-2 c =
-    let called = c.before.before.before.before.before in
-    let a = called.before.before.before.before.before.args in
-    let g = c.before.code.given in
-    told-scan (Refused g.0.0) called.scan.result g.1 called.scan.ensures.0 a.size.now a.moves.now called.scan.ensures.1
+    let called = c in
+    let a = called.args in
+    let g = c.in-Refused in
+    told-scan (Refused g.code) called.scan.result g.is called.scan.ensures.0 a.size.now a.moves.now called.scan.ensures.1
 
-pub vault-scan-spec : {M : Type 1} → statement M
-vault-scan-spec =
-    tie.close
-    (tie.spec
+pub vault_scan_spec : {M : Type 1} → statement M
+vault_scan_spec = tie.close (tie.spec
     scan-requires
     enum-known-written
     enum-known-code

@@ -12,8 +12,11 @@ told-requires c κs = search rules
 
 returns : tie.Need-returns
 returns c =
-    let called = c.before.before in
-    passed called.size.result called.size.ensures called.before.before.before.args.size.now c.told.ensures
+    let called = c in
+    passed called.size.result called.size.ensures called.args.size.now c.told.ensures
 
-pub vault-scan-size-spec : {M : Type 1} → statement M
-vault-scan-size-spec = tie.close (tie.spec size-requires told-requires returns)
+pub vault_scan_size_spec : {M : Type 1} → statement M
+vault_scan_size_spec = tie.close (tie.spec
+    size-requires
+    told-requires
+    returns)
