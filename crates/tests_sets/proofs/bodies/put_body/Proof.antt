@@ -1,5 +1,5 @@
 -- `put_body` is safe and ends. Assumes nothing.
-use Rattle.std.proofs.Common.{◌≡◌, ◌-◌, ◌≤◌, ◌⊎◌, length, rules}
+use Rattle.std.proofs.Common.{◌≡◌, ◌-◌, ◌≤◌, length, rules}
 use Rattle.tests_sets.proofs.bodies.put_body.Statement.{statement}
 use Rattle.tests_sets.proofs.bodies.put_body.Tie as tie
 

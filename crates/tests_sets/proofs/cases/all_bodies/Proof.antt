@@ -1,5 +1,5 @@
 -- `all_bodies` is safe and ends. Assumes nothing.
-use Rattle.std.proofs.Common.{◌≡◌, ◌-◌, ◌≤◌, ◌⊎◌, length, rules}
+use Rattle.std.proofs.Common.{◌≡◌, ◌-◌, ◌≤◌, length, rules}
 use Rattle.tests_sets.proofs.cases.all_bodies.Statement.{statement}
 use Rattle.tests_sets.proofs.cases.all_bodies.Tie as tie
 

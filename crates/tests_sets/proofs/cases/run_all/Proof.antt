@@ -1,5 +1,5 @@
 -- `run_all` is safe and ends. Assumes nothing.
-use Rattle.std.proofs.Common.{◌≡◌, ◌-◌, ◌≤◌, ◌⊎◌, length, rules}
+use Rattle.std.proofs.Common.{◌≡◌, ◌-◌, ◌≤◌, length, rules}
 use Rattle.tests_sets.proofs.cases.run_all.Statement.{statement}
 use Rattle.tests_sets.proofs.cases.run_all.Tie as tie
 

@@ -1,5 +1,5 @@
 -- `run_bodies` is safe and ends. Assumes nothing.
-use Rattle.std.proofs.Common.{◌≡◌, ◌-◌, ◌≤◌, ◌⊎◌, length, rules}
+use Rattle.std.proofs.Common.{◌≡◌, ◌-◌, ◌≤◌, length, rules}
 use Rattle.tests_sets.proofs.cases.run_bodies.Statement.{statement}
 use Rattle.tests_sets.proofs.cases.run_bodies.Tie as tie
 
