@@ -3,7 +3,5 @@
 #![tactic(auto)]
 
 mod bodies;
-#![tactic(auto)]
-
 pub mod cases;
 mod make;
