@@ -1,5 +1,9 @@
 // Vaults of small chunks, whose occurrences reach over three chunks or more, and bodies with sets of inner starts, good and damaged.
 // Test support: proved safe and ending.
+#![tactic(auto)]
+
 mod bodies;
+#![tactic(auto)]
+
 pub mod cases;
 mod make;

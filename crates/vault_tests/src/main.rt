@@ -1,6 +1,8 @@
 // Generated vaults and damaged inputs, run through the library and compared with plain computations; stores in another order or with other
 // holes, compared with the first ones. What it prints says how many cases of each kind it ran, how many calls of each operation it compared, which numbers they
 // answered, and how often something was not as expected: never.
+#![tactic(auto)]
+
 use tests_cases::{limits, vaults, wide};
 use tests_compact::cases;
 use tests_outputs::printed;

@@ -1,51 +1,48 @@
 -- `run_beyonds` is safe and ends. Assumes nothing.
 use borrow.Author.Rules.{rules}
 use mathlib.Core.Path.{◌≡◌}
-use mathlib.Core.Logic.{◌⊎◌}
 use Prim.Native.Nat.{◌≤◌, ◌-◌}
 use lib.ListN.{length}
 use Rattle.tests_cases.proofs.wide.run_beyonds.Statement.{statement}
 use Rattle.tests_cases.proofs.wide.run_beyonds.Tie as tie
 
-abbrev invariant-loop : tie.invariant-loop
+abbrev invariant-loop : tie.invariant-loop-i
 invariant-loop counts₀ f₀ buffer₀ n i₀ counts f buffer i =
     (i ≤ n) × (length counts ≡ length counts₀) × (length f ≡ length f₀) × (length buffer ≡ length buffer₀)
 
-abbrev decreases-loop : tie.decreases-loop
+abbrev decreases-loop : tie.decreases-loop-i
 decreases-loop counts₀ f₀ buffer₀ n i₀ counts f buffer i =
     n - i
 
-loop-holds : tie.Need-loop-init invariant-loop decreases-loop
+loop-holds : tie.Need-loop-i-init invariant-loop decreases-loop
 loop-holds c = search rules
 
-run-beyond-requires : tie.Need-run-beyond-requires invariant-loop decreases-loop
+run-beyond-requires : tie.Need-run_beyond-requires invariant-loop decreases-loop
 run-beyond-requires c κs = search rules
 
-add-i : tie.Need-overflow-add-i invariant-loop decreases-loop
+add-i : tie.Need-overflow_step-i invariant-loop decreases-loop
 add-i c = search rules
 
-loop-less : tie.Need-loop-smaller invariant-loop decreases-loop
+loop-less : tie.Need-loop-i-smaller invariant-loop decreases-loop
 loop-less c = search rules
 
-loop-again : tie.Need-loop-preserved invariant-loop decreases-loop
+loop-again : tie.Need-loop-i-preserved invariant-loop decreases-loop
 loop-again c = search rules
 
-same_length : tie.Need-same-length invariant-loop decreases-loop
+same_length : tie.Need-shape_of-counts invariant-loop decreases-loop
 same_length c = search rules
 
-same-length-2 : tie.Need-same-length-2 invariant-loop decreases-loop
+same-length-2 : tie.Need-shape_of-f invariant-loop decreases-loop
 same-length-2 c = search rules
 
-same-length-3 : tie.Need-same-length-3 invariant-loop decreases-loop
+same-length-3 : tie.Need-shape_of-buffer invariant-loop decreases-loop
 same-length-3 c = search rules
 
 returns : tie.Need-returns invariant-loop decreases-loop
 returns c = search rules
 
-pub run-beyonds-spec : {M : Type 1} → statement M
-run-beyonds-spec =
-    tie.close
-    (tie.spec
+pub run_beyonds_spec : {M : Type 1} → statement M
+run_beyonds_spec = tie.close (tie.spec
     invariant-loop
     decreases-loop
     loop-holds

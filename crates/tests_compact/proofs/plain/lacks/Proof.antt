@@ -4,46 +4,44 @@ use Prim.Native.Nat.{◌≤◌, ◌-◌}
 use Rattle.tests_compact.proofs.plain.lacks.Statement.{statement}
 use Rattle.tests_compact.proofs.plain.lacks.Tie as tie
 
-abbrev invariant-loop : tie.invariant-loop
+abbrev invariant-loop : tie.invariant-loop-i
 invariant-loop s r start n at₀ i₀ at i = (i ≤ n)
 
-abbrev decreases-loop : tie.decreases-loop
+abbrev decreases-loop : tie.decreases-loop-i
 decreases-loop s r start n at₀ i₀ at i = n - i
 
-loop-holds : tie.Need-loop-init invariant-loop decreases-loop
+loop-holds : tie.Need-loop-i-init invariant-loop decreases-loop
 loop-holds c = search rules
 
-get-4-requires : tie.Need-get-4-requires invariant-loop decreases-loop
+get-4-requires : tie.Need-get_4-requires invariant-loop decreases-loop
 get-4-requires c κs = search rules
 
 part-requires : tie.Need-part-requires invariant-loop decreases-loop
 part-requires c κs = search rules
 
-entry-of-requires : tie.Need-entry-of-requires invariant-loop decreases-loop
+entry-of-requires : tie.Need-entry_of-requires invariant-loop decreases-loop
 entry-of-requires c κs = search rules
 
-returns : tie.Need-returns invariant-loop decreases-loop
+returns : tie.Need-returns-then-entry_of-eq0 invariant-loop decreases-loop
 returns c = search rules
 
-plus-requires : tie.Need-plus-requires invariant-loop decreases-loop
+plus-requires : tie.Need-plus-at-requires invariant-loop decreases-loop
 plus-requires c κs = search rules
 
-add-i : tie.Need-overflow-add-i invariant-loop decreases-loop
+add-i : tie.Need-overflow_step-i invariant-loop decreases-loop
 add-i c = search rules
 
-loop-less : tie.Need-loop-smaller invariant-loop decreases-loop
+loop-less : tie.Need-loop-i-smaller invariant-loop decreases-loop
 loop-less c = search rules
 
-loop-again : tie.Need-loop-preserved invariant-loop decreases-loop
+loop-again : tie.Need-loop-i-preserved invariant-loop decreases-loop
 loop-again c = search rules
 
-returns-2 : tie.Need-returns-2 invariant-loop decreases-loop
+returns-2 : tie.Need-returns invariant-loop decreases-loop
 returns-2 c = search rules
 
-pub lacks-spec : {M : Type 1} → statement M
-lacks-spec =
-    tie.close
-    (tie.spec
+pub lacks_spec : {M : Type 1} → statement M
+lacks_spec = tie.close (tie.spec
     invariant-loop
     decreases-loop
     loop-holds

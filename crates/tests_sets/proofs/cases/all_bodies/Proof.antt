@@ -1,44 +1,42 @@
 -- `all_bodies` is safe and ends. Assumes nothing.
-use Rattle.std.proofs.Common.{◌≡◌, ◌-◌, ◌≤◌, ◌⊎◌, length, rules}
+use Rattle.std.proofs.Common.{◌≡◌, ◌-◌, ◌≤◌, length, rules}
 use Rattle.tests_sets.proofs.cases.all_bodies.Statement.{statement}
 use Rattle.tests_sets.proofs.cases.all_bodies.Tie as tie
 
-abbrev invariant-loop : tie.invariant-loop
+abbrev invariant-loop : tie.invariant-loop-form
 invariant-loop counts₀ end form₀ counts form =
     (form ≤ end) × (length counts ≡ length counts₀)
 
-abbrev decreases-loop : tie.decreases-loop
+abbrev decreases-loop : tie.decreases-loop-form
 decreases-loop counts₀ end form₀ counts form =
     end - form
 
-add-end : tie.Need-overflow-add-end invariant-loop decreases-loop
+add-end : tie.Need-overflow_add-end invariant-loop decreases-loop
 add-end c = search rules
 
-loop-holds : tie.Need-loop-init invariant-loop decreases-loop
+loop-holds : tie.Need-loop-form-init invariant-loop decreases-loop
 loop-holds c = search rules
 
-run-bodies-requires : tie.Need-run-bodies-requires invariant-loop decreases-loop
+run-bodies-requires : tie.Need-run_bodies-requires invariant-loop decreases-loop
 run-bodies-requires c κs = search rules
 
-add-form : tie.Need-overflow-add-form invariant-loop decreases-loop
+add-form : tie.Need-overflow_step-form invariant-loop decreases-loop
 add-form c = search rules
 
-loop-less : tie.Need-loop-smaller invariant-loop decreases-loop
+loop-less : tie.Need-loop-form-smaller invariant-loop decreases-loop
 loop-less c = search rules
 
-loop-again : tie.Need-loop-preserved invariant-loop decreases-loop
+loop-again : tie.Need-loop-form-preserved invariant-loop decreases-loop
 loop-again c = search rules
 
-same_length : tie.Need-same-length invariant-loop decreases-loop
+same_length : tie.Need-shape_of-counts invariant-loop decreases-loop
 same_length c = search rules
 
 returns : tie.Need-returns invariant-loop decreases-loop
 returns c = search rules
 
-pub all-bodies-spec : {M : Type 1} → statement M
-all-bodies-spec =
-    tie.close
-    (tie.spec
+pub all_bodies_spec : {M : Type 1} → statement M
+all_bodies_spec = tie.close (tie.spec
     invariant-loop
     decreases-loop
     add-end
