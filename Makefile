@@ -1,6 +1,6 @@
 # What there is to build and run; README.md says more.
-lib:       # target/staticlib/libvault_c.a, proved first; include/vault.h declares its functions
-	rt staticlib vault_c
+lib:       # crates/vault_c/out/libvault_c.a, proved first; include/vault.h declares its functions
+	cd crates/vault_c && rt lib
 
 test:      # the gate: all proofs, all must-fail edits, all programs
 	.ci/run

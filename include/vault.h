@@ -1,6 +1,6 @@
 /* Kehoraimo: a search over deduplicated backups that is proved right.
  *
- * Build the library by `make lib` (it is proved first): target/staticlib/libvault_c.a, for x86-64 Linux.
+ * Build the library by `make lib` (it is proved first): crates/vault_c/out/libvault_c.a, for x86-64 Linux.
  * Every function takes every input, ends, and answers 0 or the number of the refusal; README.md has the table of numbers. A refusal
  * changes no byte of a buffer and no number behind a pointer: these are told the length, the moves, the count or the lines where the work is
  * done (the four counts of a tally are added to), and stay as they were on a refusal. vault_search is two operations: where its join refuses, the index

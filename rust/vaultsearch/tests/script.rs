@@ -59,8 +59,8 @@ fn folders_programs_and_outputs_that_cannot_be_used() {
 #[test]
 fn the_checkers_output_is_shown_where_it_fails() {
     let folder = Folder::new("checker");
-    for name in ["data", "crates", "bin"] {
-        fs::create_dir(folder.0.join(name)).unwrap();
+    for name in ["data", "crates/vault_search", "bin"] {
+        fs::create_dir_all(folder.0.join(name)).unwrap();
     }
     assert_eq!(folder.shell(&format!("cp {SCRIPT} search")).0, 0);
     let run = "PATH=$PWD/bin:$PATH ./search data";
@@ -68,8 +68,8 @@ fn the_checkers_output_is_shown_where_it_fails() {
     let (status, out, err) = folder.shell(run);
     assert_eq!((status, out.as_str()), (2, ""));
     assert!(err.contains("checking\na proof fails\n"), "{err}");
-    let program = "mkdir -p target/bin; printf '#!/bin/sh\\necho finds 0\\n' > target/bin/vault_search";
-    executable(&folder, "bin/rt", &format!("echo checking; {program}; chmod +x target/bin/vault_search"));
+    let program = "mkdir -p out; printf '#!/bin/sh\\necho finds 0\\n' > out/vault_search";
+    executable(&folder, "bin/rt", &format!("echo checking; {program}; chmod +x out/vault_search"));
     let (status, out, err) = folder.shell(run);
     assert_eq!((status, out.as_str()), (0, "finds 0\n"), "{err}");
     assert!(!err.contains("checking"), "{err}");
