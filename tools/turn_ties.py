@@ -4,7 +4,7 @@
 usage: turn_ties.py NAMES CRATE [FUNCTION..]
 NAMES is the names.json that `rt check --generated DIR --old-names` writes in the crate, CRATE the crate's folder.
 It renames goals, places and steps, writes the last definition anew (each goal in today's order, `search rules` where the file had none),
-and takes out the answers to goals that are no more. A second run changes nothing.
+and leaves out of it the answers to goals that are no more. Run it once on a file: a second run takes new names for old ones.
 """
 import json, os, re, subprocess, sys
 
