@@ -1,5 +1,5 @@
 // The cases of small chunks and of bodies with sets, run and counted.
-use crate::{bodies, make};
+use crate::{make, set_bodies};
 use tests_plain::bytes::same;
 use tests_plain::case;
 use tests_plain::codes::recipes_code;
@@ -112,14 +112,14 @@ fn run_all(counts: &mut [u64], kind: usize, n: usize) {
 fn run_body(counts: &mut [u64], form: usize, i: usize) {
     let mut f = case::room();
     let mut buffer = [0u8; 40];
-    bodies::put_case(&mut f, form, i);
+    set_bodies::put_case(&mut f, form, i);
     run_index(counts, &f, i, &mut buffer);
-    bump(counts, tally::BODIES + bodies::kind_of(form, i) % 15);
+    bump(counts, tally::BODIES + set_bodies::kind_of(form, i) % 15);
     bump(counts, tally::CASES);
 }
 
 fn run_bodies(counts: &mut [u64], form: usize) {
-    let n = bodies::ALL;
+    let n = set_bodies::ALL;
     for i in 0..n {
         run_body(counts, form, i);
     }

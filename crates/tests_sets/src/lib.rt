@@ -2,6 +2,6 @@
 // Test support: proved safe and ending.
 #![tactic(auto)]
 
-mod bodies;
 pub mod cases;
 mod make;
+mod set_bodies;

@@ -1,7 +1,7 @@
 -- `put_body` is safe and ends. Assumes nothing.
 use Rattle.std.proofs.Common.{◌≡◌, ◌-◌, ◌≤◌, length, rules}
-use Rattle.tests_sets.proofs.bodies.put_body.Statement.{statement}
-use Rattle.tests_sets.proofs.bodies.put_body.Tie as tie
+use Rattle.tests_sets.proofs.set_bodies.put_body.Statement.{statement}
+use Rattle.tests_sets.proofs.set_bodies.put_body.Tie as tie
 
 abbrev invariant-loop : tie.invariant-loop-j
 invariant-loop out₀ start i n at₀ j₀ out at j =
