@@ -74,7 +74,3 @@ module _ (keywords : List (List ℕ)) (s : Small keywords) where
         small = p.small;
         logs = λ at. rw (p.bit, bit_is (accepts keywords v), p.low) (ap (λ (n : ℕ). keep (accepts keywords v) (n + at)) (omega arith));
       }
-
--- where the cell for a byte is
-pub cell-index : (cell b : ℕ) → cell % 256 ≡ 0 → cell % 262144 + b ≡ number_in cell * 256 + b
-cell-index cell b e = omega arith

@@ -184,9 +184,6 @@ module _ (keywords : List (List ℕ)) (s : Small keywords) where
 
 -- ---- the table of a list
 
-pub rows-fewer : (list table : List ℕ) (n m : ℕ) → Rows list table n → m ≤ n → Rows list table m
-rows-fewer list table n m r h = record { accepted = r.accepted; rows = λ s l k. r.rows s l (omega arith) }
-
 module _ (list : List ℕ) where
   abbrev words : List (List ℕ)
   words = folded_keywords list
@@ -222,15 +219,8 @@ module _ (list : List ℕ) where
     running-start = lane-start words few node at (folded (flag_of list) bytes) log₀ can.inside
 
     module _ (cell moves k i : ℕ) (log : List ℕ) (l : Running node bytes at log₀ cell moves k i log) where
-      -- at most 34 moves a byte
-      pub running-few : (i ≤ length bytes) × (moves ≤ 34 * i) × (length log ≡ length log₀)
-      running-few = (omega (arith, l.within, long), l.small, l.wide)
-
       pub running-step : CanStep list table cell
       running-step = can-step table cell can.rows l.even l.inside
-
-      pub running-room : i < length bytes → (k < length log) × (at + i < 1048576)
-      running-room h = (omega (arith, l.few, l.wide, can.long), omega (arith, can.places))
 
       pub running-on : i < length bytes → (cell' k' : ℕ) (log' : List ℕ)
           → cell' ≡ cell_of (flag_of list) words (number_in cell) (get_or bytes i 0)

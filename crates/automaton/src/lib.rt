@@ -12,7 +12,7 @@ pub fn step(list: &[u8], table: &[u32], cell: u32, b: u8) -> u32
     requires { CanStep list.now table.now cell }
     ensures { result ≡ cell_of (flag_of list.now) (folded_keywords list.now) (number_in cell) b }
 {
-    table[(cell % 262144) as usize + b as usize]
+    table[(cell % 262144) as usize + usize::from(b)]
 }
 
 // The number of the node after the bytes, from the root. It reads the rows of nodes with fewer bytes only.
@@ -21,10 +21,8 @@ pub fn node_after(list: &[u8], table: &[u32], bytes: &[u8]) -> usize
     ensures { result ≡ number_after list.now bytes.now }
 {
     let mut cell: u32 = 0;
-    let mut i: usize = 0;
-    while i < bytes.len() {
-        cell = step(list, table, cell, bytes[i]);
-        i += 1;
+    for &b in bytes {
+        cell = step(list, table, cell, b);
     }
     (cell % 262144 / 256) as usize
 }
@@ -66,16 +64,14 @@ pub fn walk(
     let mut cell: u32 = node as u32 * 256;
     let mut moves: u64 = 0;
     let mut k: usize = 0;
-    let mut i: usize = 0;
-    while i < bytes.len() {
-        cell = step(list, table, cell, bytes[i]);
-        moves += (cell / 16777216) as u64;
+    for (i, &b) in bytes.iter().enumerate() {
+        cell = step(list, table, cell, b);
+        moves += u64::from(cell / 16777216);
         k = push(log, k, cell, at + i);
-        i += 1;
     }
     Walked {
         node: (cell % 262144 / 256) as usize,
-        moves: moves,
+        moves,
         logged: k,
     }
 }
@@ -85,9 +81,5 @@ pub fn copy_into(buffer: &mut [u32], at: usize, run: &[u32])
     requires { at + length run.now ≤ length buffer.old }
     ensures { buffer.new ≡ splice buffer.old at run.now }
 {
-    let mut i: usize = 0;
-    while i < run.len() {
-        buffer[at + i] = run[i];
-        i += 1;
-    }
+    buffer[at..at + run.len()].copy_from_slice(run);
 }

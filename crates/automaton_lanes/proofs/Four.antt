@@ -1,7 +1,7 @@
 -- Four lanes side by side, each as in `automaton::walk`; the moves of all are one sum. Assumes nothing.
 use mathlib.Core.Path.{◌≡◌, refl, ap}
 use mathlib.Core.List.{List}
-use Prim.Native.Nat.{ℕ, ◌+◌, ◌*◌, ◌/◌, ◌^◌, ◌≤◌, ◌<◌}
+use Prim.Native.Nat.{ℕ, ◌+◌, ◌*◌, ◌/◌, ◌≤◌, ◌<◌}
 use native.Mathlib.Omega.{arith}
 use lib.ListN.{length, get_or}
 use Rattle.spec.specs.Bytes.{splice, written}
@@ -9,7 +9,7 @@ use Rattle.spec.specs.Keywords.{flag_of, folded_keywords}
 use Rattle.automaton.specs.Automaton.{cell_of}
 use Rattle.automaton.specs.Walking.{number_in, entry_of, CanStep, walked_of, walk_log}
 use Rattle.automaton.specs.declared.Walked.{Walked}
-use Rattle.automaton.proofs.Lanes.{Running, node-few, running-start, running-few, running-step, running-room, running-on, running-end}
+use Rattle.automaton.proofs.Lanes.{Running, node-few, running-start, running-step, running-on, running-end}
 use Rattle.automaton_lanes.specs.Lanes.{CanWalkFour, lanes_of}
 
 -- before byte i: m0 to m3 are the moves of each lane
@@ -24,11 +24,6 @@ pub record Four (list : List ℕ) (n0 n1 n2 n3 : ℕ) (b0 b1 b2 b3 : List ℕ) (
   pub lane1 : Running list n1 b1 at1 l1 c1 m1 k1 i g1
   pub lane2 : Running list n2 b2 at2 l2 c2 m2 k2 i g2
   pub lane3 : Running list n3 b3 at3 l3 c3 m3 k3 i g3
-
--- the moves stay far below 2^64
-room : (moves m0 m1 m2 m3 i n at x : ℕ) → moves ≡ m0 + m1 + m2 + m3 → m0 ≤ 34 * i → m1 ≤ 34 * i → m2 ≤ 34 * i → m3 ≤ 34 * i → i ≤ n
-    → at + n ≤ 1048576 → x < 4294967296 → moves + x < 2 ^ 64
-room moves m0 m1 m2 m3 i n at x e h0 h1 h2 h3 l p q = omega arith
 
 -- four answers as one
 one_answer : (moves m0 m1 m2 m3 : ℕ) (w0 w1 w2 w3 v0 v1 v2 v3 : Walked) → moves ≡ m0 + m1 + m2 + m3
@@ -75,24 +70,6 @@ module _ {list table : List ℕ} {n0 n1 n2 n3 : ℕ} {b0 b1 b2 b3 : List ℕ} {a
     pub four-inside : i < length b0 → (i < length b1) × (i < length b2) × (i < length b3)
     four-inside h = (omega (arith, can.same1), omega (arith, can.same2), omega (arith, can.same3))
 
-    pub four-rooms : i < length b0
-        → ((k0 < length g0) × (at0 + i < 1048576)) × ((k1 < length g1) × (at1 + i < 1048576))
-        × ((k2 < length g2) × (at2 + i < 1048576)) × ((k3 < length g3) × (at3 + i < 1048576))
-    four-rooms h = (
-      running-room list table n0 b0 at0 l0 can.can0 c0 f.m0 k0 i g0 f.lane0 h,
-      running-room list table n1 b1 at1 l1 can.can1 c1 f.m1 k1 i g1 f.lane1 (four-inside h).0,
-      running-room list table n2 b2 at2 l2 can.can2 c2 f.m2 k2 i g2 f.lane2 (four-inside h).1,
-      running-room list table n3 b3 at3 l3 can.can3 c3 f.m3 k3 i g3 f.lane3 (four-inside h).2,
-    )
-
-    pub four-moves : (x : ℕ) → x < 4294967296 → moves + x < 2 ^ 64
-    four-moves x h =
-        let r0 = running-few list table n0 b0 at0 l0 can.can0 c0 f.m0 k0 i g0 f.lane0 in
-        let r1 = running-few list table n1 b1 at1 l1 can.can1 c1 f.m1 k1 i g1 f.lane1 in
-        let r2 = running-few list table n2 b2 at2 l2 can.can2 c2 f.m2 k2 i g2 f.lane2 in
-        let r3 = running-few list table n3 b3 at3 l3 can.can3 c3 f.m3 k3 i g3 f.lane3 in
-        room moves f.m0 f.m1 f.m2 f.m3 i (length b0) at0 x f.total r0.1 r1.1 r2.1 r3.1 r0.0 can.can0.places h
-
     pub four-on : i < length b0 → {d0 d1 d2 d3 j0 j1 j2 j3 : ℕ} {h0 h1 h2 h3 : List ℕ}
         → d0 ≡ cell_of (flag_of list) (folded_keywords list) (number_in c0) (get_or b0 i 0)
         → d1 ≡ cell_of (flag_of list) (folded_keywords list) (number_in c1) (get_or b1 i 0)
@@ -116,9 +93,6 @@ module _ {list table : List ℕ} {n0 n1 n2 n3 : ℕ} {b0 b1 b2 b3 : List ℕ} {a
           lane2 = running-on list table n2 b2 at2 l2 can.can2 c2 f.m2 k2 i g2 f.lane2 (four-inside h).1 d2 j2 h2 e2 q2 w2;
           lane3 = running-on list table n3 b3 at3 l3 can.can3 c3 f.m3 k3 i g3 f.lane3 (four-inside h).2 d3 j3 h3 e3 q3 w3;
         }
-
-    pub four-wide : (length g0 ≡ length l0) × (length g1 ≡ length l1) × (length g2 ≡ length l2) × (length g3 ≡ length l3)
-    four-wide = (f.lane0.wide, f.lane1.wide, f.lane2.wide, f.lane3.wide)
 
     pub four-end : length b0 ≤ i
         → (record { node = number_in c3; moves = moves; logged0 = k0; logged1 = k1; logged2 = k2; logged3 = k3 }

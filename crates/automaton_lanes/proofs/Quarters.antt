@@ -91,13 +91,11 @@ pub record Walks (list : List ℕ) (node at q : ℕ) (bytes : List ℕ) (n1 n2 n
   pub logged2 : w.logged2 ≡ length (walk_log list n2 (take (3 * q - 2 * q) (drop (2 * q) bytes)) (at + 2 * q))
   pub logged3 : w.logged3 ≡ length (walk_log list n3 (take (length bytes - 3 * q) (drop (3 * q) bytes)) (at + 3 * q))
 
--- where the last three lanes start: after the quarter before
-pub record Starts (list bytes : List ℕ) (q n1 n2 n3 : ℕ) : Type 0 where
-  pub first : n1 ≡ number_after list (drop (length (take q bytes) - 32) (take q bytes))
-  pub second : n2 ≡ number_after list (drop (length (take (2 * q - q) (drop q bytes)) - 32) (take (2 * q - q) (drop q bytes)))
-  pub third : n3 ≡ number_after list (drop (length (take (3 * q - 2 * q) (drop (2 * q) bytes)) - 32) (take (3 * q - 2 * q) (drop (2 * q) bytes)))
-
-module _ {list table : List ℕ} {node at q room0 room1 room2 room3 : ℕ} {bytes : List ℕ} {n1 n2 n3 : ℕ} (st : Starts list bytes q n1 n2 n3)
+-- the last three lanes start after the quarter before
+module _ {list table : List ℕ} {node at q room0 room1 room2 room3 : ℕ} (bytes : List ℕ) {n1 n2 n3 : ℕ}
+    (first : n1 ≡ number_after list (drop (length (take q bytes) - 32) (take q bytes)))
+    (second : n2 ≡ number_after list (drop (length (take (2 * q - q) (drop q bytes)) - 32) (take (2 * q - q) (drop q bytes))))
+    (third : n3 ≡ number_after list (drop (length (take (3 * q - 2 * q) (drop (2 * q) bytes)) - 32) (take (3 * q - 2 * q) (drop (2 * q) bytes))))
     (can : CanWalkLanes list table node (length bytes) at room0 room1 room2 room3) (e : length bytes ≡ 4 * q) (long : 32 ≤ q) where
   front : keyword_front_code list ≡ 0
   front = can.walks.rows.accepted
@@ -118,19 +116,19 @@ module _ {list table : List ℕ} {node at q room0 room1 room2 room3 : ℕ} {byte
   p3 = take (length bytes - 3 * q) (drop (3 * q) bytes)
 
   is1 : n1 ≡ (walked_of list node p0 at).node
-  is1 = st.first ∙ window-node list front node h p0 at (omega (arith, length-part0 bytes q e))
+  is1 = first ∙ window-node list front node h p0 at (omega (arith, length-part0 bytes q e))
 
   inside1 : n1 < node_count (folded_keywords list)
   inside1 = omega (arith, is1, walked-inside list front node h p0 at)
 
   is2 : n2 ≡ (walked_of list n1 p1 (at + q)).node
-  is2 = st.second ∙ window-node list front n1 inside1 p1 (at + q) (omega (arith, length-part1 bytes q e))
+  is2 = second ∙ window-node list front n1 inside1 p1 (at + q) (omega (arith, length-part1 bytes q e))
 
   inside2 : n2 < node_count (folded_keywords list)
   inside2 = omega (arith, is2, walked-inside list front n1 inside1 p1 (at + q))
 
   is3 : n3 ≡ (walked_of list n2 p2 (at + 2 * q)).node
-  is3 = st.third ∙ window-node list front n2 inside2 p2 (at + 2 * q) (omega (arith, length-part2 bytes q e))
+  is3 = third ∙ window-node list front n2 inside2 p2 (at + 2 * q) (omega (arith, length-part2 bytes q e))
 
   inside3 : n3 < node_count (folded_keywords list)
   inside3 = omega (arith, is3, walked-inside list front n2 inside2 p2 (at + 2 * q))
@@ -193,7 +191,7 @@ module _ {list table : List ℕ} {node at q room0 room1 room2 room3 : ℕ} {byte
       let c = two-moves list front n2 n3 (at + 2 * q) (at + 3 * q) p2 p3 inside2 is3 at3 in
       omega (arith, a, b, c)
 
-  pub walks : (w : WalkedLanes) → w ≡ lanes_of list node n1 n2 n3 p0 p1 p2 p3 at (at + q) (at + 2 * q) (at + 3 * q) → Walks list node at q bytes n1 n2 n3 w
+  walks : (w : WalkedLanes) → w ≡ lanes_of list node n1 n2 n3 p0 p1 p2 p3 at (at + q) (at + 2 * q) (at + 3 * q) → Walks list node at q bytes n1 n2 n3 w
   unfolding lanes_of
   walks w x =
       let all = parts_whole bytes q e in
@@ -207,45 +205,49 @@ module _ {list table : List ℕ} {node at q room0 room1 room2 room3 : ℕ} {byte
         logged3 = ap (λ (r : WalkedLanes). r.logged3) x ∙ logged-is list front n3 p3 (at + 3 * q);
       }
 
-  -- no lane logs more than a quarter
-  pub quarters-few : (w : WalkedLanes) → Walks list node at q bytes n1 n2 n3 w → (w.logged0 ≤ q) × (w.logged1 ≤ q) × (w.logged2 ≤ q) × (w.logged3 ≤ q)
-  quarters-few w x = (
-    omega (arith, x.logged0, log-short list front node p0 at, length-part0 bytes q e),
-    omega (arith, x.logged1, log-short list front n1 p1 (at + q), length-part1 bytes q e),
-    omega (arith, x.logged2, log-short list front n2 p2 (at + 2 * q), length-part2 bytes q e),
-    omega (arith, x.logged3, log-short list front n3 p3 (at + 3 * q), length-part3 bytes q e),
-  )
+  module _ (w : WalkedLanes) (answer : w ≡ lanes_of list node n1 n2 n3 p0 p1 p2 p3 at (at + q) (at + 2 * q) (at + 3 * q)) where
+    x : Walks list node at q bytes n1 n2 n3 w
+    x = walks w answer
 
-  pub quarters-end : (w : WalkedLanes) → Walks list node at q bytes n1 n2 n3 w → (k₂ k₃ k₄ : ℕ) → k₂ ≡ w.logged0 + w.logged1 → k₃ ≡ k₂ + w.logged2
-      → k₄ ≡ k₃ + w.logged3
-      → record { node = w.node; moves = w.moves; logged = k₄ } ≡ walked_of list node bytes at
-  quarters-end w x k₂ k₃ k₄ f g k =
-      let v0 = walk_log list node p0 at in
-      let v1 = walk_log list n1 p1 (at + q) in
-      let v2 = walk_log list n2 p2 (at + 2 * q) in
-      let v3 = walk_log list n3 p3 (at + 3 * q) in
-      let logged : k₄ ≡ (walked_of list node bytes at).logged =
-      omega (
-        arith,
-        logged-is list front node bytes at,
-        ap length x.log_is,
-        length-append v0 v1,
-        length-append (v0 ++ v1) v2,
-        length-append (v0 ++ v1 ++ v2) v3,
-        x.logged0,
-        x.logged1,
-        x.logged2,
-        x.logged3,
-      ) in
-      λ i. record { node = x.node-is i; moves = x.moves-is i; logged = logged i }
+    -- no lane logs more than a quarter
+    pub quarters-few : (w.logged0 ≤ q) × (w.logged1 ≤ q) × (w.logged2 ≤ q) × (w.logged3 ≤ q)
+    quarters-few = (
+      omega (arith, x.logged0, log-short list front node p0 at, length-part0 bytes q e),
+      omega (arith, x.logged1, log-short list front n1 p1 (at + q), length-part1 bytes q e),
+      omega (arith, x.logged2, log-short list front n2 p2 (at + 2 * q), length-part2 bytes q e),
+      omega (arith, x.logged3, log-short list front n3 p3 (at + 3 * q), length-part3 bytes q e),
+    )
 
-  pub quarters-log : (w : WalkedLanes) → Walks list node at q bytes n1 n2 n3 w → (k₂ k₃ : ℕ) → k₂ ≡ w.logged0 + w.logged1 → k₃ ≡ k₂ + w.logged2
-      → (l l₁ l₂ l₃ l₄ r₁ r₂ r₃ s₁ s₂ s₃ : List ℕ)
-      → l₁ ≡ written l (walk_log list node p0 at) → s₁ ≡ written r₁ (walk_log list n1 p1 (at + q))
-      → s₂ ≡ written r₂ (walk_log list n2 p2 (at + 2 * q)) → s₃ ≡ written r₃ (walk_log list n3 p3 (at + 3 * q))
-      → l₂ ≡ splice l₁ w.logged0 (take w.logged1 s₁) → l₃ ≡ splice l₂ k₂ (take w.logged2 s₂) → l₄ ≡ splice l₃ k₃ (take w.logged3 s₃)
-      → l₄ ≡ written l (walk_log list node bytes at)
-  quarters-log w x k₂ k₃ f g l l₁ l₂ l₃ l₄ r₁ r₂ r₃ s₁ s₂ s₃ a b c d a₂ a₃ a₄ =
-      gathered l l₁ l₂ l₃ l₄ r₁ r₂ r₃ s₁ s₂ s₃ _ _ _ _ w.logged0 w.logged1 w.logged2 w.logged3 k₂ k₃
-      x.logged0 x.logged1 x.logged2 x.logged3 f g a b c d a₂ a₃ a₄
-      ∙ ap (splice l 0) (sym x.log_is)
+    pub quarters-end : (k₂ k₃ k₄ : ℕ) → k₂ ≡ w.logged0 + w.logged1 → k₃ ≡ k₂ + w.logged2
+        → k₄ ≡ k₃ + w.logged3
+        → record { node = w.node; moves = w.moves; logged = k₄ } ≡ walked_of list node bytes at
+    quarters-end k₂ k₃ k₄ f g k =
+        let v0 = walk_log list node p0 at in
+        let v1 = walk_log list n1 p1 (at + q) in
+        let v2 = walk_log list n2 p2 (at + 2 * q) in
+        let v3 = walk_log list n3 p3 (at + 3 * q) in
+        let logged : k₄ ≡ (walked_of list node bytes at).logged =
+        omega (
+          arith,
+          logged-is list front node bytes at,
+          ap length x.log_is,
+          length-append v0 v1,
+          length-append (v0 ++ v1) v2,
+          length-append (v0 ++ v1 ++ v2) v3,
+          x.logged0,
+          x.logged1,
+          x.logged2,
+          x.logged3,
+        ) in
+        λ i. record { node = x.node-is i; moves = x.moves-is i; logged = logged i }
+
+    pub quarters-log : (k₂ k₃ : ℕ) → k₂ ≡ w.logged0 + w.logged1 → k₃ ≡ k₂ + w.logged2
+        → (l l₁ l₂ l₃ l₄ r₁ r₂ r₃ s₁ s₂ s₃ : List ℕ)
+        → l₁ ≡ written l (walk_log list node p0 at) → s₁ ≡ written r₁ (walk_log list n1 p1 (at + q))
+        → s₂ ≡ written r₂ (walk_log list n2 p2 (at + 2 * q)) → s₃ ≡ written r₃ (walk_log list n3 p3 (at + 3 * q))
+        → l₂ ≡ splice l₁ w.logged0 (take w.logged1 s₁) → l₃ ≡ splice l₂ k₂ (take w.logged2 s₂) → l₄ ≡ splice l₃ k₃ (take w.logged3 s₃)
+        → l₄ ≡ written l (walk_log list node bytes at)
+    quarters-log k₂ k₃ f g l l₁ l₂ l₃ l₄ r₁ r₂ r₃ s₁ s₂ s₃ a b c d a₂ a₃ a₄ =
+        gathered l l₁ l₂ l₃ l₄ r₁ r₂ r₃ s₁ s₂ s₃ _ _ _ _ w.logged0 w.logged1 w.logged2 w.logged3 k₂ k₃
+        x.logged0 x.logged1 x.logged2 x.logged3 f g a b c d a₂ a₃ a₄
+        ∙ ap (splice l 0) (sym x.log_is)

@@ -56,22 +56,20 @@ fn walk_four(
     let mut k1: usize = 0;
     let mut k2: usize = 0;
     let mut k3: usize = 0;
-    let mut i: usize = 0;
-    while i < b0.len() {
+    for i in 0..b0.len() {
         c0 = automaton::step(list, table, c0, b0[i]);
         c1 = automaton::step(list, table, c1, b1[i]);
         c2 = automaton::step(list, table, c2, b2[i]);
         c3 = automaton::step(list, table, c3, b3[i]);
-        moves += (c0 / 16777216 + c1 / 16777216 + c2 / 16777216 + c3 / 16777216) as u64;
+        moves += u64::from(c0 / 16777216 + c1 / 16777216 + c2 / 16777216 + c3 / 16777216);
         k0 = automaton::push(log0, k0, c0, at0 + i);
         k1 = automaton::push(log1, k1, c1, at1 + i);
         k2 = automaton::push(log2, k2, c2, at2 + i);
         k3 = automaton::push(log3, k3, c3, at3 + i);
-        i += 1;
     }
     WalkedLanes {
         node: (c3 % 262144 / 256) as usize,
-        moves: moves,
+        moves,
         logged0: k0,
         logged1: k1,
         logged2: k2,

@@ -165,14 +165,6 @@ module _ (list : List ℕ) (front : keyword_front_code list ≡ 0) where
   few : node_count (folded_keywords list) ≤ 513
   few = (small list front).count
 
-  pub built-start : (table : List ℕ) (d : ℕ) → Rows list table d → Built list table table d 0
-  built-start table d r =
-      record {
-        wide = refl;
-        rows = λ t h l. r.rows t h (omega arith);
-        rest = λ i h. refl;
-      }
-
   pub built-rows : (before table : List ℕ) (d s : ℕ) → Built list before table d s → Rows list table d
   built-rows before table d s b =
       record {
@@ -230,14 +222,6 @@ module _ (list : List ℕ) (front : keyword_front_code list ≡ 0) where
         wide = b.wide ∙ a.wide;
         rows = λ t h l. b.rows t h (omega (arith, few));
         rest = λ i h. b.rest i h ∙ a.rest i h;
-      }
-
-  pub built-none : (table : List ℕ) → Built list table table 0 0
-  built-none table =
-      record {
-        wide = refl;
-        rows = λ t h l. let z : ⊥ = omega arith in absurd z;
-        rest = λ i h. refl;
       }
 
   -- all depths

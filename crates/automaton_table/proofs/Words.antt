@@ -42,9 +42,6 @@ module _ (list : List ℕ) (words : Keywords) (r : Reads list words) where
     pub word_room : get_or words.start k 0 + get_or words.len k 0 ≤ length list
     word_room = omega (arith, (read.placed k h).room, read.ends, read.room)
 
-    pub word_some : 1 ≤ get_or words.len k 0
-    word_some = (read.placed k h).nonempty
-
     pub word-most : get_or words.len k 0 ≤ 32
     word-most = (read.placed k h).most
 

@@ -21,10 +21,7 @@ fn alike_at(list: &[u8], flag: u8, a: usize, m: usize, b: usize, n: usize) -> bo
     requires { (a + m ≤ length list.now) × (b + n ≤ length list.now) }
     ensures { result ≡ same (run flag list.now a m) (run flag list.now b n) }
 {
-    if m != n {
-        return false;
-    }
-    matcher::occurs_at(&list[a..a + m], &list[b..b + n], 0, flag)
+    m == n && matcher::occurs_at(&list[a..a + m], &list[b..b + n], 0, flag)
 }
 
 // The number of the node that is the n bytes from `at`; the count where none is.
@@ -40,12 +37,10 @@ fn find(
     requires { Within list.now starts.now lens.now count × (at + n ≤ length list.now) }
     ensures { result ≡ position_of (run flag list.now at n) (nodes_in flag list.now starts.now lens.now count) }
 {
-    let mut s: usize = 0;
-    while s < count {
+    for s in 0..count {
         if alike_at(list, flag, at, n, starts[s], lens[s]) {
             return s;
         }
-        s += 1;
     }
     count
 }
@@ -55,10 +50,7 @@ fn one_more(count: usize, found: usize) -> usize
     requires { count < 513 }
     ensures { result ≡ cond (ltb found count) count (suc count) }
 {
-    if found < count {
-        return count;
-    }
-    count + 1
+    if found < count { count } else { count + 1 }
 }
 
 // Adds the beginnings of the n bytes from `at`, shortest first; how many nodes there are then.
@@ -77,13 +69,11 @@ fn add_beginnings(
         starts.new lens.new result }
 {
     let mut nodes = count;
-    let mut i: usize = 0;
-    while i < n {
+    for i in 0..n {
         let found = find(list, flag, starts, lens, nodes, at, i + 1);
         starts[nodes] = at;
         lens[nodes] = i + 1;
         nodes = one_more(nodes, found);
-        i += 1;
     }
     nodes
 }
@@ -98,15 +88,19 @@ fn number_nodes(
     requires { Reads list.now words × (length starts.old ≡ 513) × (length lens.old ≡ 513) }
     ensures { Numbered list.now starts.new lens.new result }
 {
-    let start = words.start;
-    let len = words.len;
     starts[0] = 0;
     lens[0] = 0;
     let mut count: usize = 1;
-    let mut k: usize = 0;
-    while k < words.count {
-        count = add_beginnings(list, words.flag, starts, lens, count, start[k], len[k]);
-        k += 1;
+    for k in 0..words.count {
+        count = add_beginnings(
+            list,
+            words.flag,
+            starts,
+            lens,
+            count,
+            words.start[k],
+            words.len[k],
+        );
     }
     count
 }
@@ -118,10 +112,7 @@ fn ends_with(list: &[u8], flag: u8, a: usize, m: usize, b: usize, n: usize) -> b
     requires { (a + m ≤ length list.now) × (b + n ≤ length list.now) }
     ensures { result ≡ is_ending (run flag list.now a m) (run flag list.now b n) }
 {
-    if n < m {
-        return false;
-    }
-    alike_at(list, flag, a, m, b + (n - m), m)
+    m <= n && alike_at(list, flag, a, m, b + (n - m), m)
 }
 
 // The set with bit k, if the test holds.
@@ -129,10 +120,7 @@ fn with_bit(set: u32, k: usize, holds: bool) -> u32
     requires { (k < 16) × (set < 2 ^ k) }
     ensures { result ≡ cond holds 1 0 * 2 ^ k + set }
 {
-    if holds {
-        return set + (1 << k);
-    }
-    set
+    if holds { set + (1 << k) } else { set }
 }
 
 // The keywords that the n bytes from `at` end with, as a set.
@@ -140,14 +128,10 @@ fn ending_set(list: &[u8], words: keywords::Keywords, at: usize, n: usize) -> u3
     requires { Reads list.now words × (at + n ≤ length list.now) }
     ensures { result ≡ ending_set (folded_keywords list.now) (run (flag_of list.now) list.now at n) }
 {
-    let start = words.start;
-    let len = words.len;
     let mut set: u32 = 0;
-    let mut k: usize = 0;
-    while k < words.count {
-        let holds = ends_with(list, words.flag, start[k], len[k], at, n);
+    for k in 0..words.count {
+        let holds = ends_with(list, words.flag, words.start[k], words.len[k], at, n);
         set = with_bit(set, k, holds);
-        k += 1;
     }
     set
 }
@@ -164,10 +148,8 @@ fn fill_sets(
     requires { Ready list.now words starts.now lens.now count × (count ≤ length sets.old) }
     ensures { sets.new ≡ written sets.old (sets_of (folded_keywords list.now)) }
 {
-    let mut s: usize = 0;
-    while s < count {
+    for s in 0..count {
         sets[s] = ending_set(list, words, starts[s], lens[s]);
-        s += 1;
     }
 }
 
@@ -179,14 +161,10 @@ fn prefix_at(list: &[u8], words: keywords::Keywords, k: usize, at: usize, n: usi
     if words.count <= k {
         return 0;
     }
-    let start = words.start;
-    let len = words.len;
-    let mut i = len[k] - 1;
-    while 0 < i {
-        if ends_with(list, words.flag, start[k], i, at, n) {
+    for i in (1..words.len[k]).rev() {
+        if ends_with(list, words.flag, words.start[k], i, at, n) {
             return i as u8;
         }
-        i -= 1;
     }
     0
 }
@@ -203,10 +181,8 @@ fn fill_prefixes(
     requires { Ready list.now words starts.now lens.now count × (count * 16 ≤ length prefixes.old) }
     ensures { prefixes.new ≡ written prefixes.old (prefixes_of (folded_keywords list.now)) }
 {
-    let mut i: usize = 0;
-    while i < count * 16 {
+    for i in 0..count * 16 {
         prefixes[i] = prefix_at(list, words, i % 16, starts[i / 16], lens[i / 16]);
-        i += 1;
     }
 }
 
@@ -218,16 +194,11 @@ fn child_byte(list: &[u8], flag: u8, a: usize, m: usize, b: usize, n: usize) -> 
     ensures byte { result ≡ child_byte (run flag list.now a m) (run flag list.now b n) }
     ensures most { result ≤ 256 }
 {
-    if n <= m {
-        return 256;
+    if n == m + 1 && alike_at(list, flag, a, m, b, m) {
+        usize::from(folding::fold(flag, list[b + m]))
+    } else {
+        256
     }
-    if n - m != 1 {
-        return 256;
-    }
-    if alike_at(list, flag, a, m, b, m) {
-        return folding::fold(flag, list[b + m]) as usize;
-    }
-    256
 }
 
 // The children of node s, by byte.
@@ -243,11 +214,9 @@ fn children_of(
     ensures { Children (folded_keywords list.now) s result }
 {
     let mut children = [0u32; 257];
-    let mut t: usize = 0;
-    while t < count {
+    for t in 0..count {
         let c = child_byte(list, flag, starts[s], lens[s], starts[t], lens[t]);
         children[c] = t as u32;
-        t += 1;
     }
     children
 }
@@ -258,9 +227,10 @@ fn pack(t: u32, set: u32) -> u32
     ensures { result ≡ t * 256 + cond (ltb 0 set) 1 0 * 262144 + 16777216 }
 {
     if set == 0 {
-        return t * 256 + 16777216;
+        t * 256 + 16777216
+    } else {
+        t * 256 + 262144 + 16777216
     }
-    t * 256 + 262144 + 16777216
 }
 
 // The cell for node s and byte b: to the child, or stay at the root, or one move more than from the link.
@@ -277,15 +247,15 @@ fn cell_of(
     requires { CanFill list.now table.now sets.now children.now flag s linked }
     ensures { result ≡ cell_of (flag_of list.now) (folded_keywords list.now) s b }
 {
-    let c = folding::fold(flag, b) as usize;
+    let c = usize::from(folding::fold(flag, b));
     let t = children[c];
     if t != 0 {
-        return pack(t, sets[t as usize]);
+        pack(t, sets[t as usize])
+    } else if s == 0 {
+        pack(0, sets[0])
+    } else {
+        table[linked * 256 + usize::from(b)] + 16777216
     }
-    if s == 0 {
-        return pack(0, sets[0]);
-    }
-    table[linked * 256 + b as usize] + 16777216
 }
 
 // The row of node s.
@@ -302,19 +272,8 @@ fn row_of(
     ensures { result ≡ row_of (flag_of list.now) (folded_keywords list.now) s }
 {
     let mut row = [0u32; 256];
-    let mut b: usize = 0;
-    while b < 256 {
-        row[b] = cell_of(
-            list,
-            table,
-            sets,
-            children,
-            flag,
-            s,
-            linked,
-            (b % 256) as u8,
-        );
-        b += 1;
+    for b in 0..256 {
+        row[b] = cell_of(list, table, sets, children, flag, s, linked, b as u8);
     }
     row
 }
@@ -371,10 +330,8 @@ fn fill_depth(
     requires rows { Rows list.now table.old d }
     ensures { Built list.now table.old table.new d count }
 {
-    let mut s: usize = 0;
-    while s < count {
+    for s in 0..count {
         fill_row(list, words, starts, lens, count, sets, table, d, s);
-        s += 1;
     }
 }
 
@@ -391,10 +348,8 @@ fn fill_table(
     requires { CanBuild list.now words starts.now lens.now count sets.now table.old }
     ensures { table.new ≡ written table.old (table_of (flag_of list.now) (folded_keywords list.now)) }
 {
-    let mut d: usize = 0;
-    while d < 33 {
+    for d in 0..33 {
         fill_depth(list, words, starts, lens, count, sets, table, d);
-        d += 1;
     }
 }
 

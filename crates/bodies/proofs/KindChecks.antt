@@ -4,8 +4,9 @@ use mathlib.Core.Logic.{◌≢◌, ◌⊎◌, inl, inr}
 use mathlib.Core.Bool.{Bool, true, false, ◌&&◌, not, cond, and-false, false≢true}
 use mathlib.Core.List.{List, [], ◌∷◌}
 use Prim.Native.Nat.{ℕ, zero, suc, ◌+◌, ◌*◌, ◌/◌, ◌%◌, ◌^◌, ◌≤◌, ◌<◌, min}
-use native.Mathlib.Nat.{mul-le-mul_left, mul-le-mul_right, pow-le-pow_right}
+use native.Mathlib.Nat.{mul-le-mul_right, pow-le-pow_right}
 use native.Mathlib.Omega.{arith}
+use Rattle.std.specs.Prelude.{Some, None}
 use lib.Dec.{eqb, leb}
 use lib.ListN.{length, take, drop, get_or}
 use Rattle.spec.specs.Bytes.{le_value, field_at, fields_of, rising, AllBytes}
@@ -27,27 +28,28 @@ fields-good format h = record { fits = h.fits; apart = λ n. omega arith }
 -- ---- refused or accepted
 
 module _ (format : Format) (n size : ℕ) (bytes : List ℕ) (start : 1 ≤ length bytes) where
-  refuse : record_good (form_in format) n (get_or bytes 0 0) size bytes ≡ false → 0 ≡ good_size format n size bytes
+  refuse : record_good (form_in format) n (get_or bytes 0 0) size bytes ≡ false → None ≡ good_size format n size bytes
   unfolding good_size
   refuse e = rw e
 
-  accept : (s : ℕ) → record_good (form_in format) n (get_or bytes 0 0) size bytes ≡ true → s ≡ record_size (form_in format) bytes → s ≡ good_size format n size bytes
+  accept : (s : ℕ) → record_good (form_in format) n (get_or bytes 0 0) size bytes ≡ true → s ≡ record_size (form_in format) bytes
+      → Some s ≡ good_size format n size bytes
   unfolding good_size
-  accept s e q = rw e q
+  accept s e q = rw e (ap Some q)
 
-  pub refuse-tiny : get_or bytes 1 0 ≡ 0 → (Tiny (form_in format) n size bytes → ⊥) → 0 ≡ good_size format n size bytes
+  pub refuse-tiny : get_or bytes 1 0 ≡ 0 → (Tiny (form_in format) n size bytes → ⊥) → None ≡ good_size format n size bytes
   refuse-tiny z never = refuse (false_of _ (λ e. never (tiny-of (form_in format) n size bytes start z e)))
 
-  pub accept-tiny : get_or bytes 1 0 ≡ 0 → Tiny (form_in format) n size bytes → 3 ≡ good_size format n size bytes
+  pub accept-tiny : get_or bytes 1 0 ≡ 0 → Tiny (form_in format) n size bytes → Some 3 ≡ good_size format n size bytes
   accept-tiny z t = accept 3 (tiny-is (form_in format) n size bytes z t) (sym (size-zero (form_in format) bytes z))
 
-  pub refuse-full : Lengths format n size → 1 ≤ get_or bytes 1 0 → (Full (form_in format) n size bytes → ⊥) → 0 ≡ good_size format n size bytes
+  pub refuse-full : Lengths format n size → 1 ≤ get_or bytes 1 0 → (Full (form_in format) n size bytes → ⊥) → None ≡ good_size format n size bytes
   refuse-full l nonempty never =
       let good = fields-good format l.fields in
       refuse (false_of _ (λ e. never (full-of (form_in format) good n size bytes l.positive l.fit nonempty start e)))
 
   pub accept-full : (s : ℕ) → AllBytes bytes → 1 ≤ get_or bytes 1 0 → Full (form_in format) n size bytes → s ≡ record_size (form_in format) bytes
-      → s ≡ good_size format n size bytes
+      → Some s ≡ good_size format n size bytes
   accept-full s b nonempty t q = accept s (full_is (form_in format) n size bytes b nonempty t) q
 
 -- ---- kinds
@@ -102,30 +104,24 @@ module _ (format : Format) (n : ℕ) (bytes : List ℕ) (nonempty : 1 ≤ get_or
 -- ---- kind 0
 
 module _ (format : Format) (n size : ℕ) (bytes : List ℕ) (start : 1 ≤ length bytes) (kind : get_or bytes 1 0 ≡ 0) where
-  pub tiny-short : length bytes < 3 → 0 ≡ good_size format n size bytes
+  pub tiny-short : length bytes < 3 → None ≡ good_size format n size bytes
   tiny-short h = refuse-tiny format n size bytes start kind (λ t. omega (arith, t.long))
 
-  pub tiny-none : get_or bytes 2 0 ≡ 0 → 0 ≡ good_size format n size bytes
-  tiny-none e = refuse-tiny format n size bytes start kind (λ t. omega (arith, t.nonempty))
-
-  pub tiny-large : 3 < get_or bytes 2 0 → 0 ≡ good_size format n size bytes
-  tiny-large h = refuse-tiny format n size bytes start kind (λ t. omega (arith, t.high))
-
-  pub tiny-prefix : reach n size < get_or bytes 2 0 % 2 → 0 ≡ good_size format n size bytes
+  pub tiny-prefix : reach n size < get_or bytes 2 0 % 2 → None ≡ good_size format n size bytes
   tiny-prefix h = refuse-tiny format n size bytes start kind (λ t. omega (arith, t.prefix))
 
-  pub tiny-suffix : reach n size < get_or bytes 2 0 / 2 → 0 ≡ good_size format n size bytes
+  pub tiny-suffix : reach n size < get_or bytes 2 0 / 2 → None ≡ good_size format n size bytes
   tiny-suffix h = refuse-tiny format n size bytes start kind (λ t. omega (arith, t.suffix))
 
   pub tiny-good : 3 ≤ length bytes → 1 ≤ get_or bytes 2 0 → get_or bytes 2 0 ≤ 3 → get_or bytes 2 0 % 2 ≤ reach n size → get_or bytes 2 0 / 2 ≤ reach n size
-      → 3 ≡ good_size format n size bytes
+      → Some 3 ≡ good_size format n size bytes
   tiny-good l s m p q =
       accept-tiny format n size bytes start kind (record { long = l; nonempty = s; low = omega arith; high = omega arith; prefix = p; suffix = q })
 
 -- ---- heads that no kind has
 
 module _ (format : Format) (n size : ℕ) (bytes : List ℕ) (start : 1 ≤ length bytes) (l : Lengths format n size) where
-  pub kind-large : 3 < get_or bytes 1 0 → 0 ≡ good_size format n size bytes
+  pub kind-large : 3 < get_or bytes 1 0 → None ≡ good_size format n size bytes
   kind-large h = refuse-full format n size bytes start l (omega arith) (λ t. omega (arith, t.kind, kind-most (length (read_offsets (form_in format) bytes))))
 
   size-head : 1 ≤ get_or bytes 1 0 → 5 + format.width ≤ record_size (form_in format) bytes
@@ -140,13 +136,13 @@ module _ (format : Format) (n size : ℕ) (bytes : List ℕ) (start : 1 ≤ leng
       go false true x y = omega arith
       go false false x y = omega arith
 
-  pub head-short : 1 ≤ get_or bytes 1 0 → length bytes < 5 + format.width → 0 ≡ good_size format n size bytes
+  pub head-short : 1 ≤ get_or bytes 1 0 → length bytes < 5 + format.width → None ≡ good_size format n size bytes
   head-short nonempty h = refuse-full format n size bytes start l nonempty (λ t. omega (arith, t.long, size-head nonempty))
 
-  pub head-prefix : 1 ≤ get_or bytes 1 0 → reach n size < get_or bytes 2 0 → 0 ≡ good_size format n size bytes
+  pub head-prefix : 1 ≤ get_or bytes 1 0 → reach n size < get_or bytes 2 0 → None ≡ good_size format n size bytes
   head-prefix nonempty h = refuse-full format n size bytes start l nonempty (λ t. omega (arith, t.prefix))
 
-  pub head-suffix : 1 ≤ get_or bytes 1 0 → reach n size < get_or bytes 3 0 → 0 ≡ good_size format n size bytes
+  pub head-suffix : 1 ≤ get_or bytes 1 0 → reach n size < get_or bytes 3 0 → None ≡ good_size format n size bytes
   head-suffix nonempty h = refuse-full format n size bytes start l nonempty (λ t. omega (arith, t.suffix))
 
 -- ---- kind 1 without an offset
@@ -165,18 +161,18 @@ module _ (format : Format) (n size : ℕ) (bytes : List ℕ) (h : Head format 1 
   none_is : read_record (form_in format) bytes ≡ bare
   none_is = read_some (form_in format) bytes (omega (arith, h.is)) ∙ rw none-offsets
 
-  pub none_first : field_at bytes 5 format.width ≢ 0 → 0 ≡ good_size format n size bytes
+  pub none_first : field_at bytes 5 format.width ≢ 0 → None ≡ good_size format n size bytes
   none_first d =
       refuse-full format n size bytes (omega (arith, h.long)) h.lengths (omega (arith, h.is))
       (λ t. d (t.first ∙ ap (λ (l : List ℕ). get_or l 0 0) none-offsets))
 
-  pub none-small : get_or bytes 2 0 ≤ 1 → get_or bytes 3 0 ≤ 1 → 0 ≡ good_size format n size bytes
+  pub none-small : get_or bytes 2 0 ≤ 1 → get_or bytes 3 0 ≤ 1 → None ≡ good_size format n size bytes
   none-small p s =
       refuse-full format n size bytes (omega (arith, h.long)) h.lengths (omega (arith, h.is))
       (λ t. false≢true (sym t.large ∙ rw none_is (tiny-test format n bare refl p s (rw none_is at t.nonempty))))
 
   pub none-good : AllBytes bytes → field_at bytes 5 format.width ≡ 0 → (1 < get_or bytes 2 0) ⊎ (1 < get_or bytes 3 0)
-      → 5 + format.width ≡ good_size format n size bytes
+      → Some (5 + format.width) ≡ good_size format n size bytes
   none-good b z d =
       accept-full format n size bytes (omega (arith, h.long)) (5 + format.width) b (omega (arith, h.is))
       (record {
@@ -207,12 +203,12 @@ module _ (format : Format) (n size : ℕ) (bytes : List ℕ) (h : Head format 1 
   single-offsets : read_offsets (form_in format) bytes ≡ field_at bytes 5 format.width ∷ []
   single-offsets = read-1 (form_in format) bytes h.is ∙ rw (eqb-ne (get_or bytes 4 0) 0 some-count)
 
-  pub single-count : get_or bytes 4 0 ≢ 1 → 0 ≡ good_size format n size bytes
+  pub single-count : get_or bytes 4 0 ≢ 1 → None ≡ good_size format n size bytes
   single-count d =
       refuse-full format n size bytes (omega (arith, h.long)) h.lengths (omega (arith, h.is))
       (λ t. d (t.count ∙ rw single-offsets))
 
-  pub single-out : size < field_at bytes 5 format.width + n → 0 ≡ good_size format n size bytes
+  pub single-out : size < field_at bytes 5 format.width + n → None ≡ good_size format n size bytes
   single-out l =
       refuse-full format n size bytes (omega (arith, h.long)) h.lengths (omega (arith, h.is))
       (λ t. let m : field_at bytes 5 format.width + n ≤ size =
@@ -220,7 +216,7 @@ module _ (format : Format) (n size : ℕ) (bytes : List ℕ) (h : Head format 1 
       in
       omega arith)
 
-  pub single-good : AllBytes bytes → get_or bytes 4 0 ≡ 1 → field_at bytes 5 format.width + n ≤ size → 5 + format.width ≡ good_size format n size bytes
+  pub single-good : AllBytes bytes → get_or bytes 4 0 ≡ 1 → field_at bytes 5 format.width + n ≤ size → Some (5 + format.width) ≡ good_size format n size bytes
   single-good b one l =
       accept-full format n size bytes (omega (arith, h.long)) (5 + format.width) b (omega (arith, h.is))
       (record {
@@ -263,12 +259,12 @@ module _ (format : Format) (n size : ℕ) (bytes : List ℕ) (at count : ℕ) (l
       in
       rw (leb-true (at + format.width * count) (length bytes) a, b, eqb_same, ← offsets, t.rise, t.inside)
 
-  pub many-refused : offsets_good format.width n size bytes at count ≡ false → 0 ≡ good_size format n size bytes
+  pub many-refused : offsets_good format.width n size bytes at count ≡ false → None ≡ good_size format n size bytes
   many-refused e = refuse-full format n size bytes (omega arith) l nonempty (λ t. false≢true (sym e ∙ many-of t))
 
   pub many-good : AllBytes bytes → get_or bytes 2 0 ≤ reach n size → get_or bytes 3 0 ≤ reach n size
       → get_or bytes 1 0 ≡ kind_of count → get_or bytes 4 0 ≡ min count 255 → offsets_good format.width n size bytes at count ≡ true
-      → at + format.width * count ≡ good_size format n size bytes
+      → Some (at + format.width * count) ≡ good_size format n size bytes
   unfolding offsets_good offsets_in_range
   many-good b p s kind c e =
       accept-full format n size bytes (omega arith) (at + format.width * count) b nonempty
@@ -296,21 +292,21 @@ module _ (format : Format) (n size : ℕ) (bytes : List ℕ) (h : Head format 2 
   two-counts : length (read_offsets (form_in format) bytes) ≡ get_or bytes 4 0
   two-counts = rw (read-2 (form_in format) bytes h.is) (length-fields_of format.width (get_or bytes 4 0) (drop (5 + format.width) bytes))
 
-  pub two-range : (1 < get_or bytes 4 0 → get_or bytes 4 0 ≤ 254 → ⊥) → 0 ≡ good_size format n size bytes
+  pub two-range : (1 < get_or bytes 4 0 → get_or bytes 4 0 ≤ 254 → ⊥) → None ≡ good_size format n size bytes
   two-range d =
       refuse-full format n size bytes (omega (arith, h.long)) h.lengths (omega (arith, h.is))
       (λ t. let k = of-2 (length (read_offsets (form_in format) bytes)) (sym t.kind ∙ h.is) in
       d (omega (arith, two-counts, k.0)) (omega (arith, two-counts, k.1)))
 
   pub two-refused : 1 < get_or bytes 4 0 → offsets_good format.width n size bytes (5 + format.width) (get_or bytes 4 0) ≡ false
-      → 0 ≡ good_size format n size bytes
+      → None ≡ good_size format n size bytes
   two-refused c e =
       many-refused format n size bytes (5 + format.width) (get_or bytes 4 0) h.long h.lengths (omega (arith, h.is)) (omega arith)
       (read-2 (form_in format) bytes h.is) (size-2 (form_in format) bytes h.is) e
 
   pub two_good : AllBytes bytes → 1 < get_or bytes 4 0 → get_or bytes 4 0 ≤ 254
       → offsets_good format.width n size bytes (5 + format.width) (get_or bytes 4 0) ≡ true
-      → 5 + format.width + format.width * get_or bytes 4 0 ≡ good_size format n size bytes
+      → Some (5 + format.width + format.width * get_or bytes 4 0) ≡ good_size format n size bytes
   two_good b c m e =
       many-good format n size bytes (5 + format.width) (get_or bytes 4 0) h.long h.lengths (omega (arith, h.is)) (omega arith)
       (read-2 (form_in format) bytes h.is) (size-2 (form_in format) bytes h.is)
@@ -328,22 +324,22 @@ module _ (format : Format) (n size : ℕ) (bytes : List ℕ) (h : Head format 3 
   three-many : Full (form_in format) n size bytes → 254 < field_at bytes (5 + format.width) format.width
   three-many t = omega (arith, three-counts, of-3 (length (read_offsets (form_in format) bytes)) (sym t.kind ∙ h.is))
 
-  pub three-short : length bytes < 5 + 2 * format.width → 0 ≡ good_size format n size bytes
+  pub three-short : length bytes < 5 + 2 * format.width → None ≡ good_size format n size bytes
   three-short l =
       refuse-full format n size bytes (omega (arith, h.long)) h.lengths (omega (arith, h.is))
       (λ t. omega (arith, t.long, size-3 (form_in format) bytes three-is))
 
-  pub three-count : get_or bytes 4 0 ≢ 255 → 0 ≡ good_size format n size bytes
+  pub three-count : get_or bytes 4 0 ≢ 255 → None ≡ good_size format n size bytes
   three-count d =
       refuse-full format n size bytes (omega (arith, h.long)) h.lengths (omega (arith, h.is))
       (λ t. d (omega (arith, t.count, three-counts, three-many t)))
 
-  pub three-few : field_at bytes (5 + format.width) format.width < 255 → 0 ≡ good_size format n size bytes
+  pub three-few : field_at bytes (5 + format.width) format.width < 255 → None ≡ good_size format n size bytes
   three-few l = refuse-full format n size bytes (omega (arith, h.long)) h.lengths (omega (arith, h.is)) (λ t. omega (arith, three-many t))
 
   pub three-refused : 254 < field_at bytes (5 + format.width) format.width
       → offsets_good format.width n size bytes (5 + 2 * format.width) (field_at bytes (5 + format.width) format.width) ≡ false
-      → 0 ≡ good_size format n size bytes
+      → None ≡ good_size format n size bytes
   three-refused c e =
       many-refused format n size bytes (5 + 2 * format.width) (field_at bytes (5 + format.width) format.width)
       h.long h.lengths (omega (arith, h.is)) (omega arith)
@@ -351,29 +347,12 @@ module _ (format : Format) (n size : ℕ) (bytes : List ℕ) (h : Head format 3 
 
   pub three-good : AllBytes bytes → get_or bytes 4 0 ≡ 255 → 254 < field_at bytes (5 + format.width) format.width
       → offsets_good format.width n size bytes (5 + 2 * format.width) (field_at bytes (5 + format.width) format.width) ≡ true
-      → 5 + 2 * format.width + format.width * field_at bytes (5 + format.width) format.width ≡ good_size format n size bytes
+      → Some (5 + 2 * format.width + format.width * field_at bytes (5 + format.width) format.width) ≡ good_size format n size bytes
   three-good b c m e =
       many-good format n size bytes (5 + 2 * format.width) (field_at bytes (5 + format.width) format.width)
       h.long h.lengths (omega (arith, h.is)) (omega arith)
       (read-3 (form_in format) bytes three-is) (size-3 (form_in format) bytes three-is)
       b h.prefix h.suffix (h.is ∙ sym (kind_3 (field_at bytes (5 + format.width) format.width) m)) (omega arith) e
-
--- ---- the tests of a run of offsets
-
-module _ (w n size : ℕ) (bytes : List ℕ) (at count : ℕ) where
-  pub run_short : length bytes < at + w * count → false ≡ offsets_good w n size bytes at count
-  unfolding offsets_good
-  run_short h = rw (leb-false (at + w * count) (length bytes) h)
-
-  pub run-first : field_at bytes 5 w ≢ field_at bytes at w → false ≡ offsets_good w n size bytes at count
-  unfolding offsets_good
-  run-first d = rw (eqb-ne (field_at bytes 5 w) (field_at bytes at w) d, and-false)
-
-  pub run-order : (r : Bool) → at + w * count ≤ length bytes → field_at bytes 5 w ≡ field_at bytes at w
-      → r ≡ offsets_in_range n size (fields_of w count (drop at bytes))
-      → r ≡ offsets_good w n size bytes at count
-  unfolding offsets_good
-  run-order r h e q = rw (leb-true (at + w * count) (length bytes) h, e, eqb_same) q
 
 -- ---- sizes in 64 bits
 
@@ -382,7 +361,3 @@ times-small w x h = mul-le-mul_right x h
 
 pub field-small : (w x : ℕ) → w ≤ 3 → x < 256 ^ w → x < 16777216
 field-small w x h l = omega (arith, pow-le-pow_right {n = 256} (omega arith) h)
-
--- a run that has a field has room for the first
-pub first-room : (w count : ℕ) → 1 ≤ count → w ≤ w * count
-first-room w count h = omega (arith, mul-le-mul_left w h)

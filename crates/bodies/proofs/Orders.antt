@@ -1,5 +1,5 @@
 -- Offsets in order, tested one after the other with the least that the next may be. Assumes nothing.
-use mathlib.Core.Path.{◌≡◌, refl, sym, ap, ◌∙◌}
+use mathlib.Core.Path.{◌≡◌, refl}
 use mathlib.Core.Bool.{Bool, true, false, ◌&&◌}
 use mathlib.Core.List.{List, [], ◌∷◌}
 use Prim.Native.Nat.{ℕ, suc, ◌+◌, ◌-◌, ◌*◌, ◌≤◌, ◌<◌}
@@ -10,17 +10,7 @@ use lib.Dec.{leb, ltb, leb-zero}
 use lib.ListN.{drop}
 use lib.Seq.{drop-drop}
 use Rattle.spec.specs.Bytes.{field_at, fields_of, rising, every}
-use Rattle.spec.specs.Records.{reach}
-use Rattle.spec.proofs.Tests.{leb-true, leb-false}
 use Rattle.bodies.specs.Check.{offsets_in_range}
-
-pub reach-low : (n size : ℕ) → n - 1 < size → n - 1 ≡ reach n size
-unfolding reach
-reach-low n size h = omega arith
-
-pub reach-high : (n size : ℕ) → size ≤ n - 1 → size ≡ reach n size
-unfolding reach
-reach-high n size h = omega arith
 
 module _ (n size : ℕ) where
   abbrev pub order_from : ℕ → List ℕ → Bool
@@ -42,33 +32,23 @@ module _ (n size : ℕ) where
   order-all [] = refl
   order-all (x ∷ xs) = rw (leb-zero x, order-next x xs) (regroup true (leb (x + n) size) (rising (x ∷ xs)) (every (λ at. leb (at + n) size) xs))
 
-  -- ---- one field of a run
+  -- one field of a run: the test of fields from k on is that of field k, and of those behind it
+  pub order-turn : (w count at k least : ℕ) (bytes : List ℕ) → k < count → order_from least (fields_of w (count - k) (drop (at + w * k) bytes))
+      ≡ (leb least (field_at bytes (at + w * k) w)
+      && (leb (field_at bytes (at + w * k) w + n) size
+      && order_from (field_at bytes (at + w * k) w + 1) (fields_of w (count - (k + 1)) (drop (at + w * (k + 1)) bytes))))
+  unfolding fields_of
+  order-turn w count at k least bytes more = go (count - k) (count - (k + 1)) (omega arith)
+    where
+      next : at + w * k + w ≡ at + w * (k + 1)
+      next = rw (add-one, mul-suc) (omega arith)
 
-  module _ (w left place least : ℕ) (bytes : List ℕ) (nonempty : 0 < left) where
-    pub order-turn : order_from least (fields_of w left (drop place bytes))
-        ≡ (leb least (field_at bytes place w)
-        && (leb (field_at bytes place w + n) size && order_from (field_at bytes place w + 1) (fields_of w (left - 1) (drop (place + w) bytes))))
-    unfolding fields_of
-    order-turn = go left (left - 1) (omega arith)
-      where
-        go : (l m : ℕ) → l ≡ suc m → order_from least (fields_of w l (drop place bytes))
-            ≡ (leb least (field_at bytes place w)
-            && (leb (field_at bytes place w + n) size && order_from (field_at bytes place w + 1) (fields_of w m (drop (place + w) bytes))))
-        go l m e = rw (e, ← drop-drop w place bytes, add-one)
+      go : (l m : ℕ) → l ≡ suc m → order_from least (fields_of w l (drop (at + w * k) bytes))
+          ≡ (leb least (field_at bytes (at + w * k) w)
+          && (leb (field_at bytes (at + w * k) w + n) size
+          && order_from (field_at bytes (at + w * k) w + 1) (fields_of w m (drop (at + w * (k + 1)) bytes))))
+      go l m e = rw (e, ← next, ← drop-drop w (at + w * k) bytes, add-one)
 
-    pub order-low : (x : ℕ) → x ≡ field_at bytes place w → x < least → false ≡ order_from least (fields_of w left (drop place bytes))
-    order-low x e h = sym (order-turn ∙ rw (← e, leb-false least x h))
-
-    pub order-out : (x : ℕ) → x ≡ field_at bytes place w → least ≤ x → size < x + n → false ≡ order_from least (fields_of w left (drop place bytes))
-    order-out x e h l = sym (order-turn ∙ rw (← e, leb-true least x h, leb-false (x + n) size l))
-
-    pub order-on : (x : ℕ) → x ≡ field_at bytes place w → least ≤ x → x + n ≤ size
-        → order_from (x + 1) (fields_of w (left - 1) (drop (place + w) bytes)) ≡ order_from least (fields_of w left (drop place bytes))
-    order-on x e h l = sym (order-turn ∙ rw (← e, leb-true least x h, leb-true (x + n) size l))
-
-pub mul-less : (w left : ℕ) → 0 < left → w * left ≡ w + w * (left - 1)
-mul-less w left h = let e : left ≡ suc (left - 1) = omega arith in ap (λ (x : ℕ). w * x) e ∙ mul-suc w (left - 1) ∙ omega arith
-
-pub order-done : (n size w left least : ℕ) (l : List ℕ) → left ≡ 0 → true ≡ order_from n size least (fields_of w left l)
-unfolding fields_of
-order-done n size w left least l e = rw e
+  pub order-done : (w count k least : ℕ) (l : List ℕ) → count ≤ k → order_from least (fields_of w (count - k) l) ≡ true
+  unfolding fields_of
+  order-done w count k least l h = let e : count - k ≡ 0 = omega arith in rw e

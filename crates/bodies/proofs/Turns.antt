@@ -1,13 +1,15 @@
 -- The body check, a turn for each keyword: what the bytes from the place on say of the rest of the keywords is what the body says of all.
 use mathlib.Core.Path.{◌≡◌, refl, sym, ap, ◌∙◌}
-use mathlib.Core.Logic.{◌≢◌, ◌⊎◌, inl, inr}
-use mathlib.Core.Bool.{Bool, true, false, ◌&&◌, not, cond, and-true, false≢true}
+use mathlib.Core.Logic.{◌⊎◌, inl, inr}
+use mathlib.Core.Bool.{Bool, true, false, ◌&&◌, not, cond, false≢true}
 use mathlib.Core.List.{List, [], ◌∷◌}
 use Prim.Native.Nat.{ℕ, suc, ◌+◌, ◌-◌, ◌≤◌, ◌<◌}
 use native.Mathlib.Numerals.{add-one}
 use native.Mathlib.Omega.{arith}
 use lib.Dec.{eqb}
-use lib.ListN.{length, take, drop, get_or, length-drop, length-take, drop_of_length-le}
+use Rattle.std.specs.Prelude.{Some, None}
+use Rattle.std.proofs.lemmas.Option.{none-some, cond_some}
+use lib.ListN.{length, take, drop, get_or, length-drop, drop_of_length-le}
 use lib.Seq.{drop-cons, drop-drop, get_or-take, take_all, length-take-le}
 use Rattle.spec.specs.Bytes.{begins}
 use Rattle.spec.specs.declared.Format.{Format}
@@ -20,7 +22,7 @@ use Rattle.spec.proofs.RecordLaws.{eq_of}
 use Rattle.bodies.specs.Check.{good_size, record_part, set_part, Lengths, KeywordLengths}
 use Rattle.bodies.proofs.StepLaws.{good-is-from, good-end, taken_here, taken_none, set_here, set-none, good-step, good-absent}
 use Rattle.bodies.proofs.KindChecks.{fields-good}
-use Rattle.bodies.proofs.RecordChecks.{tiny-of, full-of, size-zero, size-least}
+use Rattle.bodies.proofs.RecordChecks.{tiny-of, full-of, size-zero}
 use Rattle.body_sets.proofs.SetChecks.{set-head, six}
 
 -- the part that starts at `at` is all behind it
@@ -29,67 +31,33 @@ behind body at = take_all (length body - at) (drop at body) (omega (arith, lengt
 
 -- ---- the next number
 
-pub next-none : (body : List ℕ) (at k : ℕ) → length body ≤ at → false ≡ begins (k ∷ []) (drop at body)
-next-none body at k h = rw (drop_of_length-le body h)
-
-pub next-some : (body : List ℕ) (at k : ℕ) → at < length body → eqb k (get_or body at 0) ≡ begins (k ∷ []) (drop at body)
-next-some body at k h = rw (drop-cons body at 0 h, and-true)
-
 pub begins-head : (bytes : List ℕ) (k : ℕ) → begins (k ∷ []) bytes ≡ true → (1 ≤ length bytes) × (get_or bytes 0 0 ≡ k)
 begins-head [] k e = absurd (false≢true e)
 begins-head (b ∷ bytes) k e = (omega arith, sym (eq_of k b (and_left (eqb k b) true e)))
 
--- ---- what the record's size says
-
-size-bad : (format : Format) (n size : ℕ) (bytes : List ℕ) → good_size format n size bytes ≡ 0 → record_good (form_in format) n (get_or bytes 0 0) size bytes ≡ false
-unfolding good_size
-size-bad format n size bytes e = go (record_good (form_in format) n (get_or bytes 0 0) size bytes) e
-  where
-    go : (b : Bool) → cond b (record_size (form_in format) bytes) 0 ≡ 0 → b ≡ false
-    go true q = let z : ⊥ = omega (arith, size-least (form_in format) bytes) in absurd z
-    go false q = refl
-
-size-good : (format : Format) (n size : ℕ) (bytes : List ℕ) → good_size format n size bytes ≢ 0
-    → (record_good (form_in format) n (get_or bytes 0 0) size bytes ≡ true) × (good_size format n size bytes ≡ record_size (form_in format) bytes)
-unfolding good_size
-size-good format n size bytes d = go (record_good (form_in format) n (get_or bytes 0 0) size bytes) d
-  where
-    go : (b : Bool) → cond b (record_size (form_in format) bytes) 0 ≢ 0
-        → (b ≡ true) × (cond b (record_size (form_in format) bytes) 0 ≡ record_size (form_in format) bytes)
-    go true q = (refl, refl)
-    go false q = absurd (q refl)
-
 -- a good record lies within the bytes
-pub size-within : (format : Format) (n size : ℕ) (bytes : List ℕ) → Lengths format n size → 1 ≤ length bytes → good_size format n size bytes ≤ length bytes
-size-within format n size bytes l start = go (le-or-lt (good_size format n size bytes) 0) (le-or-lt 1 (get_or bytes 1 0))
+size-within : (format : Format) (n size : ℕ) (bytes : List ℕ) → Lengths format n size → 1 ≤ length bytes
+    → record_good (form_in format) n (get_or bytes 0 0) size bytes ≡ true → record_size (form_in format) bytes ≤ length bytes
+size-within format n size bytes l start e = go (le-or-lt 1 (get_or bytes 1 0))
   where
-    go : (good_size format n size bytes ≤ 0) ⊎ (0 < good_size format n size bytes) → (1 ≤ get_or bytes 1 0) ⊎ (get_or bytes 1 0 < 1)
-        → good_size format n size bytes ≤ length bytes
-    go (inl h) _ = omega arith
-    go (inr h) (inl k) =
-        let g = size-good format n size bytes (omega arith) in
-        omega (arith, g.1, (full-of (form_in format) (fields-good format l.fields) n size bytes l.positive l.fit k start g.0).long)
-    go (inr h) (inr k) =
+    go : (1 ≤ get_or bytes 1 0) ⊎ (get_or bytes 1 0 < 1) → record_size (form_in format) bytes ≤ length bytes
+    go (inl k) = (full-of (form_in format) (fields-good format l.fields) n size bytes l.positive l.fit k start e).long
+    go (inr k) =
         let z : get_or bytes 1 0 ≡ 0 = omega arith in
-        let g = size-good format n size bytes (omega arith) in
-        omega (arith, g.1, size-zero (form_in format) bytes z, (tiny-of (form_in format) n size bytes start z g.0).long)
+        omega (arith, size-zero (form_in format) bytes z, (tiny-of (form_in format) n size bytes start z e).long)
 
--- ---- a part: one more than what is taken, or 0
+-- ---- a part: what is taken, or None
 
-part-zero : (b : Bool) (taken : ℕ) → cond b (taken + 1) 0 ≡ 0 → b ≡ false
-part-zero true taken e = let z : ⊥ = omega arith in absurd z
-part-zero false taken e = refl
-
-part-some : (b : Bool) (taken : ℕ) → cond b (taken + 1) 0 ≢ 0 → (b ≡ true) × (cond b (taken + 1) 0 ≡ taken + 1)
-part-some true taken d = (refl, refl)
-part-some false taken d = absurd (d refl)
+part-none : (b : Bool) (taken : ℕ) → None ≡ cond b (Some taken) None → b ≡ false
+part-none true taken e = absurd (none-some taken e)
+part-none false taken e = refl
 
 module _ (format : Format) (n k size : ℕ) (bytes : List ℕ) where
   abbrev f : Form
   f = form_in format
 
   -- a set is next, and no record
-  pub record-absent : set_is_next f k bytes ≡ true → 1 ≡ record_part format n k size bytes
+  pub record-absent : set_is_next f k bytes ≡ true → Some 0 ≡ record_part format n k size bytes
   unfolding record_part record_good_next record_taken
   record-absent q = rw q
 
@@ -105,28 +73,20 @@ module _ (format : Format) (n k size : ℕ) (bytes : List ℕ) where
     unfolding record_good_next
     good-is = rw next (ap (λ (x : ℕ). record_good f n x size bytes) (sym record-head.1))
 
-    pub record-bad : good_size format n size bytes ≡ 0 → 0 ≡ record_part format n k size bytes
-    unfolding record_part
-    record-bad e = rw (good-is ∙ size-bad format n size bytes e)
-
-    pub record-taken : (taken : ℕ) → taken ≡ good_size format n size bytes → taken ≢ 0 → taken + 1 ≡ record_part format n k size bytes
-    unfolding record_part
-    record-taken taken q d =
-        let g = size-good format n size bytes (λ z. d (q ∙ z)) in
-        rw (good-is ∙ g.0, taken_here f k bytes next) (ap (λ (x : ℕ). x + 1) (q ∙ g.1))
+    pub record-here : good_size format n size bytes ≡ record_part format n k size bytes
+    unfolding good_size record_part
+    record-here = rw (good-is, taken_here f k bytes next)
 
   -- a good record lies within the bytes
   record-within : Lengths format n size → record_good_next f n k size bytes ≡ true → record_taken f k bytes ≤ length bytes
-  unfolding good_size
   record-within l e = go (bool_cases (record_is_next f k bytes))
     where
       go : (record_is_next f k bytes ≡ true) ⊎ (record_is_next f k bytes ≡ false) → record_taken f k bytes ≤ length bytes
       go (inl q) =
-          let s : good_size format n size bytes ≡ record_size f bytes = rw (sym (good-is q) ∙ e) in
-          omega (arith, taken_here f k bytes q, s, size-within format n size bytes l (record-head q).0)
+          omega (arith, taken_here f k bytes q, size-within format n size bytes l (record-head q).0 (sym (good-is q) ∙ e))
       go (inr q) = omega (arith, taken_none f k bytes q)
 
-  pub set-absent : set_is_next f k bytes ≡ false → 1 ≡ set_part format n k size bytes
+  pub set-absent : set_is_next f k bytes ≡ false → Some 0 ≡ set_part format n k size bytes
   unfolding set_part set_good_next set_taken
   set-absent q = rw q
 
@@ -135,11 +95,11 @@ module _ (format : Format) (n k size : ℕ) (bytes : List ℕ) where
     unfolding set_good_next
     set_is = rw here (ap (λ (x : ℕ). set_good n x size bytes) (sym (set-head f k bytes here).1))
 
-    pub set-bad : set_good n (get_or bytes 0 0) size bytes ≡ false → 0 ≡ set_part format n k size bytes
+    pub set-bad : set_good n (get_or bytes 0 0) size bytes ≡ false → None ≡ set_part format n k size bytes
     unfolding set_part
     set-bad e = rw (set_is ∙ e)
 
-    pub set-taken : set_good n (get_or bytes 0 0) size bytes ≡ true → 7 ≡ set_part format n k size bytes
+    pub set-taken : set_good n (get_or bytes 0 0) size bytes ≡ true → Some 6 ≡ set_part format n k size bytes
     unfolding set_part
     set-taken e = rw (set_is ∙ e, set_here f k bytes here)
 
@@ -168,9 +128,12 @@ module _ (format : Format) (lengths body : List ℕ) (count size : ℕ) (ready :
   pub left-all : left 0 0 ≡ good_body (form_in format) (take count lengths) size body
   left-all = sym (good-is-from (form_in format) (take count lengths) size body)
 
-  module _ (k at : ℕ) (h : k < count) where
+  module _ (k at : ℕ) (h : k < length (take count lengths)) where
+    below : k < count
+    below = omega (arith, length-take-le count lengths ready.room)
+
     abbrev n : ℕ
-    n = get_or lengths k 0
+    n = get_or (take count lengths) k 0
 
     abbrev form : Form
     form = form_in format
@@ -179,17 +142,17 @@ module _ (format : Format) (lengths body : List ℕ) (count size : ℕ) (ready :
     rest = drop at body
 
     here : drop k (take count lengths) ≡ n ∷ drop (k + 1) (take count lengths)
-    here =
-        let l : k < length (take count lengths) = rw (length-take-le count lengths ready.room) h in
-        drop-cons (take count lengths) k 0 l ∙ rw (get_or-take count lengths k 0 h, add-one)
+    here = drop-cons (take count lengths) k 0 h ∙ rw add-one
 
     pub turn-length : Lengths format n size
-    turn-length = record { fields = ready.fields; positive = (ready.each k h).0; short = (ready.each k h).1; fit = ready.fit }
+    turn-length =
+        let e = get_or-take count lengths k 0 below in
+        record { fields = ready.fields; positive = rw e (ready.each k below).0; short = rw e (ready.each k below).1; fit = ready.fit }
 
     pub turn-absent : begins (k ∷ []) rest ≡ false → left (k + 1) at ≡ left k at
     turn-absent e =
         sym (rw (here, add-one)
-        (good-absent form (fields-good format ready.fields) k n (drop (suc k) (take count lengths)) size rest (ready.each k h).0 ready.fit e))
+        (good-absent form (fields-good format ready.fields) k n (drop (suc k) (take count lengths)) size rest turn-length.positive ready.fit e))
 
     -- behind the record
     abbrev after : List ℕ
@@ -200,70 +163,59 @@ module _ (format : Format) (lengths body : List ℕ) (count size : ℕ) (ready :
         && (set_good_next form n k size after && good_from form (k + 1) (drop (k + 1) (take count lengths)) size (behind_keyword form k rest)))
     step =
         rw (here, add-one)
-        (good-step form (fields-good format ready.fields) k n (drop (suc k) (take count lengths)) size rest (ready.each k h).0 ready.fit)
+        (good-step form (fields-good format ready.fields) k n (drop (suc k) (take count lengths)) size rest turn-length.positive ready.fit)
 
     -- what the record's part says
-    module _ (first : ℕ) (q : first ≡ record_part format n k size rest) where
-      pub turn-bad : first ≡ 0 → false ≡ left k at
+    pub turn-bad : None ≡ record_part format n k size rest → false ≡ left k at
+    unfolding record_part
+    turn-bad q = sym (step ∙ rw (part-none (record_good_next form n k size rest) (record_taken form k rest) q))
+
+    module _ (first : ℕ) (q : Some first ≡ record_part format n k size rest) where
+      fine : (record_good_next form n k size rest ≡ true) × (record_taken form k rest ≡ first)
       unfolding record_part
-      turn-bad z = sym (step ∙ rw (part-zero (record_good_next form n k size rest) (record_taken form k rest) (sym q ∙ z)))
+      fine = cond_some (record_good_next form n k size rest) (record_taken form k rest) first (sym q)
 
-      module _ (d : first ≢ 0) where
-        fine : (record_good_next form n k size rest ≡ true) × (record_part format n k size rest ≡ record_taken form k rest + 1)
-        unfolding record_part
-        fine = part-some (record_good_next form n k size rest) (record_taken form k rest) (λ z. d (q ∙ z))
+      abbrev place : ℕ
+      place = at + first
 
-        abbrev place : ℕ
-        place = at + (first - 1)
+      pub turn-within : at ≤ length body → place ≤ length body
+      turn-within l = omega (arith, fine.1, length-drop at body, record-within format n k size rest turn-length fine.0)
 
-        place_is : place ≡ at + record_taken form k rest
-        place_is = omega (arith, q, fine.1)
+      after_is : after ≡ drop place body
+      after_is = drop-drop (record_taken form k rest) at body ∙ ap (λ (x : ℕ). drop (at + x) body) fine.1
 
-        pub turn-within : at ≤ length body → place ≤ length body
-        turn-within l = omega (arith, place_is, length-drop at body, record-within format n k size rest turn-length fine.0)
+      -- what the set's part says
+      pub turn-set-bad : None ≡ set_part format n k size (drop place body) → false ≡ left k at
+      unfolding set_part
+      turn-set-bad r =
+          let b : set_good_next form n k size after ≡ false =
+          ap (set_good_next form n k size) after_is
+          ∙ part-none (set_good_next form n k size (drop place body)) (set_taken form k (drop place body)) r
+          in
+          sym (step ∙ rw (fine.0, b))
 
-        after_is : after ≡ drop place body
-        after_is = drop-drop (record_taken form k rest) at body ∙ ap (λ (x : ℕ). drop x body) (sym place_is)
+      module _ (second : ℕ) (r : Some second ≡ set_part format n k size (drop place body)) where
+        set-fine : (set_good_next form n k size (drop place body) ≡ true) × (set_taken form k (drop place body) ≡ second)
+        unfolding set_part
+        set-fine = cond_some (set_good_next form n k size (drop place body)) (set_taken form k (drop place body)) second (sym r)
 
-        -- what the set's part says
-        module _ (second : ℕ) (r : second ≡ set_part format n k size (drop place body)) where
-          pub turn-set-bad : second ≡ 0 → false ≡ left k at
-          unfolding set_part
-          turn-set-bad z =
-              let b : set_good_next form n k size after ≡ false =
-              ap (set_good_next form n k size) after_is
-              ∙ part-zero (set_good_next form n k size (drop place body)) (set_taken form k (drop place body)) (sym r ∙ z)
-              in
-              sym (step ∙ rw (fine.0, b))
+        pub turn_end : at ≤ length body → place + second ≤ length body
+        turn_end l = omega (arith, set-fine.1, turn-within l, length-drop place body, set-within format n k size (drop place body) set-fine.0)
 
-          module _ (e : second ≢ 0) where
-            set-fine : (set_good_next form n k size (drop place body) ≡ true)
-                × (set_part format n k size (drop place body) ≡ set_taken form k (drop place body) + 1)
-            unfolding set_part
-            set-fine = part-some (set_good_next form n k size (drop place body)) (set_taken form k (drop place body)) (λ z. e (r ∙ z))
+        pub turn-good : left (k + 1) (place + second) ≡ left k at
+        turn-good =
+            let b : set_good_next form n k size after ≡ true = ap (set_good_next form n k size) after_is ∙ set-fine.0 in
+            let c : behind_keyword form k rest ≡ drop (place + second) body =
+            behind-both form k rest
+            ∙ ap (λ (l : List ℕ). drop (set_taken form k l) l) after_is
+            ∙ drop-drop (set_taken form k (drop place body)) place body
+            ∙ ap (λ (x : ℕ). drop (place + x) body) set-fine.1
+            in
+            sym (step ∙ rw (fine.0, b, c))
 
-            -- behind the set
-            end_is : place + (second - 1) ≡ place + set_taken form k (drop place body)
-            end_is = omega (arith, r, set-fine.1)
-
-            pub turn_end : at ≤ length body → place + (second - 1) ≤ length body
-            turn_end l = omega (arith, end_is, turn-within l, length-drop place body, set-within format n k size (drop place body) set-fine.0)
-
-            pub turn-good : left (k + 1) (place + (second - 1)) ≡ left k at
-            turn-good =
-                let b : set_good_next form n k size after ≡ true = ap (set_good_next form n k size) after_is ∙ set-fine.0 in
-                let c : behind_keyword form k rest ≡ drop (place + (second - 1)) body =
-                behind-both form k rest
-                ∙ ap (λ (l : List ℕ). drop (set_taken form k l) l) after_is
-                ∙ drop-drop (set_taken form k (drop place body)) place body
-                ∙ ap (λ (x : ℕ). drop x body) (sym end_is)
-                in
-                sym (step ∙ rw (fine.0, b, c))
-
-  pub left_end : (k at : ℕ) → count ≤ k → at ≤ length body → eqb at (length body) ≡ left k at
+  pub left_end : (k at : ℕ) → length (take count lengths) ≤ k → at ≤ length body → eqb at (length body) ≡ left k at
   left_end k at h l =
-      let n : length (take count lengths) ≤ k = rw length-take (omega arith) in
-      let d : drop k (take count lengths) ≡ [] = drop_of_length-le (take count lengths) n in
+      let d : drop k (take count lengths) ≡ [] = drop_of_length-le (take count lengths) h in
       sym
       (ap (λ (l : List ℕ). good_from (form_in format) k l size (drop at body)) d
       ∙ good-end (form_in format) k size (drop at body)

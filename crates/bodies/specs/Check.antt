@@ -1,22 +1,22 @@
 -- What the functions of the body check answer, for any format whose fields fit.
-use Rattle.std.specs.Prelude.{Bool, ◌&&◌, cond, List, ◌≡◌, ℕ, ◌+◌, ◌*◌, ◌^◌, ◌≤◌, ◌<◌, length, drop, get_or, eqb, leb}
+use Rattle.std.specs.Prelude.{Bool, ◌&&◌, cond, Option, Some, None, List, ◌≡◌, ℕ, ◌+◌, ◌*◌, ◌^◌, ◌≤◌, ◌<◌, length, drop, get_or, eqb, leb}
 use Rattle.spec.specs.Bytes.{field_at, fields_of, rising, every}
 use Rattle.spec.specs.declared.Format.{Format}
 use Rattle.spec.specs.Form.{form_in}
 use Rattle.spec.specs.Records.{reach, record_size, record_taken, set_taken}
 use Rattle.bodies.specs.Steps.{record_good, record_good_next, set_good_next}
 
--- The size of the good record that the bytes start with, for a keyword of length n and a chunk of length `size`; 0 if they start with none.
-unfoldable pub good_size : Format → ℕ → ℕ → List ℕ → ℕ
-good_size format n size bytes = cond (record_good (form_in format) n (get_or bytes 0 0) size bytes) (record_size (form_in format) bytes) 0
+-- The size of the good record that the bytes start with, for a keyword of length n and a chunk of length `size`, if they start with one.
+unfoldable pub good_size : Format → ℕ → ℕ → List ℕ → Option ℕ
+good_size format n size bytes = cond (record_good (form_in format) n (get_or bytes 0 0) size bytes) (Some (record_size (form_in format) bytes)) None
 
--- One more than the bytes that keyword k's record takes, which is 1 where it is not next; 0 where it is not good.
-unfoldable pub record_part : Format → ℕ → ℕ → ℕ → List ℕ → ℕ
-record_part format n k size bytes = cond (record_good_next (form_in format) n k size bytes) (record_taken (form_in format) k bytes + 1) 0
+-- How many bytes keyword k's record takes, which is 0 where it is not next; None where it is not good.
+unfoldable pub record_part : Format → ℕ → ℕ → ℕ → List ℕ → Option ℕ
+record_part format n k size bytes = cond (record_good_next (form_in format) n k size bytes) (Some (record_taken (form_in format) k bytes)) None
 
 -- The same of its set.
-unfoldable pub set_part : Format → ℕ → ℕ → ℕ → List ℕ → ℕ
-set_part format n k size bytes = cond (set_good_next (form_in format) n k size bytes) (set_taken (form_in format) k bytes + 1) 0
+unfoldable pub set_part : Format → ℕ → ℕ → ℕ → List ℕ → Option ℕ
+set_part format n k size bytes = cond (set_good_next (form_in format) n k size bytes) (Some (set_taken (form_in format) k bytes)) None
 
 -- Offsets rise and leave room for the n bytes of the keyword.
 unfoldable pub offsets_in_range : ℕ → ℕ → List ℕ → Bool

@@ -16,7 +16,7 @@ use Rattle.spec.specs.Bytes.{AllBytes, le_value, le_bytes, field_at, same, begin
 use Rattle.spec.specs.declared.Format.{Format}
 use Rattle.spec.specs.Form.{Form, form3, form_in}
 use Rattle.spec.specs.Records.{set_bytes, set_in_range, set_is_next}
-use Rattle.spec.proofs.Tests.{le-or-lt, false_of, and_left, and_right, eqb_same, eqb-ne}
+use Rattle.spec.proofs.Tests.{le-or-lt, false_of, and_left, and_right, eqb-ne}
 use Rattle.spec.proofs.Begins.{begins-short}
 use Rattle.spec.proofs.Same.{same-eq, same_of}
 use Rattle.spec.proofs.Fields.{length-le_bytes}
@@ -43,18 +43,6 @@ module _ (format : Format) (body : List ℕ) (at k : ℕ) where
 
       pub other-number : k ≢ get_or body at 0 → false ≡ set_is_next (form_in format) k (drop at body)
       other-number d = rw (two, eqb-ne k (get_or body at 0) d) (sym (and-false format.sets))
-
-      pub its-kind : format.sets ≡ true → k ≡ get_or body at 0 → eqb (get_or body (at + 1) 0) 4 ≡ set_is_next (form_in format) k (drop at body)
-      its-kind e d =
-          let z : eqb k (get_or body at 0) ≡ true = ap (eqb k) (sym d) ∙ eqb_same k in
-          turned (get_or body (at + 1) 0) 4
-          ∙ ap (λ (b : Bool). b && eqb 4 (get_or body (at + 1) 0)) (sym z)
-          ∙ sym two
-          ∙ ap (λ (b : Bool). b && begins (k ∷ 4 ∷ []) (drop at body)) (sym e)
-        where
-          turned : (a b : ℕ) → eqb a b ≡ eqb b a
-          turned a b =
-              bool-ext (eqb a b) (eqb b a) (λ e. let z : a ≡ b = eq_of a b e in rw z (eqb_same b)) (λ e. let z : b ≡ a = eq_of b a e in rw z (eqb_same a))
 
 -- the first two bytes of a set
 pub set-head : (f : Form) (k : ℕ) (bytes : List ℕ) → set_is_next f k bytes ≡ true → (2 ≤ length bytes) × (get_or bytes 0 0 ≡ k) × (get_or bytes 1 0 ≡ 4)

@@ -13,16 +13,7 @@ pub fn is_set(body: &[u8], at: usize, format: Format, k: usize) -> bool
     requires { at ≤ length body.now }
     ensures { result ≡ set_is_next (form_in format) k (drop at body.now) }
 {
-    if !format.sets {
-        return false;
-    }
-    if body.len() - at < 2 {
-        return false;
-    }
-    if k != body[at] as usize {
-        return false;
-    }
-    body[at + 1] == 4
+    format.sets && 2 <= body.len() - at && k == body[at] as usize && body[at + 1] == 4
 }
 
 // The bytes, which start with a set's number and kind, start with a good set for a keyword of length n and a chunk of length `size`: all there, not
@@ -35,14 +26,5 @@ pub fn set_good(bytes: &[u8], n: usize, size: usize) -> bool
         return false;
     }
     let set = field::read(bytes, 2, 4);
-    if set == 0 {
-        return false;
-    }
-    if set % 2 == 1 {
-        return false;
-    }
-    if n <= size {
-        return false;
-    }
-    set >> (n - size) == 0
+    set != 0 && set % 2 == 0 && size < n && set >> (n - size) == 0
 }

@@ -30,84 +30,69 @@ fn mark_of(node: usize, logged: usize) -> u32
     ensures { result ≡ node * 2 + cond (eqb logged 0) 0 1 }
 {
     if logged == 0 {
-        return node as u32 * 2;
+        node as u32 * 2
+    } else {
+        node as u32 * 2 + 1
     }
-    node as u32 * 2 + 1
 }
 
 // Walks a chunk and measures its body.
 pub fn measure(
-    list: &[u8],
-    words: keywords::Keywords,
+    m: &windows::Machine,
     chunk: &[u8],
-    table: &[u32],
-    ends: &[u32],
-    tails: &[u8],
     log: &mut [u32],
     run1: &mut [u32],
     run2: &mut [u32],
     run3: &mut [u32],
 ) -> Measured
-    requires { Equipped list.now words table.now ends.now tails.now log.old run1.old run2.old run3.old
+    requires { Equipped m.now.list.now m.now.words m.now.table.now m.now.ends.now m.now.tails.now log.old run1.old run2.old run3.old
         × (length chunk.now ≤ newest.longest_chunk) }
-    ensures { result ≡ measured_of list.now chunk.now }
+    ensures { result ≡ measured_of m.now.list.now chunk.now }
 {
-    let w = windows::count(list, words, chunk, table, ends, log, run1, run2, run3);
-    let size = records::body_size(list, words, chunk, tails, w.node, w.tally);
+    let w = windows::count(m, chunk, log, run1, run2, run3);
+    let size = records::body_size(m.list, m.words, chunk, m.tails, w.node, w.tally);
     Measured {
-        size: size,
+        size,
         moves: w.moves,
         mark: mark_of(w.node, w.logged),
     }
 }
 
 // Writes the body of a chunk in which no keyword occurs at the buffer's start: its length. `node` is the last of its walk.
-fn put_unwalked(
-    out: &mut [u8],
-    list: &[u8],
-    words: keywords::Keywords,
-    chunk: &[u8],
-    tails: &[u8],
-    node: usize,
-) -> usize
-    requires { Tells list.now words chunk.now tails.now node nothing × (length (scan_body newest list.now chunk.now) ≤ length out.old) }
-    ensures { (out.new ≡ written out.old (scan_body newest list.now chunk.now))
-        × (result ≡ length (scan_body newest list.now chunk.now)) }
+fn put_unwalked(out: &mut [u8], m: &windows::Machine, chunk: &[u8], node: usize) -> usize
+    requires { Tells m.now.list.now m.now.words chunk.now m.now.tails.now node nothing
+        × (length (scan_body newest m.now.list.now chunk.now) ≤ length out.old) }
+    ensures { (out.new ≡ written out.old (scan_body newest m.now.list.now chunk.now))
+        × (result ≡ length (scan_body newest m.now.list.now chunk.now)) }
 {
     let none = logs::Tally {
-        counts: [0usize; 16],
-        firsts: [0usize; 16],
+        counts: [0; 16],
+        firsts: [0; 16],
     };
-    let started = records::put_starts(out, list, words, chunk, tails, node, none);
-    started.size
+    records::put_starts(out, m.list, m.words, chunk, m.tails, node, none).size
 }
 
 // Walks a chunk of one window and writes its body at the buffer's start: the lists are filled from the log that the walk left.
 fn put_short(
     out: &mut [u8],
-    list: &[u8],
-    words: keywords::Keywords,
+    m: &windows::Machine,
     chunk: &[u8],
-    table: &[u32],
-    ends: &[u32],
-    tails: &[u8],
     log: &mut [u32],
     run1: &mut [u32],
     run2: &mut [u32],
     run3: &mut [u32],
 ) -> Written
-    requires { Equipped list.now words table.now ends.now tails.now log.old run1.old run2.old run3.old
+    requires { Equipped m.now.list.now m.now.words m.now.table.now m.now.ends.now m.now.tails.now log.old run1.old run2.old run3.old
         × (length chunk.now ≤ newest.longest_chunk) × (length chunk.now ≤ 65536)
-        × (length (scan_body newest list.now chunk.now) ≤ length out.old) }
-    ensures { (out.new ≡ written out.old (scan_body newest list.now chunk.now))
-        × (result ≡ written_of list.now chunk.now 1) }
+        × (length (scan_body newest m.now.list.now chunk.now) ≤ length out.old) }
+    ensures { (out.new ≡ written out.old (scan_body newest m.now.list.now chunk.now))
+        × (result ≡ written_of m.now.list.now chunk.now 1) }
 {
-    let w = windows::count_window(list, words, 0, chunk, 0, table, ends, log, run1, run2, run3);
-    let tally = w.tally;
-    let started = records::put_starts(out, list, words, chunk, tails, w.node, tally);
-    let counts = tally.counts;
+    let w = windows::count_window(m, 0, chunk, 0, log, run1, run2, run3);
+    let started = records::put_starts(out, m.list, m.words, chunk, m.tails, w.node, w.tally);
     let mut cursors = started.cursors;
-    offset_lists::put_log(out, &mut cursors, words, &counts, ends, &log[..w.logged]);
+    let entries = &log[..w.logged];
+    offset_lists::put_log(out, &mut cursors, m.words, &w.tally.counts, m.ends, entries);
     Written {
         size: started.size,
         moves: w.moves,
@@ -117,27 +102,21 @@ fn put_short(
 // Walks a chunk of several windows, begins its body at the buffer's start, and walks it again to fill the lists.
 fn put_long(
     out: &mut [u8],
-    list: &[u8],
-    words: keywords::Keywords,
+    m: &windows::Machine,
     chunk: &[u8],
-    table: &[u32],
-    ends: &[u32],
-    tails: &[u8],
     log: &mut [u32],
     run1: &mut [u32],
     run2: &mut [u32],
     run3: &mut [u32],
 ) -> Written
-    requires { Equipped list.now words table.now ends.now tails.now log.old run1.old run2.old run3.old
-        × (length chunk.now ≤ newest.longest_chunk) × (length (scan_body newest list.now chunk.now) ≤ length out.old) }
-    ensures { (out.new ≡ written out.old (scan_body newest list.now chunk.now))
-        × (result ≡ written_of list.now chunk.now 1) }
+    requires { Equipped m.now.list.now m.now.words m.now.table.now m.now.ends.now m.now.tails.now log.old run1.old run2.old run3.old
+        × (length chunk.now ≤ newest.longest_chunk) × (length (scan_body newest m.now.list.now chunk.now) ≤ length out.old) }
+    ensures { (out.new ≡ written out.old (scan_body newest m.now.list.now chunk.now))
+        × (result ≡ written_of m.now.list.now chunk.now 1) }
 {
-    let w = windows::count(list, words, chunk, table, ends, log, run1, run2, run3);
-    let started = records::put_starts(out, list, words, chunk, tails, w.node, w.tally);
-    windows::fill(
-        out, list, words, chunk, table, ends, log, run1, run2, run3, w.tally, started,
-    );
+    let w = windows::count(m, chunk, log, run1, run2, run3);
+    let started = records::put_starts(out, m.list, m.words, chunk, m.tails, w.node, w.tally);
+    windows::fill(out, m, chunk, log, run1, run2, run3, w.tally, started);
     Written {
         size: started.size,
         moves: w.moves,
@@ -148,38 +127,27 @@ fn put_long(
 // where its walk ended.
 pub fn put(
     out: &mut [u8],
-    list: &[u8],
-    words: keywords::Keywords,
+    m: &windows::Machine,
     chunk: &[u8],
-    table: &[u32],
-    ends: &[u32],
-    tails: &[u8],
     log: &mut [u32],
     run1: &mut [u32],
     run2: &mut [u32],
     run3: &mut [u32],
     mark: u32,
 ) -> Written
-    requires { Equipped list.now words table.now ends.now tails.now log.old run1.old run2.old run3.old
-        × (length chunk.now ≤ newest.longest_chunk) × Usable list.now chunk.now mark
-        × (length (scan_body newest list.now chunk.now) ≤ length out.old) }
-    ensures { (out.new ≡ written out.old (scan_body newest list.now chunk.now))
-        × (result ≡ written_of list.now chunk.now mark) }
+    requires { Equipped m.now.list.now m.now.words m.now.table.now m.now.ends.now m.now.tails.now log.old run1.old run2.old run3.old
+        × (length chunk.now ≤ newest.longest_chunk) × Usable m.now.list.now chunk.now mark
+        × (length (scan_body newest m.now.list.now chunk.now) ≤ length out.old) }
+    ensures { (out.new ≡ written out.old (scan_body newest m.now.list.now chunk.now))
+        × (result ≡ written_of m.now.list.now chunk.now mark) }
 {
     if mark % 2 == 0 {
         let node = (mark / 2) as usize;
-        let size = put_unwalked(out, list, words, chunk, tails, node);
-        return Written {
-            size: size,
-            moves: 0,
-        };
+        let size = put_unwalked(out, m, chunk, node);
+        Written { size, moves: 0 }
+    } else if chunk.len() <= windows::WINDOW {
+        put_short(out, m, chunk, log, run1, run2, run3)
+    } else {
+        put_long(out, m, chunk, log, run1, run2, run3)
     }
-    if chunk.len() <= windows::WINDOW {
-        return put_short(
-            out, list, words, chunk, table, ends, tails, log, run1, run2, run3,
-        );
-    }
-    put_long(
-        out, list, words, chunk, table, ends, tails, log, run1, run2, run3,
-    )
 }

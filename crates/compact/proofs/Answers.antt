@@ -1,7 +1,7 @@
 -- The answers of a compaction, each by the tests that led there: the numbers before 9, the marked chunks, the new store's length. Assumes nothing.
 use mathlib.Core.Path.{◌≡◌, refl, sym, ap, ap₂, ◌∙◌}
 use mathlib.Core.Logic.{◌≢◌, ⊎_elim}
-use mathlib.Core.Bool.{Bool, true, false, not, cond}
+use mathlib.Core.Bool.{Bool, true, false, ◌||◌, not, cond, or-false}
 use mathlib.Core.List.{List, [], ◌∷◌, map}
 use Prim.Native.Nat.{ℕ, zero, suc, ◌+◌, ◌*◌, ◌≤◌, ◌<◌}
 use native.Mathlib.Nat.{sub-zero}
@@ -9,27 +9,25 @@ use native.Mathlib.Omega.{arith}
 use borrow.Author.Tests.{ne_eqb, lt-ltb, le-ltb}
 use lib.ListN.{length, get_or, replicate}
 use Rattle.spec.specs.Bytes.{contains, each, splice}
-use Rattle.spec.specs.Outcome.{answer, unless_refused}
-use Rattle.spec.specs.declared.Outcome.{Outcome}
-use Rattle.spec.specs.declared.Outcome.TheVariants.{Done, Refused}
+use Rattle.spec.specs.Outcome.{first_number, answer, unless_refused, not_found, Outcome, Done, Refused}
 use Rattle.spec.specs.Store.{Chunk, gapless, store_directory_bytes, store_bytes, chunk_count, store_keys, stored_chunk, stored_chunks, store_code}
 use Rattle.spec.specs.Recipes.{recipes_code}
 use Rattle.spec.specs.Compact.{named_in, named_among, compacted, compactable_code, compact_code, compact_size, compact_outcome, compact_buffer}
 use Rattle.spec.proofs.Tests.{bool_cases}
 use Rattle.spec.proofs.Codes.{refused-whole, next-whole}
 use Rattle.spec.proofs.StoreLaws.{store-good, length-store_keys}
-use Rattle.compact.specs.Marking.{all_found, MarkedAll, marked_at, marked_from, chunk_bytes}
+use Rattle.compact.specs.Marking.{all_found, found_code, MarkedAll, marked_at, marked_from, chunk_bytes}
 use Rattle.compact.specs.Writing.{Examined}
 use Rattle.compact.proofs.Writing.{directory-long, length-store}
 
 -- ---- the marked chunks are the named ones
 
-module _ (store marks : List ℕ) (names : List (List ℕ)) where
+module _ (store : List ℕ) (marks : List Bool) (names : List (List ℕ)) where
   abbrev is_named : ℕ → Bool
   is_named k = contains (get_or (store_keys store) k []) names
 
-  marked-named : (n k : ℕ) → ((j : ℕ) → k ≤ j → j < k + n → get_or marks j 0 ≡ cond (is_named j) 1 0)
-      → each (λ j. marked_at store (get_or marks j 0) j) k n ≡ named_among names (each (λ j. stored_chunk store j ∷ []) k n)
+  marked-named : (n k : ℕ) → ((j : ℕ) → k ≤ j → j < k + n → get_or marks j false ≡ is_named j)
+      → each (λ j. marked_at store (get_or marks j false) j) k n ≡ named_among names (each (λ j. stored_chunk store j ∷ []) k n)
   marked-named zero k h = refl
   marked-named (suc n) k h =
       let rest = marked-named n (suc k) (λ j l m. h j (omega arith) (omega arith)) in
@@ -51,64 +49,52 @@ module _ (store recipes : List ℕ) where
     recipes-refused code e d = e ∙ refused-whole (recipes_code recipes) _ (λ y. d (e ∙ y)) ∙ sym (next-whole (store_code store) _ z)
 
     module _ (y : recipes_code recipes ≡ 0) where
-      abbrev lacking : Bool
-      lacking = not (all_found (store_keys store) (named_in recipes))
-
-      missing-told : true ≡ lacking → 15 ≡ compactable_code store recipes
+      missing-told : (code : ℕ) → code ≡ found_code (store_keys store) (named_in recipes) → code ≡ compactable_code store recipes
       unfolding compactable_code
-      missing-told t = sym (next-whole (store_code store) _ z ∙ next-whole (recipes_code recipes) _ y ∙ rw (← t))
+      missing-told code e =
+          e
+          ∙ sym (next-whole (store_code store) _ z ∙ next-whole (recipes_code recipes) _ y ∙ last (all_found (store_keys store) (named_in recipes)))
+        where
+          last : (b : Bool) → first_number ((not b, not_found) ∷ []) ≡ cond b 0 not_found
+          last true = refl
+          last false = refl
 
-      none_told : false ≡ lacking → 0 ≡ compactable_code store recipes
-      unfolding compactable_code
-      none_told t = sym (next-whole (store_code store) _ z ∙ next-whole (recipes_code recipes) _ y ∙ rw (← t))
+      module _ (marks₀ marks : List Bool) (none : (e : ℕ) → get_or marks₀ e false ≡ false) (long : length marks ≡ 65000)
+          (code : ℕ) (m : MarkedAll store recipes marks₀ marks code) where
+        mark-is : code ≡ 0 → (k : ℕ) → k < chunk_count store → get_or marks k false ≡ contains (get_or (store_keys store) k []) (named_in recipes)
+        mark-is f k l =
+            m.marked f k (omega (arith, length-store_keys store))
+            ∙ ap (λ (b : Bool). contains (get_or (store_keys store) k []) (named_in recipes) || b) (none k)
+            ∙ or-false (contains (get_or (store_keys store) k []) (named_in recipes))
 
-      module _ (marks₀ marks : List ℕ) (zeros : (e : ℕ) → get_or marks₀ e 0 ≡ 0) (long : length marks ≡ 65000) where
-        pub examined-missing : (missing : Bool) → missing ≡ true → MarkedAll store recipes marks₀ marks missing → Examined store recipes marks 15
-        examined-missing missing t m = record {
-          told = missing-told (sym t ∙ m.lacks);
-          marked = λ e. absurd (omega arith);
-          chunks = λ e. absurd (omega arith);
+        pub examined-marked : Examined store recipes marks code
+        unfolding stored_chunks
+        examined-marked = record {
+          told = missing-told code m.told;
+          marked = λ f. record { checked = z; counts = refl; long = omega (arith, long, (store-good store z).few) };
+          chunks = λ f.
+              ap (λ (n : ℕ). each (λ j. marked_at store (get_or marks j false) j) 0 n) (sub-zero (chunk_count store))
+              ∙ marked-named store marks (named_in recipes) (chunk_count store) 0 (λ j l h. mark-is f j (omega arith));
         }
 
-        module _ (missing : Bool) (f : missing ≡ false) (m : MarkedAll store recipes marks₀ marks missing) where
-          mark-is : (k : ℕ) → k < chunk_count store → get_or marks k 0 ≡ cond (contains (get_or (store_keys store) k []) (named_in recipes)) 1 0
-          mark-is k l =
-              m.marked f k (omega (arith, length-store_keys store))
-              ∙ ap (cond (contains (get_or (store_keys store) k []) (named_in recipes)) 1) (zeros k)
-
-          bit : (k : ℕ) → k < chunk_count store → get_or marks k 0 ≤ 1
-          bit k l =
-              ⊎_elim (λ t. let e : get_or marks k 0 ≡ 1 = mark-is k l ∙ rw t in omega (arith, e))
-              (λ u. let e : get_or marks k 0 ≡ 0 = mark-is k l ∙ rw u in omega (arith, e))
-              (bool_cases (contains (get_or (store_keys store) k []) (named_in recipes)))
-
-          pub examined-done : Examined store recipes marks 0
-          unfolding stored_chunks
-          examined-done = record {
-            told = none_told (sym f ∙ m.lacks);
-            marked = λ e. record { checked = z; counts = refl; long = omega (arith, long, (store-good store z).few); bits = bit };
-            chunks = λ e.
-                ap (λ (n : ℕ). each (λ j. marked_at store (get_or marks j 0) j) 0 n) (sub-zero (chunk_count store))
-                ∙ marked-named store marks (named_in recipes) (chunk_count store) 0 (λ j l h. mark-is j (omega arith));
-          }
-
-pub examined-refused : (store recipes marks : List ℕ) (code : ℕ) → code ≡ compactable_code store recipes → code ≢ 0 → Examined store recipes marks code
+pub examined-refused : (store recipes : List ℕ) (marks : List Bool) (code : ℕ) → code ≡ compactable_code store recipes → code ≢ 0
+    → Examined store recipes marks code
 examined-refused store recipes marks code e d = record { told = e; marked = λ z. absurd (d z); chunks = λ z. absurd (d z) }
 
 -- where the number is 0
-pub examined-zero : (store recipes marks : List ℕ) (code : ℕ) → code ≡ 0 → Examined store recipes marks code → Examined store recipes marks 0
+pub examined-zero : (store recipes : List ℕ) (marks : List Bool) (code : ℕ) → code ≡ 0 → Examined store recipes marks code → Examined store recipes marks 0
 examined-zero store recipes marks code z e = record { told = sym z ∙ e.told; marked = λ y. e.marked z; chunks = λ y. e.chunks z }
 
 -- no entry is marked
-pub all-zero : (n i : ℕ) → ◌≡◌ {A = ℕ} (get_or (replicate n 0) i 0) 0
-all-zero zero i = refl
-all-zero (suc n) zero = refl
-all-zero (suc n) (suc i) = all-zero n i
+pub all-unmarked : (n i : ℕ) → get_or (replicate {A = Bool} n false) i false ≡ false
+all-unmarked zero i = refl
+all-unmarked (suc n) zero = refl
+all-unmarked (suc n) (suc i) = all-unmarked n i
 
 -- ---- the operation
 
 -- the marked chunks' own count and bytes make the new store's length
-pub size_is : (store recipes marks : List ℕ) (n size : ℕ) → Examined store recipes marks 0 → n ≡ length (marked_from store marks 0)
+pub size_is : (store recipes : List ℕ) (marks : List Bool) (n size : ℕ) → Examined store recipes marks 0 → n ≡ length (marked_from store marks 0)
     → size ≡ length (chunk_bytes (marked_from store marks 0)) → 8 + 28 * n + size ≡ length (compacted store recipes)
 unfolding compacted
 size_is store recipes marks n size e p q =

@@ -1,7 +1,8 @@
 -- The marked chunks entry by entry: how many there are and how many bytes they have, their entries and their bytes. Assumes nothing.
 use mathlib.Core.Path.{◌≡◌, refl, sym, ap, ◌∙◌}
+use mathlib.Core.Bool.{Bool, true, false, cond}
 use mathlib.Core.List.{List, [], ◌∷◌, ◌++◌, map, append_assoc}
-use Prim.Native.Nat.{ℕ, zero, suc, ◌+◌, ◌*◌, ◌-◌, ◌≤◌, ◌<◌}
+use Prim.Native.Nat.{ℕ, suc, ◌+◌, ◌*◌, ◌-◌, ◌≤◌, ◌<◌}
 use native.Mathlib.Nat.{add-zero}
 use native.Mathlib.Numerals.{add-one}
 use native.Mathlib.Omega.{arith}
@@ -13,27 +14,26 @@ use Rattle.compact.specs.Marking.{marked_at, marked_from, chunk_bytes}
 -- ---- one entry
 
 module _ (store : List ℕ) (k : ℕ) where
-  pub marked-count : (mark : ℕ) → mark ≤ 1 → length (marked_at store mark k) ≡ mark
-  marked-count zero h = refl
-  marked-count (suc zero) h = refl
-  marked-count (suc (suc m)) h = let z : ⊥ = omega arith in absurd z
+  pub marked-count : (marked : Bool) → length (marked_at store marked k) ≡ cond marked 1 0
+  marked-count true = refl
+  marked-count false = refl
 
-  pub marked-bytes : (mark : ℕ) → mark ≤ 1 → length (chunk_bytes (marked_at store mark k)) ≡ mark * length (chunk_at store k)
-  marked-bytes zero h = omega arith
-  marked-bytes (suc zero) h = omega (arith, length-append (chunk_at store k) [])
-  marked-bytes (suc (suc m)) h = let z : ⊥ = omega arith in absurd z
+  pub marked-bytes : (marked : Bool) → length (chunk_bytes (marked_at store marked k)) ≡ cond marked 1 0 * length (chunk_at store k)
+  marked-bytes true = omega (arith, length-append (chunk_at store k) [])
+  marked-bytes false = omega arith
 
 -- ---- from entry k on
 
-module _ (store marks : List ℕ) where
-  pub marked_step : (k : ℕ) → k < chunk_count store → marked_from store marks k ≡ marked_at store (get_or marks k 0) k ++ marked_from store marks (k + 1)
+module _ (store : List ℕ) (marks : List Bool) where
+  pub marked_step : (k : ℕ) → k < chunk_count store → marked_from store marks k ≡ marked_at store (get_or marks k false) k ++ marked_from store marks (k + 1)
   marked_step k l =
       let e : chunk_count store - k ≡ suc (chunk_count store - (k + 1)) = omega arith in
-      ap (λ (n : ℕ). each (λ j. marked_at store (get_or marks j 0) j) k n) e
-      ∙ ap (λ (i : ℕ). marked_at store (get_or marks k 0) k ++ each (λ j. marked_at store (get_or marks j 0) j) i (chunk_count store - (k + 1))) (sym (add-one k))
+      ap (λ (n : ℕ). each (λ j. marked_at store (get_or marks j false) j) k n) e
+      ∙ ap (λ (i : ℕ). marked_at store (get_or marks k false) k ++ each (λ j. marked_at store (get_or marks j false) j) i (chunk_count store - (k + 1)))
+      (sym (add-one k))
 
   pub marked-end : (k : ℕ) → chunk_count store ≤ k → marked_from store marks k ≡ []
-  marked-end k h = let e : chunk_count store - k ≡ 0 = omega arith in ap (λ (n : ℕ). each (λ j. marked_at store (get_or marks j 0) j) k n) e
+  marked-end k h = let e : chunk_count store - k ≡ 0 = omega arith in ap (λ (n : ℕ). each (λ j. marked_at store (get_or marks j false) j) k n) e
 
 pub bytes-append : (cs ds : List Chunk) → chunk_bytes (cs ++ ds) ≡ chunk_bytes cs ++ chunk_bytes ds
 bytes-append [] ds = refl
@@ -55,16 +55,16 @@ directory-append at (c ∷ cs) ds =
     (sym (append_assoc (c.key ++ le_bytes 4 (at + 0) ++ le_bytes 4 (length c.bytes)) (store_directory_bytes (at + 0 + length c.bytes) (map gapless cs)) _))
 
 -- a step of both sums, of one mark
-module _ (store marks : List ℕ) (k : ℕ) (l : k < chunk_count store) (h : get_or marks k 0 ≤ 1) where
-  pub count-step : length (marked_from store marks k) ≡ get_or marks k 0 + length (marked_from store marks (k + 1))
+module _ (store : List ℕ) (marks : List Bool) (k : ℕ) (l : k < chunk_count store) where
+  pub count-step : length (marked_from store marks k) ≡ cond (get_or marks k false) 1 0 + length (marked_from store marks (k + 1))
   count-step =
-      ap length (marked_step store marks k l) ∙ length-append (marked_at store (get_or marks k 0) k) (marked_from store marks (k + 1))
-      ∙ ap (λ (n : ℕ). n + length (marked_from store marks (k + 1))) (marked-count store k (get_or marks k 0) h)
+      ap length (marked_step store marks k l) ∙ length-append (marked_at store (get_or marks k false) k) (marked_from store marks (k + 1))
+      ∙ ap (λ (n : ℕ). n + length (marked_from store marks (k + 1))) (marked-count store k (get_or marks k false))
 
   pub size_step : length (chunk_bytes (marked_from store marks k))
-      ≡ get_or marks k 0 * length (chunk_at store k) + length (chunk_bytes (marked_from store marks (k + 1)))
+      ≡ cond (get_or marks k false) 1 0 * length (chunk_at store k) + length (chunk_bytes (marked_from store marks (k + 1)))
   size_step =
       ap (λ (cs : List Chunk). length (chunk_bytes cs)) (marked_step store marks k l)
-      ∙ ap length (bytes-append (marked_at store (get_or marks k 0) k) (marked_from store marks (k + 1)))
-      ∙ length-append (chunk_bytes (marked_at store (get_or marks k 0) k)) (chunk_bytes (marked_from store marks (k + 1)))
-      ∙ ap (λ (n : ℕ). n + length (chunk_bytes (marked_from store marks (k + 1)))) (marked-bytes store k (get_or marks k 0) h)
+      ∙ ap length (bytes-append (marked_at store (get_or marks k false) k) (marked_from store marks (k + 1)))
+      ∙ length-append (chunk_bytes (marked_at store (get_or marks k false) k)) (chunk_bytes (marked_from store marks (k + 1)))
+      ∙ ap (λ (n : ℕ). n + length (chunk_bytes (marked_from store marks (k + 1)))) (marked-bytes store k (get_or marks k false))

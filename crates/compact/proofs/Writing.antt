@@ -1,13 +1,12 @@
 -- The turns of the writing. With the rest of the directory and the rest of the chunks written, each from where it is now, the buffer is as promised
 -- (spec's splice-regions). Assumes nothing.
 use mathlib.Core.Path.{◌≡◌, refl, sym, ap, ap₂, ◌∙◌}
-use mathlib.Core.Logic.{◌≢◌, ⊎_elim}
+use mathlib.Core.Logic.{⊎_elim}
+use mathlib.Core.Bool.{Bool, true, false}
 use mathlib.Core.List.{List, [], ◌∷◌, ◌++◌, map, append-nil, append_assoc}
 use Prim.Native.Nat.{ℕ, zero, suc, ◌+◌, ◌*◌, ◌-◌, ◌≤◌, ◌<◌}
 use native.Mathlib.Nat.{add-zero}
 use native.Mathlib.Omega.{arith}
-use borrow.Author.Tests.{ne_eqb}
-use lib.Dec.{eqb}
 use lib.ListN.{length, get_or, length-append, length-map}
 use Rattle.spec.specs.Bytes.{le_bytes, splice, joined}
 use Rattle.spec.specs.Store.{Chunk, gapless, store_mark, store_directory_bytes, placed_bytes, store_bytes, chunk_count, chunk_at, store_keys, stored_chunk, store_code}
@@ -40,24 +39,24 @@ Put store out out' entry at cs entry' at' =
     × (entry' ≡ entry + 28 * length cs)
     × (at' ≡ at + length (chunk_bytes cs))
 
-module _ (store out : List ℕ) (entry at k mark : ℕ) where
-  pub none-put : mark ≢ 1 → Put store out out entry at (marked_at store mark k) entry at
+module _ (store out : List ℕ) (entry at k : ℕ) (marked : Bool) where
+  pub none-put : marked ≡ false → Put store out out entry at (marked_at store marked k) entry at
   unfolding store_directory_bytes
-  none-put h = rw (ne_eqb mark 1 h) (sym (splice-nil (splice out at []) entry ∙ splice-nil out at), omega arith, omega arith)
+  none-put h = rw h (sym (splice-nil (splice out at []) entry ∙ splice-nil out at), omega arith, omega arith)
 
   -- the chunk of a marked entry has its place
-  pub one-room : mark ≡ 1 → CanPutMarked out entry at store k mark → CanPutChunk out entry at store k
+  pub one-room : marked ≡ true → CanPutMarked out entry at store k marked → CanPutChunk out entry at store k
   one-room e h =
-      let cs : marked_at store mark k ≡ stored_chunk store k ∷ [] = rw e in
-      let n : length (marked_at store mark k) ≡ 1 = ap length cs in
-      let b : length (chunk_bytes (marked_at store mark k)) ≡ length (chunk_at store k) =
+      let cs : marked_at store marked k ≡ stored_chunk store k ∷ [] = rw e in
+      let n : length (marked_at store marked k) ≡ 1 = ap length cs in
+      let b : length (chunk_bytes (marked_at store marked k)) ≡ length (chunk_at store k) =
       ap (λ (x : List Chunk). length (chunk_bytes x)) cs ∙ ap length (append-nil (chunk_at store k)) in
       record { checked = h.checked; within = h.within; before = omega (arith, h.before, n); room = omega (arith, h.room, b) }
 
-  pub one-put : mark ≡ 1 → (out' : List ℕ) (entry' at' : ℕ)
+  pub one-put : marked ≡ true → (out' : List ℕ) (entry' at' : ℕ)
       → (out' ≡ splice (splice out at (chunk_at store k)) entry (get_or (store_keys store) k [] ++ le_bytes 4 at ++ le_bytes 4 (length (chunk_at store k))))
       × (entry' ≡ entry + 28) × (at' ≡ at + length (chunk_at store k))
-      → Put store out out' entry at (marked_at store mark k) entry' at'
+      → Put store out out' entry at (marked_at store marked k) entry' at'
   unfolding store_directory_bytes
   one-put e out' entry' at' p =
       let key = get_or (store_keys store) k [] in
@@ -72,7 +71,7 @@ module _ (store out : List ℕ) (entry at k mark : ℕ) where
 
 -- ---- a turn
 
-module _ (store marks : List ℕ) where
+module _ (store : List ℕ) (marks : List Bool) where
   -- what is left of the directory and of the chunks
   abbrev pub directory_left : ℕ → ℕ → List ℕ
   directory_left at k = store_directory_bytes at (map gapless (marked_from store marks k))
@@ -81,14 +80,14 @@ module _ (store marks : List ℕ) where
   bytes_left k = chunk_bytes (marked_from store marks k)
 
 -- the entries of one mark have 28 bytes each
-length-directory : (store : List ℕ) → store_code store ≡ 0 → (k at mark : ℕ) → k < chunk_count store
-    → length (store_directory_bytes at (map gapless (marked_at store mark k))) ≡ 28 * length (marked_at store mark k)
+length-directory : (store : List ℕ) → store_code store ≡ 0 → (k at : ℕ) (marked : Bool) → k < chunk_count store
+    → length (store_directory_bytes at (map gapless (marked_at store marked k))) ≡ 28 * length (marked_at store marked k)
 unfolding store_directory_bytes
-length-directory store e k at mark l =
+length-directory store e k at marked l =
     let key : length (get_or (store_keys store) k []) ≡ 20 = store-key-length store (store-good store e) k l in
-    ⊎_elim (λ t. rw t (simp (length-append, length-le_bytes, key))) (λ f. rw f) (bool_cases (eqb mark 1))
+    ⊎_elim (λ t. rw t (simp (length-append, length-le_bytes, key))) (λ f. rw f) (bool_cases marked)
 
-module _ (store marks : List ℕ) (e : store_code store ≡ 0) where
+module _ (store : List ℕ) (marks : List Bool) (e : store_code store ≡ 0) where
   abbrev dr : ℕ → ℕ → List ℕ
   dr at k = directory_left store marks at k
 
@@ -97,23 +96,23 @@ module _ (store marks : List ℕ) (e : store_code store ≡ 0) where
 
   -- the next entry's part of the directory, and what follows it
   directory-step : (k at : ℕ) → k < chunk_count store
-      → dr at k ≡ store_directory_bytes at (map gapless (marked_at store (get_or marks k 0) k))
-      ++ dr (at + length (chunk_bytes (marked_at store (get_or marks k 0) k))) (k + 1)
+      → dr at k ≡ store_directory_bytes at (map gapless (marked_at store (get_or marks k false) k))
+      ++ dr (at + length (chunk_bytes (marked_at store (get_or marks k false) k))) (k + 1)
   directory-step k at l =
       ap (λ (cs : List Chunk). store_directory_bytes at (map gapless cs)) (marked_step store marks k l)
-      ∙ directory-append at (marked_at store (get_or marks k 0) k) (marked_from store marks (k + 1))
+      ∙ directory-append at (marked_at store (get_or marks k false) k) (marked_from store marks (k + 1))
 
   pub directory-long : (n k at : ℕ) → n + k ≡ chunk_count store → length (dr at k) ≡ 28 * length (marked_from store marks k)
   unfolding store_directory_bytes
   directory-long zero k at h = let none = marked-end store marks k (omega arith) in rw none
   directory-long (suc n) k at h =
       let l : k < chunk_count store = omega arith in
-      let here = marked_at store (get_or marks k 0) k in
+      let here = marked_at store (get_or marks k false) k in
       omega (
         arith,
         ap length (directory-step k at l),
         length-append (store_directory_bytes at (map gapless here)) (dr (at + length (chunk_bytes here)) (k + 1)),
-        length-directory store e k at (get_or marks k 0) l,
+        length-directory store e k at (get_or marks k false) l,
         directory-long n (k + 1) (at + length (chunk_bytes here)) (omega arith),
         ap length (marked_step store marks k l),
         length-append here (marked_from store marks (k + 1)),
@@ -133,7 +132,7 @@ module _ (store marks : List ℕ) (e : store_code store ≡ 0) where
 
   module _ (k at entry : ℕ) (l : k < chunk_count store) where
     abbrev here : List Chunk
-    here = marked_at store (get_or marks k 0) k
+    here = marked_at store (get_or marks k false) k
 
     pub regions-turn : (out out' whole : List ℕ) → entry + 28 * length (marked_from store marks k) ≤ at → at + length (chunk_bytes here) ≤ length out
         → out' ≡ splice (splice out at (chunk_bytes here)) entry (store_directory_bytes at (map gapless here))
@@ -141,7 +140,7 @@ module _ (store marks : List ℕ) (e : store_code store ≡ 0) where
         → splice (splice out' (entry + 28 * length here) (dr (at + length (chunk_bytes here)) (k + 1))) (at + length (chunk_bytes here)) (br (k + 1)) ≡ whole
     regions-turn out out' whole b r p w =
         let own = store_directory_bytes at (map gapless here) in
-        let n : length own ≡ 28 * length here = length-directory store e k at (get_or marks k 0) l in
+        let n : length own ≡ 28 * length here = length-directory store e k at (get_or marks k false) l in
         let ds : dr at k ≡ own ++ dr (at + length (chunk_bytes here)) (k + 1) = directory-step k at l in
         let bs : br k ≡ chunk_bytes here ++ br (k + 1) = ap chunk_bytes (marked_step store marks k l) ∙ bytes-append here (marked_from store marks (k + 1)) in
         let room : entry + length (own ++ dr (at + length (chunk_bytes here)) (k + 1)) ≤ at =

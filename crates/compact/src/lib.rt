@@ -2,7 +2,7 @@
 // name are marked, one lookup a place; then one pass over the entries measures the new store, and one writes it.
 #![tactic(auto)]
 
-ghost use Rattle.std.specs.Prelude.{◌≡◌, [], ◌++◌, map, ℕ, ◌+◌, ◌*◌, ◌≤◌, length, get_or};
+ghost use Rattle.std.specs.Prelude.{◌≡◌, false, [], ◌++◌, map, ℕ, ◌+◌, ◌*◌, ◌≤◌, length, get_or};
 ghost use Rattle.spec.specs.Bytes.{le_bytes, splice};
 ghost use Rattle.spec.specs.Store.{gapless, store_directory_bytes, store_bytes, chunk_count, chunk_at, store_keys};
 ghost use Rattle.spec.specs.Recipes.{named, recipes_code};
@@ -11,48 +11,57 @@ ghost use Rattle.directory.specs.Chains.{Empty};
 ghost use Rattle.store.specs.Examined.{StoreEntry, Findable};
 ghost use Rattle.compact.specs.Marking.{MarkedFile, MarkedAll, Marks, marked_from, marked_at, chunk_bytes};
 ghost use Rattle.compact.specs.Writing.{CanPutChunk, CanPutMarked, CanPutStore, Examined};
+ghost use Rattle.spec.specs.Refusal.{number, outcome_of};
+
+use spec::Refusal;
 
 // The mark of a store.
 const MARK: [u8; 4] = [0x44, 0x56, 0x31, 0x0A];
 
 // ---- which chunks
 
-// Marks the entries that a file names, and tells whether a fingerprint is missing.
-fn mark_file(file: &[u8], store: &[u8], count: usize, chains: &[u32], marks: &mut [u8]) -> bool
+// Marks the entries that a file names, or refuses it where a fingerprint is missing.
+fn mark_file(
+    file: &[u8],
+    store: &[u8],
+    count: usize,
+    chains: &[u32],
+    marks: &mut [bool],
+) -> Result<(), Refusal>
     requires { Findable store.now count chains.now × (chunk_count store.now ≤ length marks.old) }
-    ensures { MarkedFile (store_keys store.now) (named file.now) marks.old marks.new result }
+    ensures { MarkedFile (store_keys store.now) (named file.now) marks.old marks.new (number result) }
 {
     let n = file.len() / 20;
-    let mut j: usize = 0;
-    while j < n {
+    for j in 0..n {
         let key = directory::key(file, 0, 20, j);
         let k = store::position(store, count, chains, key);
         if count <= k {
-            return true;
+            return Err(Refusal::NotFound);
         }
-        marks[k] = 1;
-        j += 1;
+        marks[k] = true;
     }
-    false
+    Ok(())
 }
 
-// Marks the entries that some file names, and tells whether a fingerprint is missing.
-fn mark_files(recipes: &[u8], store: &[u8], count: usize, chains: &[u32], marks: &mut [u8]) -> bool
+// Marks the entries that some file names, or refuses the first file of which a fingerprint is missing.
+fn mark_files(
+    recipes: &[u8],
+    store: &[u8],
+    count: usize,
+    chains: &[u32],
+    marks: &mut [bool],
+) -> Result<(), Refusal>
     requires { Findable store.now count chains.now × (chunk_count store.now ≤ length marks.old) × (recipes_code recipes.now ≡ 0) }
-    ensures { MarkedAll store.now recipes.now marks.old marks.new result }
+    ensures { MarkedAll store.now recipes.now marks.old marks.new (number result) }
 {
     let files = recipes::count_at(recipes, 0);
     let mut at: usize = 4;
-    let mut k: usize = 0;
-    while k < files {
+    for _ in 0..files {
         let file = recipes::file_at(recipes, at);
-        if mark_file(file, store, count, chains, marks) {
-            return true;
-        }
-        at = at + 4 + file.len();
-        k += 1;
+        mark_file(file, store, count, chains, marks)?;
+        at += 4 + file.len();
     }
-    false
+    Ok(())
 }
 
 // ---- measuring
@@ -64,8 +73,8 @@ struct Sum {
     size: usize,
 }
 
-// Adds up the marked chunks. A mark is 0 or 1, so there is no branch.
-fn measure(store: &[u8], count: usize, marks: &[u8]) -> Sum
+// Adds up the marked chunks. A mark is a factor of 0 or 1, so there is no branch.
+fn measure(store: &[u8], count: usize, marks: &[bool]) -> Sum
     requires { Marks store.now count marks.now }
     ensures { (result.count ≡ length (marked_from store.now marks.now 0))
         × (result.size ≡ length (chunk_bytes (marked_from store.now marks.now 0)))
@@ -74,18 +83,13 @@ fn measure(store: &[u8], count: usize, marks: &[u8]) -> Sum
 {
     let mut n: usize = 0;
     let mut size: usize = 0;
-    let mut k: usize = 0;
-    while k < count {
+    for k in 0..count {
         let chunk = store::chunk_at(store, k);
-        let mark = marks[k] as usize;
+        let mark = usize::from(marks[k]);
         n += mark;
         size += mark * chunk.len();
-        k += 1;
     }
-    Sum {
-        count: n,
-        size: size,
-    }
+    Sum { count: n, size }
 }
 
 // ---- writing
@@ -120,21 +124,22 @@ fn put_chunk(out: &mut [u8], place: Place, store: &[u8], k: usize) -> Place
 }
 
 // Writes chunk k and its entry where it is marked.
-fn put_marked(out: &mut [u8], place: Place, store: &[u8], k: usize, mark: u8) -> Place
-    requires { CanPutMarked out.old place.entry place.at store.now k mark }
-    ensures { (out.new ≡ splice (splice out.old place.at (chunk_bytes (marked_at store.now mark k))) place.entry
-        (store_directory_bytes place.at (map gapless (marked_at store.now mark k))))
-        × (result.entry ≡ place.entry + 28 * length (marked_at store.now mark k))
-        × (result.at ≡ place.at + length (chunk_bytes (marked_at store.now mark k))) }
+fn put_marked(out: &mut [u8], place: Place, store: &[u8], k: usize, marked: bool) -> Place
+    requires { CanPutMarked out.old place.entry place.at store.now k marked }
+    ensures { (out.new ≡ splice (splice out.old place.at (chunk_bytes (marked_at store.now marked k))) place.entry
+        (store_directory_bytes place.at (map gapless (marked_at store.now marked k))))
+        × (result.entry ≡ place.entry + 28 * length (marked_at store.now marked k))
+        × (result.at ≡ place.at + length (chunk_bytes (marked_at store.now marked k))) }
 {
-    if mark != 1 {
-        return place;
+    if marked {
+        put_chunk(out, place, store, k)
+    } else {
+        place
     }
-    put_chunk(out, place, store, k)
 }
 
 // Writes the marked chunks, `n` of them, and their entries.
-fn put_chunks(out: &mut [u8], store: &[u8], count: usize, marks: &[u8], n: usize)
+fn put_chunks(out: &mut [u8], store: &[u8], count: usize, marks: &[bool], n: usize)
     requires { CanPutStore out.old store.now count marks.now n }
     ensures { out.new ≡ splice out.old 8
         (store_directory_bytes (8 + 28 * n) (map gapless (marked_from store.now marks.now 0))
@@ -144,15 +149,13 @@ fn put_chunks(out: &mut [u8], store: &[u8], count: usize, marks: &[u8], n: usize
         entry: 8,
         at: 8 + 28 * n,
     };
-    let mut k: usize = 0;
-    while k < count {
+    for k in 0..count {
         place = put_marked(out, place, store, k, marks[k]);
-        k += 1;
     }
 }
 
 // Writes the store of the marked chunks, `n` of them, at the buffer's start.
-fn put_store(out: &mut [u8], store: &[u8], count: usize, marks: &[u8], n: usize)
+fn put_store(out: &mut [u8], store: &[u8], count: usize, marks: &[bool], n: usize)
     requires { CanPutStore out.old store.now count marks.now n }
     ensures { out.new ≡ splice out.old 0 (store_bytes (marked_from store.now marks.now 0)) }
 {
@@ -164,56 +167,41 @@ fn put_store(out: &mut [u8], store: &[u8], count: usize, marks: &[u8], n: usize)
 // ---- the operation
 
 // The refusals before 9; where there is none, the marks of the entries that some recipe names.
-fn examine(store: &[u8], recipes: &[u8], marks: &mut [u8]) -> u8
-    requires { ((e : ℕ) → get_or marks.old e 0 ≡ 0) × (length marks.old ≡ 65000) }
-    ensures { Examined store.now recipes.now marks.new result }
+fn examine(store: &[u8], recipes: &[u8], marks: &mut [bool]) -> Result<(), Refusal>
+    requires { ((e : ℕ) → get_or marks.old e false ≡ false) × (length marks.old ≡ 65000) }
+    ensures { Examined store.now recipes.now marks.new (number result) }
 {
     let mut chains = [0u32; 130536];
-    let code = store::examine(store, &mut chains);
-    if code != 0 {
-        return code;
-    }
-    let code14 = recipes::check(recipes);
-    if code14 != 0 {
-        return code14;
-    }
+    store::examine(store, &mut chains)?;
+    recipes::check(recipes)?;
     let count = store::chunk_count(store);
-    if mark_files(recipes, store, count, &chains, marks) {
-        return 15;
-    }
-    0
+    mark_files(recipes, store, count, &chains, marks)
 }
 
 // The length of the store that a compaction would write, whatever the buffer, or the refusal.
-pub fn size(store: &[u8], recipes: &[u8]) -> spec::Outcome
-    ensures { result ≡ compact_size store.now recipes.now }
+pub fn size(store: &[u8], recipes: &[u8]) -> Result<usize, Refusal>
+    ensures { outcome_of result ≡ compact_size store.now recipes.now }
 {
-    let mut marks = [0u8; 65000];
-    let code = examine(store, recipes, &mut marks);
-    if code != 0 {
-        return spec::Outcome::Refused(code);
-    }
+    let mut marks = [false; 65000];
+    examine(store, recipes, &mut marks)?;
     let count = store::chunk_count(store);
     let sum = measure(store, count, &marks);
-    spec::Outcome::Done(8 + 28 * sum.count + sum.size)
+    Ok(8 + 28 * sum.count + sum.size)
 }
 
 // The compaction: the new store's length, or the refusal, which changes no byte of the buffer.
-pub fn compact(store: &[u8], recipes: &[u8], out: &mut [u8]) -> spec::Outcome
-    ensures { (result ≡ compact_outcome store.now recipes.now (length out.old))
+pub fn compact(store: &[u8], recipes: &[u8], out: &mut [u8]) -> Result<usize, Refusal>
+    ensures { (outcome_of result ≡ compact_outcome store.now recipes.now (length out.old))
         × (out.new ≡ compact_buffer store.now recipes.now out.old) }
 {
-    let mut marks = [0u8; 65000];
-    let code = examine(store, recipes, &mut marks);
-    if code != 0 {
-        return spec::Outcome::Refused(code);
-    }
+    let mut marks = [false; 65000];
+    examine(store, recipes, &mut marks)?;
     let count = store::chunk_count(store);
     let sum = measure(store, count, &marks);
     let len = 8 + 28 * sum.count + sum.size;
     if out.len() < len {
-        return spec::Outcome::Refused(9);
+        return Err(Refusal::OutputTooLong);
     }
     put_store(out, store, count, &marks, sum.count);
-    spec::Outcome::Done(len)
+    Ok(len)
 }

@@ -1,14 +1,14 @@
 -- Bytes compared field by field: equal fields of equal widths have equal bytes. Assumes nothing.
 use mathlib.Core.Path.{◌≡◌, sym, ap, ap₂, ◌∙◌}
 use mathlib.Core.List.{List, ◌++◌}
-use mathlib.Core.Bool.{true, false}
+use mathlib.Core.Bool.{false}
 use Prim.Native.Nat.{ℕ, ◌+◌, ◌≤◌, ◌<◌}
 use native.Mathlib.Omega.{arith}
 use lib.ListN.{length, take, drop, length-drop}
-use lib.Seq.{take-add, take_all}
+use lib.Seq.{take-add}
 use Rattle.spec.specs.Bytes.{field_at, le_bytes, same, AllBytes}
 use Rattle.spec.proofs.FieldLists.{bytes_drop, le_bytes-take, field_lt}
-use Rattle.spec.proofs.Same.{same_of, same_not}
+use Rattle.spec.proofs.Same.{same_not}
 
 module _ (a b : List ℕ) (p : AllBytes a) (q : AllBytes b) (at w : ℕ) (h : at + w ≤ length a) (l : at + w ≤ length b) where
   -- one more field
@@ -23,10 +23,6 @@ module _ (a b : List ℕ) (p : AllBytes a) (q : AllBytes b) (at w : ℕ) (h : at
 -- a field that differs
 pub other-field : (a b : List ℕ) (at w : ℕ) → (field_at a at w ≡ field_at b at w → ⊥) → false ≡ same a b
 other-field a b at w d = sym (same_not a b (λ e. d (ap (λ (l : List ℕ). field_at l at w) e)))
-
--- all fields are equal
-pub all-fields : (a b : List ℕ) (n : ℕ) → length a ≤ n → length b ≤ n → take n a ≡ take n b → true ≡ same a b
-all-fields a b n h l e = sym (same_of a b (sym (take_all n a h) ∙ e ∙ take_all n b l))
 
 -- what was read as a field of 4 bytes is below 2^32
 pub read-lt : (bytes : List ℕ) (at r : ℕ) → AllBytes bytes → r ≡ field_at bytes at 4 → r < 4294967296

@@ -5,7 +5,10 @@
 ghost use Rattle.std.specs.Prelude.{◌≡◌, suc, ◌+◌, ◌-◌, ◌*◌, ◌≤◌, ◌<◌, length};
 ghost use Rattle.spec.specs.Bytes.{part, same, twice, position_of, written};
 ghost use Rattle.spec.specs.Directory.{entries_code};
+ghost use Rattle.spec.specs.Refusal.{number, number_of};
 ghost use Rattle.directory.specs.Chains.{hash_of, keys_from, chains_of, place_from, Starts, Linked, Chained, Inserted, Lies, Empty, layout_of};
+
+use spec::Refusal;
 
 // How many hashes there may be, each with a head.
 const HEADS: usize = 65536;
@@ -13,7 +16,8 @@ const HEADS: usize = 65536;
 // The hash of a key of 20 bytes. Its five products do not wait for each other, and one remainder is taken.
 fn hash(key: &[u8]) -> usize
     requires { length key.now ≡ 20 }
-    ensures { result ≡ hash_of key.now }
+    ensures value { result ≡ hash_of key.now }
+    ensures small { result < 65521 }
 {
     let sum = field::read(key, 0, 4) * 506832829
         + field::read(key, 4, 4) * 374761393
@@ -28,12 +32,10 @@ fn same_key(a: &[u8], b: &[u8]) -> bool
     requires { (length a.now ≡ 20) × (length b.now ≡ 20) }
     ensures { result ≡ same a.now b.now }
 {
-    let mut k: usize = 0;
-    while k < 5 {
+    for k in 0..5 {
         if field::read(a, 4 * k, 4) != field::read(b, 4 * k, 4) {
             return false;
         }
-        k += 1;
     }
     true
 }
@@ -48,7 +50,7 @@ pub fn key(bytes: &[u8], start: usize, stride: usize, e: usize) -> &[u8]
 }
 
 // A directory in some bytes: where its first entry starts, the bytes of an entry, how many there are.
-#[derive(Drop)]
+#[derive(Clone, Copy)]
 struct Extent {
     start: usize,
     stride: usize,
@@ -89,40 +91,28 @@ pub fn find(
     ensures { result ≡ position_of probe.now (keys_from bytes.now start stride count) }
 {
     let dir = Extent {
-        start: start,
-        stride: stride,
-        count: count,
+        start,
+        stride,
+        count,
     };
     let h = hash(probe);
     follow(bytes, dir, chains, chains[h] as usize, probe)
 }
 
 // Puts entry e in front of those after it; whether its key is one of theirs.
-fn insert(
-    bytes: &[u8],
-    start: usize,
-    stride: usize,
-    count: usize,
-    e: usize,
-    chains: &mut [u32],
-) -> bool
-    requires lies { Lies bytes.now start stride count }
-    requires chained { Chained (keys_from bytes.now start stride count) (suc e) chains.old }
-    requires e_lt_count { e < count }
-    ensures { Inserted (keys_from bytes.now start stride count) e chains.old chains.new result }
+fn insert(bytes: &[u8], dir: Extent, e: usize, chains: &mut [u32]) -> bool
+    requires lies { Lies bytes.now dir.start dir.stride dir.count }
+    requires chained { Chained (keys_from bytes.now dir.start dir.stride dir.count) (suc e) chains.old }
+    requires e_lt_count { e < dir.count }
+    ensures { Inserted (keys_from bytes.now dir.start dir.stride dir.count) e chains.old chains.new result }
 {
-    let dir = Extent {
-        start: start,
-        stride: stride,
-        count: count,
-    };
-    let probe = key(bytes, start, stride, e);
+    let probe = key(bytes, dir.start, dir.stride, e);
     let h = hash(probe);
     let from = chains[h] as usize;
     let duplicate = follow(bytes, dir, chains, from, probe);
     chains[HEADS + e] = chains[h];
-    chains[h] = (count - e) as u32;
-    duplicate < count
+    chains[h] = (dir.count - e) as u32;
+    duplicate < dir.count
 }
 
 // Puts all entries into an empty index; whether some two keys are the same.
@@ -132,12 +122,14 @@ pub fn build(bytes: &[u8], start: usize, stride: usize, count: usize, chains: &m
     ensures { (result ≡ twice (keys_from bytes.now start stride count))
         × (chains.new ≡ written chains.old (chains_of (keys_from bytes.now start stride count))) }
 {
+    let dir = Extent {
+        start,
+        stride,
+        count,
+    };
     let mut duplicate = false;
-    let mut e = count;
-    while 0 < e {
-        e -= 1;
-        let found = insert(bytes, start, stride, count, e, chains);
-        duplicate = found | duplicate;
+    for e in (0..count).rev() {
+        duplicate |= insert(bytes, dir, e, chains);
     }
     duplicate
 }
@@ -151,37 +143,32 @@ pub fn entries(
     offsets: usize,
     lengths: usize,
     most: usize,
-    code: u8,
+    refusal: Refusal,
     count: usize,
-) -> u8
+) -> Result<(), Refusal>
     requires { (start + stride * count ≤ length bytes.now) × (sizes + 4 ≤ stride) × (offsets + 4 ≤ stride) × (lengths + 4 ≤ stride) }
-    ensures { result ≡ entries_code (layout_of start stride sizes offsets lengths) bytes.now most code count 0 (start + stride * count) }
+    ensures { number result ≡ entries_code (layout_of start stride sizes offsets lengths) bytes.now most (number_of refusal) count 0 (start + stride * count) }
 {
     let mut at = start + stride * count;
-    let mut base = start;
-    let mut k: usize = 0;
-    while k < count {
+    for k in 0..count {
+        let base = start + stride * k;
         let size = field::read(bytes, base + sizes, 4) as usize;
-        if size == 0 {
-            return code;
-        }
-        if most < size {
-            return code;
+        if !(1..=most).contains(&size) {
+            return Err(refusal);
         }
         if field::read(bytes, base + offsets, 4) as usize != at {
-            return code;
+            return Err(refusal);
         }
         let long = field::read(bytes, base + lengths, 4) as usize;
         // past the end no later end can be right, and the sum cannot wrap
         if bytes.len() - at < long {
-            return code;
+            return Err(refusal);
         }
         at += long;
-        base += stride;
-        k += 1;
     }
-    if at != bytes.len() {
-        return code;
+    if at == bytes.len() {
+        Ok(())
+    } else {
+        Err(refusal)
     }
-    0
 }

@@ -10,9 +10,7 @@ pub fn read(bytes: &[u8], at: usize, width: usize) -> u64
     ensures { result ≡ field_at bytes.now at width }
 {
     let mut v: u64 = 0;
-    let mut k: usize = width;
-    while 0 < k {
-        k -= 1;
+    for k in (0..width).rev() {
         v = v * 256 + bytes[at + k] as u64;
     }
     v
@@ -38,11 +36,9 @@ pub fn write(out: &mut [u8], at: usize, width: usize, v: u64)
     ensures { out.new ≡ splice out.old at (le_bytes width v) }
 {
     let mut rest = v;
-    let mut k: usize = 0;
-    while k < width {
+    for k in 0..width {
         out[at + k] = (rest % 256) as u8;
         rest = rest / 256;
-        k += 1;
     }
 }
 
@@ -51,26 +47,12 @@ pub fn copy(out: &mut [u8], at: usize, bytes: &[u8])
     requires { at + length bytes.now ≤ length out.old }
     ensures { out.new ≡ splice out.old at bytes.now }
 {
-    let mut i: usize = 0;
-    while i < bytes.len() {
-        out[at + i] = bytes[i];
-        i += 1;
-    }
+    out[at..at + bytes.len()].copy_from_slice(bytes);
 }
 
 // The two runs of bytes are the same.
 pub fn equal(a: &[u8], b: &[u8]) -> bool
     ensures { result ≡ same a.now b.now }
 {
-    if a.len() != b.len() {
-        return false;
-    }
-    let mut i: usize = 0;
-    while i < a.len() {
-        if a[i] != b[i] {
-            return false;
-        }
-        i += 1;
-    }
-    true
+    a == b
 }

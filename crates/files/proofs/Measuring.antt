@@ -1,9 +1,9 @@
 -- The walk over a file's places: before place j, what the places from j on still add, and still write. Assumes nothing.
 use mathlib.Core.Path.{◌≡◌, refl, sym, ap, ◌∙◌}
 use mathlib.Core.Logic.{◌⊎◌, inl, inr}
-use mathlib.Core.Bool.{Bool, true, false, ◌&&◌, ◌||◌, not, cond, and-false, true≢false}
+use mathlib.Core.Bool.{Bool, true, false, ◌&&◌, ◌||◌, not, and-false, true≢false}
 use mathlib.Core.List.{List, [], ◌∷◌}
-use Prim.Native.Nat.{ℕ, zero, suc, ◌+◌, ◌-◌, ◌≤◌, ◌<◌, min}
+use Prim.Native.Nat.{ℕ, zero, suc, ◌+◌, ◌≤◌, ◌<◌, min}
 use native.Mathlib.Nat.{zero-add}
 use native.Mathlib.Numerals.{add-one}
 use native.Mathlib.Omega.{arith}
@@ -11,38 +11,15 @@ use borrow.Author.Tests.{lt-ltb, le-ltb, lt-leb, le-leb}
 use lib.Dec.{leb, ltb}
 use lib.ListN.{length, take, drop, get_or, set, drop_of_length-le, length-drop}
 use lib.Seq.{drop-cons}
-use Rattle.spec.specs.declared.Opened.{Opened}
 use Rattle.spec.specs.Bytes.{contains, position_of, every, sum, written}
 use Rattle.spec.specs.Outcome.{first_number}
 use Rattle.spec.specs.Recipes.{all_but_last, inner_long, sizes_in, file_code}
 use Rattle.spec.proofs.Tests.{le-or-lt}
 use Rattle.spec.proofs.EntryLaws.{contains-position}
-use Rattle.files.specs.Measures.{least_in, inner_short, entries_in, Measured}
+use Rattle.files.specs.Measures.{inner_short, entries_in, Measured}
 use Rattle.files.proofs.Slots.{Tested, filled, filled-start, filled_on, filled-end, filled-missing}
 
 -- ---- inner chunks
-
--- what they must have
-module _ (opened : Opened) where
-  pub least-none : opened.format.sets ≡ true → 0 ≡ least_in opened
-  unfolding least_in
-  least-none e = ap (λ (b : Bool). cond b 0 (opened.longest - 1)) (sym e)
-
-  pub least-longest : opened.format.sets ≡ false → opened.longest - 1 ≡ least_in opened
-  unfolding least_in
-  least-longest e = ap (λ (b : Bool). cond b 0 (opened.longest - 1)) (sym e)
-
-pub inner_first : (j n size inner_least : ℕ) → j ≡ 0 → false ≡ inner_short j n size inner_least
-inner_first j n size inner_least e = rw e
-
-pub inner_last : (j n size inner_least : ℕ) → n ≤ j + 1 → false ≡ inner_short j n size inner_least
-inner_last j n size inner_least h = rw (le-ltb (suc j) n (omega arith), and-false)
-
-pub inner-long : (j n size inner_least : ℕ) → inner_least ≤ size → false ≡ inner_short j n size inner_least
-inner-long j n size inner_least h = rw (le-ltb size inner_least h, and-false)
-
-pub inner-tight : (j n size inner_least : ℕ) → (j ≡ 0 → ⊥) → j + 1 < n → size < inner_least → true ≡ inner_short j n size inner_least
-inner-tight j n size inner_least f h l = rw (lt-ltb 0 j (omega arith), lt-ltb (suc j) n (omega arith), lt-ltb size inner_least l)
 
 -- what the places from j on have to keep: the first is not asked
 abbrev pub inner_long_from : ℕ → ℕ → List ℕ → Bool
@@ -93,16 +70,14 @@ module _ (keys : List (List ℕ)) (size_of : ℕ → ℕ) (inner_least : ℕ) (f
   measuring-missing j total short slots m h l =
       rw (← m.found, drop-cons file j [] h, contains-position (get_or file j []) keys, le-ltb (position_of (get_or file j []) keys) (length keys) l)
 
-  or-not : (a b x : Bool) → (not (a || b) && x) ≡ (not b && (not a && x))
-  or-not true true x = refl
-  or-not true false x = refl
-  or-not false true x = refl
-  or-not false false x = refl
+  or-not : (a b x : Bool) → (not (a || b) && x) ≡ (not a && (not b && x))
+  or-not true b x = refl
+  or-not false b x = refl
 
   pub measuring-on : (j total : ℕ) (short : Bool) (slots : List ℕ) → Measuring j total short slots → (h : j < length file)
       → (k size : ℕ) → k ≡ position_of (get_or file j []) keys → k < length keys → size ≡ size_of k
       → (more : ℕ) → more ≡ min (total + size) 4294967296 → (tight : Bool) → tight ≡ inner_short j (length file) size inner_least
-      → Measuring (j + 1) more (tight || short) (set slots j k)
+      → Measuring (j + 1) more (short || tight) (set slots j k)
   measuring-on j total short slots m h k size e l s more f tight g =
       let rest = drop (j + 1) file in
       let here : sizes (drop j file) ≡ size ∷ sizes rest = rw (add-one, drop-cons file j [] h, ← e, ← s) in
@@ -117,7 +92,7 @@ module _ (keys : List (List ℕ)) (size_of : ℕ → ℕ) (inner_least : ℕ) (f
         found = sym there ∙ m.found;
         few = omega arith;
         long = omega (arith, ap sum here, m.long, f);
-        inner = or-not tight short (inner_long_from inner_least (j + 1) (sizes rest)) ∙ ap (λ (x : Bool). not short && x) turn ∙ m.inner;
+        inner = or-not short tight (inner_long_from inner_least (j + 1) (sizes rest)) ∙ ap (λ (x : Bool). not short && x) turn ∙ m.inner;
         slotted = filled_on keys file slots j h k e l ∙ m.slotted;
       }
 
@@ -142,7 +117,7 @@ module _ (keys : List (List ℕ)) (size_of : ℕ → ℕ) (inner_least : ℕ) (f
 
   pub measured-missing : (j total : ℕ) (short : Bool) (slots : List ℕ) → Measuring j total short slots → (h : j < length file)
       → length keys ≤ position_of (get_or file j []) keys
-      → Measured keys size_of inner_least file slots₀ slots true total short
+      → Measured keys size_of inner_least file slots₀ slots true 0 false
   measured-missing j total short slots m h l =
       record {
         lacks = measuring-missing j total short slots m h l;

@@ -43,13 +43,13 @@ module _ (file index : List ℕ) (start count inner_least : ℕ) (slots₀ : Lis
   place_of k h e = rw (key-at 20 (length file / 20) j file h) e
 
   pub place-missing : Before → j < length file / 20 → (k : ℕ) → k ≡ position_of (part file (20 * j) 20) keys → count ≤ k
-      → Measured keys (sizes_at index start) inner_least (named file) slots₀ slots true total short
+      → Measured keys (sizes_at index start) inner_least (named file) slots₀ slots true 0 false
   place-missing m h k e l =
       measured-missing keys (sizes_at index start) inner_least (named file) slots₀ j total short slots m (omega (arith, places)) (omega (arith, place_of k h e, entries))
 
   pub place-on : Before → j < length file / 20 → (k size : ℕ) → k ≡ position_of (part file (20 * j) 20) keys → k < count → size ≡ sizes_at index start k
       → (more : ℕ) → more ≡ min (total + size) 4294967296 → (tight : Bool) → tight ≡ inner_short j (length file / 20) size inner_least
-      → (slots' : List ℕ) → slots' ≡ set slots j k → Measuring keys (sizes_at index start) inner_least (named file) slots₀ (j + 1) more (tight || short) slots'
+      → (slots' : List ℕ) → slots' ≡ set slots j k → Measuring keys (sizes_at index start) inner_least (named file) slots₀ (j + 1) more (short || tight) slots'
   place-on m h k size e l s more f tight g slots' w =
       rw w
       (measuring-on keys (sizes_at index start) inner_least (named file) slots₀ j total short slots m (omega (arith, places))

@@ -3,12 +3,15 @@
 // are left in slots, so that who walks the file next need not look them up again.
 #![tactic(auto)]
 
-ghost use Rattle.std.specs.Prelude.{◌≡◌, [], ◌∷◌, ◌+◌, ◌*◌, ◌≤◌, ◌<◌, min, length, take, set};
+ghost use Rattle.std.specs.Prelude.{◌≡◌, true, false, ◌+◌, ◌*◌, ◌≤◌, ◌<◌, min, length, take, set, MatchResult};
 ghost use Rattle.spec.specs.Bytes.{part, position_of, written};
-ghost use Rattle.spec.specs.Outcome.{first_number};
+ghost use Rattle.spec.specs.declared.Refusal.TheVariants.{NotFound};
+ghost use Rattle.spec.specs.Refusal.{number};
 ghost use Rattle.spec.specs.Recipes.{named, file_code};
 ghost use Rattle.directory.specs.Chains.{Lies, Chained};
 ghost use Rattle.files.specs.Measures.{keys_at, sizes_at, least_in, inner_short, entries_in, Measured};
+
+use spec::Refusal;
 
 // The entry of fingerprint j of a file; the number of entries where there is none.
 pub fn entry_of(file: &[u8], j: usize, index: &[u8], opened: spec::Opened, chains: &[u32]) -> usize
@@ -46,30 +49,16 @@ fn size_of(index: &[u8], opened: spec::Opened, k: usize) -> usize
     field::read(index, opened.directory + 32 * k + 20, 4) as usize
 }
 
-// A sum that stays at 4294967296 once it gets there.
-fn capped(total: usize, size: usize) -> usize
-    requires { total ≤ 4294967296 }
-    ensures { result ≡ min (total + size) 4294967296 }
-{
-    if 4294967296 - total < size {
-        return 4294967296;
-    }
-    total + size
-}
-
 // The least length of a chunk that is neither first nor last in its file.
+#[tactic(auto, unfolding(crate::specs::Measures::least_in))]
 fn inner_least(opened: spec::Opened) -> usize
     ensures { result ≡ least_in opened }
 {
-    let sets = opened.format.sets;
-    let longest = opened.longest;
-    if sets {
-        return 0;
+    if opened.format.sets {
+        0
+    } else {
+        opened.longest.saturating_sub(1)
     }
-    if longest == 0 {
-        return 0;
-    }
-    longest - 1
 }
 
 // The chunk at place j of n is neither first nor last, and shorter than is due.
@@ -77,100 +66,72 @@ fn inner_short(j: usize, n: usize, size: usize, innerLeast: usize) -> bool
     requires { j < n }
     ensures { result ≡ inner_short j n size innerLeast }
 {
-    if j == 0 {
-        return false;
-    }
-    if n <= j + 1 {
-        return false;
-    }
-    if innerLeast <= size {
-        return false;
-    }
-    true
+    0 < j && j + 1 < n && size < innerLeast
 }
 
-// What the tests of a file ask: whether a fingerprint is missing; and, where none is, the file's length, up to 4294967296, and whether
-// an inner chunk is too short.
+// What the tests of a file ask where no fingerprint is missing: its length, up to 4294967296, and whether an inner chunk is too short.
 #[derive(Drop)]
 struct Measure {
-    missing: bool,
     total: usize,
     short: bool,
 }
 
+// Measures a file; the first fingerprint that is missing refuses.
 fn measure_file(
     file: &[u8],
     index: &[u8],
     opened: spec::Opened,
     chains: &[u32],
     slots: &mut [u32],
-) -> Measure
+) -> Result<Measure, Refusal>
     requires lies { Lies index.now opened.directory 32 opened.entries }
     requires chained { Chained (keys_at index.now opened.directory opened.entries) 0 chains.now }
-    ensures { Measured (keys_at index.now opened.directory opened.entries) (sizes_at index.now opened.directory)
-        (least_in opened) (named file.now) slots.old slots.new result.missing result.total result.short }
+    ensures { MatchResult result
+        (λ m. Measured (keys_at index.now opened.directory opened.entries) (sizes_at index.now opened.directory) (least_in opened) (named file.now)
+        slots.old slots.new false m.total m.short)
+        (λ r. (r ≡ NotFound) × Measured (keys_at index.now opened.directory opened.entries) (sizes_at index.now opened.directory) (least_in opened)
+        (named file.now) slots.old slots.new true 0 false) }
 {
     let least = inner_least(opened);
     let count = opened.entries;
     let n = file.len() / 20;
     let mut total: usize = 0;
     let mut short = false;
-    let mut j: usize = 0;
-    while j < n {
+    for j in 0..n {
         let k = entry_of(file, j, index, opened, chains);
         if count <= k {
-            return Measure {
-                missing: true,
-                total: total,
-                short: short,
-            };
+            return Err(Refusal::NotFound);
         }
         keep(slots, j, k);
         let size = size_of(index, opened, k);
-        total = capped(total, size);
-        let tight = inner_short(j, n, size, least);
-        short = tight | short;
-        j += 1;
+        // a sum that stays at 4294967296 once it gets there
+        total = total.saturating_add(size).min(4294967296);
+        short |= inner_short(j, n, size, least);
     }
-    Measure {
-        missing: false,
-        total: total,
-        short: short,
-    }
+    Ok(Measure { total, short })
 }
 
-// The number of the first condition that holds, 0 where none does.
-fn first_of(a: bool, x: u8, b: bool, y: u8, c: bool, z: u8) -> u8
-    ensures { result ≡ first_number ((a, x) ∷ (b, y) ∷ (c, z) ∷ []) }
-{
-    if a {
-        return x;
-    }
-    if b {
-        return y;
-    }
-    if c {
-        return z;
-    }
-    0
-}
-
-// The code of a file. It leaves the entries of the file's first places in the slots, up to the first fingerprint that is missing.
-pub fn file_code(
+// The check of a file. It leaves the entries of the file's first places in the slots, up to the first fingerprint that is missing.
+pub fn check_file(
     file: &[u8],
     index: &[u8],
     opened: spec::Opened,
     chains: &[u32],
     slots: &mut [u32],
-) -> u8
+) -> Result<(), Refusal>
     requires lies { Lies index.now opened.directory 32 opened.entries }
     requires chained { Chained (keys_at index.now opened.directory opened.entries) 0 chains.now }
-    ensures { (result ≡ file_code (keys_at index.now opened.directory opened.entries) (sizes_at index.now opened.directory)
+    ensures { (number result ≡ file_code (keys_at index.now opened.directory opened.entries) (sizes_at index.now opened.directory)
         (least_in opened) (named file.now))
         × (slots.new ≡ written slots.old (take (length slots.old)
         (entries_in (keys_at index.now opened.directory opened.entries) (named file.now)))) }
 {
-    let m = measure_file(file, index, opened, chains, slots);
-    let long = 4294967295 < m.total;
-    first_of(m.missing, 15, long, 16, m.short, 17)
+    let m = measure_file(file, index, opened, chains, slots)?;
+    if 4294967295 < m.total {
+        return Err(Refusal::FileTooLong);
+    }
+    if m.short {
+        return Err(Refusal::InnerChunkShort);
+    }
+    Ok(())
 }

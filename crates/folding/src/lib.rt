@@ -5,33 +5,21 @@ ghost use Rattle.std.specs.Prelude.{◌≡◌};
 ghost use Rattle.spec.specs.Keywords.{is_upper, fold_byte};
 
 // Whether the byte is a capital: A to Z, or in Latin-1 an accented one, which the multiplication sign between them is not.
+#[tactic(auto, unfolding(spec::specs::Keywords::is_upper))]
 fn is_upper(b: u8) -> bool
     ensures { result ≡ is_upper b }
 {
-    if b < 0x41 {
-        return false;
-    }
-    if b <= 0x5A {
-        return true;
-    }
-    if b < 0xC0 {
-        return false;
-    }
-    if 0xDE < b {
-        return false;
-    }
-    b != 0xD7
+    b.is_ascii_uppercase() || ((0xC0..=0xDE).contains(&b) && b != 0xD7)
 }
 
 // The byte as it compares.
+#[tactic(auto, unfolding(spec::specs::Keywords::fold_byte))]
 pub fn fold(flag: u8, b: u8) -> u8
     ensures { result ≡ fold_byte flag b }
 {
-    if flag != 1 {
-        return b;
+    if flag == 1 && is_upper(b) {
+        b + 0x20
+    } else {
+        b
     }
-    if is_upper(b) {
-        return b + 0x20;
-    }
-    b
 }

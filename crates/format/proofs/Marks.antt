@@ -1,31 +1,23 @@
--- The format of an index by the tests of the code. Assumes nothing.
-use mathlib.Core.Path.{◌≡◌, sym, ap, ◌∙◌}
-use mathlib.Core.Bool.{Bool, true, false}
-use mathlib.Core.List.{List}
-use Prim.Native.Nat.{ℕ, ◌<◌}
-use native.Mathlib.Omega.{arith}
-use lib.ListN.{length, take, length-take}
-use Rattle.spec.specs.declared.Format.{Format}
+-- The test that an index begins with a mark. Assumes nothing.
+use mathlib.Core.Path.{◌≡◌, refl}
+use mathlib.Core.List.{List, [], ◌∷◌}
+use Prim.Native.Nat.{ℕ}
+use lib.Dec.{eqb}
+use lib.ListN.{length, take}
+use Rattle.std.specs.Cmp.Lexicographic.{pointwise}
+use Rattle.std.specs.List.{starts_with}
+use Rattle.std.proofs.Common.{arith}
+use Rattle.std.proofs.lemmas.Bool.Decides.{nat_tests}
 use Rattle.spec.specs.Bytes.{same}
-use Rattle.spec.specs.Form.{form1, form2, newest, form_of, format_of}
-use Rattle.spec.proofs.Same.{same_not}
-use Rattle.spec.proofs.Forms.{form-old, form-wide, form-new}
 
-module _ (index : List ℕ) (r : Format) where
-  -- fewer bytes than a mark has
-  pub of-short : length index < 4 → r ≡ format_of newest → r ≡ format_of (form_of index)
-  of-short h e = e ∙ ap format_of (form-new index (other form1.mark (omega arith)) (other form2.mark (omega arith)))
-    where
-      other : (mark : List ℕ) → length index < length mark → same (take 4 index) mark ≡ false
-      other mark l = same_not (take 4 index) mark (λ q. let z : length (take 4 index) ≡ length mark = ap length q in omega (arith, length-take 4 index))
+eqb-turned : (x y : ℕ) → eqb x y ≡ eqb y x
+eqb-turned x y = grind (arith, nat_tests)
 
-  module _ (t : Bool) (compared : t ≡ same (take 4 index) form1.mark) where
-    pub of-first : t ≡ true → r ≡ format_of form1 → r ≡ format_of (form_of index)
-    of-first b e = e ∙ ap format_of (form-old index (sym compared ∙ b))
+same_pointwise : (xs ys : List ℕ) → pointwise eqb ys xs ≡ same xs ys
+same_pointwise [] [] = refl
+same_pointwise [] (y ∷ ys) = refl
+same_pointwise (x ∷ xs) [] = refl
+same_pointwise (x ∷ xs) (y ∷ ys) = let e : eqb y x ≡ eqb x y = eqb-turned y x in rw (e, same_pointwise xs ys)
 
-    module _ (b : t ≡ false) (u : Bool) (compared₂ : u ≡ same (take 4 index) form2.mark) where
-      pub of-second : u ≡ true → r ≡ format_of form2 → r ≡ format_of (form_of index)
-      of-second d e = e ∙ ap format_of (form-wide index (sym compared ∙ b) (sym compared₂ ∙ d))
-
-      pub of_other : u ≡ false → r ≡ format_of newest → r ≡ format_of (form_of index)
-      of_other d e = e ∙ ap format_of (form-new index (sym compared ∙ b) (sym compared₂ ∙ d))
+pub starts_same : (xs mark : List ℕ) → starts_with eqb xs mark ≡ same (take (length mark) xs) mark
+starts_same xs mark = same_pointwise (take (length mark) xs) mark

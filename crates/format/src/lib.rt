@@ -33,29 +33,23 @@ fn second() -> spec::Format
 fn latest() -> spec::Format
     ensures { result ≡ format_of newest }
 {
-    let fields = second();
     spec::Format {
         number: 3,
-        width: fields.width,
-        longest: fields.longest,
         sets: true,
+        ..second()
     }
 }
 
 // The format that the index's mark names. With a mark that names none it is the newest, by which the index check then refuses.
+#[tactic(auto, using(crate::proofs::Marks::starts_same), unfolding(spec::specs::Form::form_of))]
 pub fn of(index: &[u8]) -> spec::Format
     ensures { result ≡ format_of (form_of index.now) }
 {
-    if index.len() < 4 {
-        return latest();
+    if index.starts_with(&[0x44, 0x4D, 0x31, 0x0A]) {
+        first()
+    } else if index.starts_with(&[0x44, 0x4D, 0x32, 0x0A]) {
+        second()
+    } else {
+        latest()
     }
-    let first_mark: [u8; 4] = [0x44, 0x4D, 0x31, 0x0A];
-    if field::equal(&index[..4], &first_mark) {
-        return first();
-    }
-    let second_mark: [u8; 4] = [0x44, 0x4D, 0x32, 0x0A];
-    if field::equal(&index[..4], &second_mark) {
-        return second();
-    }
-    latest()
 }

@@ -15,9 +15,7 @@ use Rattle.spec.specs.declared.Opened.{Opened}
 use Rattle.spec.specs.Form.{form_of, format_of}
 use Rattle.spec.specs.Index.{list_in, index_layout, index_keys, body_at, index_code}
 use Rattle.spec.specs.Opened.{opened_of}
-use Rattle.spec.specs.declared.Outcome.{Outcome}
-use Rattle.spec.specs.declared.Outcome.TheVariants.{Done, Refused}
-use Rattle.spec.specs.Outcome.{answer}
+use Rattle.spec.specs.Outcome.{Outcome, Done, Refused, answer}
 use Rattle.spec.specs.Lookup.{find_body, body_start, body_length, body_of}
 use Rattle.spec.proofs.LookupLaws.{refuses, finds, done-code, refused-number, lookup-refused, lookup-length, lookup-none, lookup-found}
 use Rattle.spec.proofs.LookupLaws.{lookup-passed, start-found, length_found, start-refused, length-refused}

@@ -10,28 +10,30 @@ ghost use Rattle.spec.specs.Directory.{entry_field, offset_at};
 ghost use Rattle.spec.specs.Index.{index_layout, index_keys, body_at, good_at, all_good, index_code, header_code, directory_code};
 ghost use Rattle.spec.specs.Opened.{opened_of};
 ghost use Rattle.spec.specs.Lookup.{find_body, body_start, body_length, body_of};
+ghost use Rattle.spec.specs.Refusal.{number, outcome_of};
 ghost use Rattle.directory.specs.Chains.{Empty};
 ghost use Rattle.index.specs.Stages.{examined_chains, Headed, Laid, Lens, IndexEntry};
 
-use spec::Format;
+use spec::{Format, Refusal};
 
 // Fewer than 8 bytes, another mark than the format's, or a chunk count above 65,000.
-fn header(index: &[u8], format: Format) -> u8
+fn header(index: &[u8], format: Format) -> Result<(), Refusal>
     requires { format ≡ format_of (form_of index.now) }
-    ensures { result ≡ header_code (form_of index.now) index.now }
+    ensures { number result ≡ header_code (form_of index.now) index.now }
 {
     if index.len() < 8 {
-        return 10;
+        return Err(Refusal::IndexMarkWrong);
     }
     let digit = 0x30 + format.number;
     let mark: [u8; 4] = [0x44, 0x4D, digit, 0x0A];
-    if !field::equal(&index[..4], &mark) {
-        return 10;
+    if !index.starts_with(&mark) {
+        return Err(Refusal::IndexMarkWrong);
     }
-    if 65000 < field::read(index, 4, 4) {
-        return 10;
+    if field::read(index, 4, 4) <= 65000 {
+        Ok(())
+    } else {
+        Err(Refusal::IndexMarkWrong)
     }
-    0
 }
 
 // The chunk count.
@@ -43,14 +45,24 @@ fn chunk_count(index: &[u8]) -> usize
 }
 
 // The directory cut short, an entry wrong, or the last end not the index's.
-fn entries(index: &[u8], format: Format, start: usize, count: usize) -> u8
+fn entries(index: &[u8], format: Format, start: usize, count: usize) -> Result<(), Refusal>
     requires { Headed index.now start count × (format ≡ format_of (form_of index.now)) }
-    ensures { result ≡ directory_code (form_of index.now) index.now }
+    ensures { number result ≡ directory_code (form_of index.now) index.now }
 {
     if index.len() < start + 32 * count {
-        return 11;
+        return Err(Refusal::IndexEntryWrong);
     }
-    directory::entries(index, start, 32, 20, 24, 28, format.longest, 11, count)
+    directory::entries(
+        index,
+        start,
+        32,
+        20,
+        24,
+        28,
+        format.longest,
+        Refusal::IndexEntryWrong,
+        count,
+    )
 }
 
 // The body of entry e is good.
@@ -85,51 +97,40 @@ fn all_good(
     requires { Laid index.now start count × Lens index.now words lens.now × (format ≡ format_of (form_of index.now)) }
     ensures { result ≡ all_good (form_of index.now) index.now }
 {
-    let mut e: usize = 0;
-    while e < count {
+    for e in 0..count {
         if !entry_good(index, format, start, e, lens, words) {
             return false;
         }
-        e += 1;
     }
     true
 }
 
 // The index check; it leaves the chains of the index's fingerprints in the array, once the directory is seen to be whole.
-pub fn examine(index: &[u8], chains: &mut [u32]) -> u8
+pub fn examine(index: &[u8], chains: &mut [u32]) -> Result<(), Refusal>
     requires { Empty chains.old }
-    ensures { (result ≡ index_code (form_of index.now) index.now)
+    ensures { (number result ≡ index_code (form_of index.now) index.now)
         × (chains.new ≡ examined_chains index.now chains.old) }
 {
     let format = format::of(index);
-    let code = header(index, format);
-    if code != 0 {
-        return code;
-    }
-    let listed = keywords::check_front(&index[8..]);
-    if listed != 0 {
-        return listed;
-    }
+    header(index, format)?;
+    keywords::check_front(&index[8..])?;
     let list = keywords::parse(&index[8..]);
     let start = 8 + list.size;
     let c = chunk_count(index);
-    let wrong = entries(index, format, start, c);
-    if wrong != 0 {
-        return wrong;
-    }
+    entries(index, format, start, c)?;
     if directory::build(index, start, 32, c, chains) {
-        return 12;
+        return Err(Refusal::IndexDuplicate);
     }
-    let lens = list.len;
-    if !all_good(index, format, start, c, &lens, list.count) {
-        return 13;
+    if all_good(index, format, start, c, &list.len, list.count) {
+        Ok(())
+    } else {
+        Err(Refusal::BodyNotGood)
     }
-    0
 }
 
 // The index check.
-pub fn check(index: &[u8]) -> u8
-    ensures { result ≡ index_code (form_of index.now) index.now }
+pub fn check(index: &[u8]) -> Result<(), Refusal>
+    ensures { number result ≡ index_code (form_of index.now) index.now }
 {
     let mut chains = [0u32; 130536];
     examine(index, &mut chains)
@@ -150,40 +151,35 @@ pub fn opened(index: &[u8]) -> spec::Opened
         entries: c,
         keywords: list.count,
         longest: list.most,
-        format: format,
+        format,
     }
 }
 
-// The entry of a fingerprint, or the number that refuses the lookup.
-fn locate(index: &[u8], fp: &[u8]) -> spec::Outcome
-    ensures { result ≡ answer (find_body (form_of index.now) index.now fp.now)
+// The entry of a fingerprint, or why the lookup is refused.
+fn locate(index: &[u8], fp: &[u8]) -> Result<usize, Refusal>
+    ensures { outcome_of result ≡ answer (find_body (form_of index.now) index.now fp.now)
         (position_of fp.now (index_keys index.now)) }
 {
     let mut chains = [0u32; 130536];
-    let code = examine(index, &mut chains);
-    if code != 0 {
-        return spec::Outcome::Refused(code);
-    }
+    examine(index, &mut chains)?;
     if fp.len() != 20 {
-        return spec::Outcome::Refused(19);
+        return Err(Refusal::FingerprintLength);
     }
     let known = opened(index);
     let c = known.entries;
     let k = directory::find(index, known.directory, 32, c, &chains, fp);
     if k == c {
-        return spec::Outcome::Refused(15);
+        return Err(Refusal::NotFound);
     }
-    spec::Outcome::Done(k)
+    Ok(k)
 }
 
-// The number of a lookup: 0 when the fingerprint is found.
-pub fn find_body(index: &[u8], fp: &[u8]) -> u8
-    ensures { result ≡ find_body (form_of index.now) index.now fp.now }
+// Whether a lookup finds the fingerprint, or why it is refused.
+pub fn find_body(index: &[u8], fp: &[u8]) -> Result<(), Refusal>
+    ensures { number result ≡ find_body (form_of index.now) index.now fp.now }
 {
-    match locate(index, fp) {
-        spec::Outcome::Done(_) => 0,
-        spec::Outcome::Refused(code) => code,
-    }
+    locate(index, fp)?;
+    Ok(())
 }
 
 // The field of entry k that starts at byte `at` of it.
@@ -213,8 +209,8 @@ pub fn body_start(index: &[u8], fp: &[u8]) -> usize
     ensures { result ≡ body_start (form_of index.now) index.now fp.now }
 {
     match locate(index, fp) {
-        spec::Outcome::Done(k) => entry_field(index, k, 24),
-        spec::Outcome::Refused(_) => 0,
+        Ok(k) => entry_field(index, k, 24),
+        Err(_) => 0,
     }
 }
 
@@ -223,8 +219,8 @@ pub fn body_length(index: &[u8], fp: &[u8]) -> usize
     ensures { result ≡ body_length (form_of index.now) index.now fp.now }
 {
     match locate(index, fp) {
-        spec::Outcome::Done(k) => entry_field(index, k, 28),
-        spec::Outcome::Refused(_) => 0,
+        Ok(k) => entry_field(index, k, 28),
+        Err(_) => 0,
     }
 }
 
@@ -235,7 +231,7 @@ pub fn body<'a, 'b>(index: &'a [u8], fp: &'b [u8]) -> &'a [u8]
         × (result.ref_ptr.1 ≡ body_start (form_of index.now) index.now fp.now + index.entry.ref_ptr.1) }
 {
     match locate(index, fp) {
-        spec::Outcome::Done(k) => body_at(index, k),
-        spec::Outcome::Refused(_) => &index[..0],
+        Ok(k) => body_at(index, k),
+        Err(_) => &index[..0],
     }
 }

@@ -19,13 +19,6 @@ use Rattle.trie.proofs.Walks as walks
 use Rattle.chunkwalk.specs.Marks.{chunk_moves, walked_moves}
 use Rattle.index_writer.specs.Layout.{AllOdd, moves_written}
 
--- the logs (b) are as long as they were (a)
-pub record Lengths (a₀ a₁ a₂ a₃ b₀ b₁ b₂ b₃ : List ℕ) : Type 0 where
-  pub log : length b₀ ≡ length a₀
-  pub run1 : length b₁ ≡ length a₁
-  pub run2 : length b₂ ≡ length a₂
-  pub run3 : length b₃ ≡ length a₃
-
 -- what chunks from k on take together
 module _ (store : List ℕ) (moves : ℕ → ℕ) where
   abbrev pub moves_left : ℕ → ℕ

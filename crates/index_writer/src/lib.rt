@@ -25,41 +25,31 @@ pub struct Sum {
 
 // Walks every chunk: the length of all bodies, the moves, and each chunk's mark, in the buffer's first numbers.
 pub fn measure_bodies(
-    list: &[u8],
-    words: keywords::Keywords,
+    machine: &windows::Machine,
     store: &[u8],
     count: usize,
-    table: &[u32],
-    ends: &[u32],
-    tails: &[u8],
     log: &mut [u32],
     run1: &mut [u32],
     run2: &mut [u32],
     run3: &mut [u32],
     marks: &mut [u32],
 ) -> Sum
-    requires { CanMeasure list.now words store.now count table.now ends.now tails.now log.old run1.old run2.old run3.old marks.old }
-    ensures { (result.size ≡ length (bodies_from newest list.now store.now 0))
-        × (result.moves ≡ scan_moves list.now store.now)
-        × (marks.new ≡ splice marks.old 0 (marks_of list.now store.now)) }
+    requires { CanMeasure machine.now.list.now machine.now.words store.now count machine.now.table.now machine.now.ends.now
+        machine.now.tails.now log.old run1.old run2.old run3.old marks.old }
+    ensures { (result.size ≡ length (bodies_from newest machine.now.list.now store.now 0))
+        × (result.moves ≡ scan_moves machine.now.list.now store.now)
+        × (marks.new ≡ splice marks.old 0 (marks_of machine.now.list.now store.now)) }
 {
-    let mut size: usize = 0;
-    let mut moves: u64 = 0;
-    let mut j: usize = 0;
-    while j < count {
+    let mut size = 0;
+    let mut moves = 0;
+    for j in 0..count {
         let chunk = store::chunk_at(store, j);
-        let m = chunkwalk::measure(
-            list, words, chunk, table, ends, tails, log, run1, run2, run3,
-        );
+        let m = chunkwalk::measure(machine, chunk, log, run1, run2, run3);
         size += m.size;
         moves += m.moves;
         marks[j] = m.mark;
-        j += 1;
     }
-    Sum {
-        size: size,
-        moves: moves,
-    }
+    Sum { size, moves }
 }
 
 // ---- writing
@@ -79,39 +69,30 @@ fn put_entry(out: &mut [u8], at: usize, key: &[u8], size: usize, offset: usize, 
 // ends, and the moves of the walks.
 fn put_entries(
     out: &mut [u8],
-    list: &[u8],
-    words: keywords::Keywords,
+    machine: &windows::Machine,
     store: &[u8],
     count: usize,
-    table: &[u32],
-    ends: &[u32],
-    tails: &[u8],
     log: &mut [u32],
     run1: &mut [u32],
     run2: &mut [u32],
     run3: &mut [u32],
     marks: &[u32],
 ) -> Sum
-    requires { CanPutEntries out.old list.now words store.now count table.now ends.now tails.now log.old run1.old run2.old run3.old
-        marks.now }
-    ensures { (out.new ≡ splice out.old (8 + length list.now) (tail_bytes newest list.now store.now))
-        × (result.size ≡ length (scan_index newest list.now store.now))
-        × (result.moves ≡ moves_written list.now store.now marks.now) }
+    requires { CanPutEntries out.old machine.now.list.now machine.now.words store.now count machine.now.table.now machine.now.ends.now
+        machine.now.tails.now log.old run1.old run2.old run3.old marks.now }
+    ensures { (out.new ≡ splice out.old (8 + length machine.now.list.now) (tail_bytes newest machine.now.list.now store.now))
+        × (result.size ≡ length (scan_index newest machine.now.list.now store.now))
+        × (result.moves ≡ moves_written machine.now.list.now store.now marks.now) }
 {
-    let start = 8 + list.len();
+    let start = 8 + machine.list.len();
     let mut at = start + 32 * count;
-    let mut moves: u64 = 0;
-    let mut k: usize = 0;
-    while k < count {
+    let mut moves = 0;
+    for k in 0..count {
         let chunk = store::chunk_at(store, k);
         let w = chunkwalk::put(
             &mut out[at..],
-            list,
-            words,
+            machine,
             chunk,
-            table,
-            ends,
-            tails,
             log,
             run1,
             run2,
@@ -122,40 +103,30 @@ fn put_entries(
         put_entry(out, start + 32 * k, key, chunk.len(), at, w.size);
         at += w.size;
         moves += w.moves;
-        k += 1;
     }
-    Sum {
-        size: at,
-        moves: moves,
-    }
+    Sum { size: at, moves }
 }
 
 // Writes the index at the buffer's start: its length, and the moves of the walks.
 pub fn put_index(
     out: &mut [u8],
-    list: &[u8],
-    words: keywords::Keywords,
+    machine: &windows::Machine,
     store: &[u8],
     count: usize,
-    table: &[u32],
-    ends: &[u32],
-    tails: &[u8],
     log: &mut [u32],
     run1: &mut [u32],
     run2: &mut [u32],
     run3: &mut [u32],
     marks: &[u32],
 ) -> Sum
-    requires { CanPutEntries out.old list.now words store.now count table.now ends.now tails.now log.old run1.old run2.old run3.old
-        marks.now }
-    ensures { (out.new ≡ splice out.old 0 (scan_index newest list.now store.now))
-        × (result.size ≡ length (scan_index newest list.now store.now))
-        × (result.moves ≡ moves_written list.now store.now marks.now) }
+    requires { CanPutEntries out.old machine.now.list.now machine.now.words store.now count machine.now.table.now machine.now.ends.now
+        machine.now.tails.now log.old run1.old run2.old run3.old marks.now }
+    ensures { (out.new ≡ splice out.old 0 (scan_index newest machine.now.list.now store.now))
+        × (result.size ≡ length (scan_index newest machine.now.list.now store.now))
+        × (result.moves ≡ moves_written machine.now.list.now store.now marks.now) }
 {
     field::copy(out, 0, &MARK);
     field::write(out, 4, 4, count as u64);
-    field::copy(out, 8, list);
-    put_entries(
-        out, list, words, store, count, table, ends, tails, log, run1, run2, run3, marks,
-    )
+    field::copy(out, 8, machine.list);
+    put_entries(out, machine, store, count, log, run1, run2, run3, marks)
 }

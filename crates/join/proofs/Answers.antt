@@ -6,25 +6,29 @@ use Prim.Native.Nat.{ℕ, ◌*◌, ◌/◌, ◌≤◌, ◌<◌}
 use native.Mathlib.Omega.{arith}
 use lib.ListN.{length}
 use borrow.Author.Tests.{lt-ltb, le-ltb}
-use Rattle.spec.specs.declared.Outcome.{Outcome}
-use Rattle.spec.specs.declared.Outcome.TheVariants.{Done, Refused}
+use Rattle.std.specs.Prelude.{Ok, Err}
+use Rattle.spec.specs.declared.Refusal.{Refusal}
+use Rattle.spec.specs.declared.Refusal.TheVariants.{ListTooLong}
+use Rattle.spec.specs.Outcome.{Outcome, Done}
+use Rattle.spec.specs.Refusal.{number_of, outcome_of}
+use Rattle.spec.proofs.Refusals.{number-some, refusal-answers}
 use Rattle.spec.specs.Bytes.{splice}
 use Rattle.spec.specs.Form.{form_of}
 use Rattle.spec.specs.Keywords.{keywords_of}
 use Rattle.spec.specs.Index.{list_in}
 use Rattle.spec.specs.Join.{Occurrence, Clients, tally_with, clients_code, join_list, list_bytes, joinable_code, join_code, join_outcome, join_buffer, join_tally, count_outcome}
-use Rattle.spec.proofs.Codes.{refused-whole, next-whole, last-whole, refused, next-test, answer-done, answer-refused, buffer-done, buffer-refused}
+use Rattle.spec.proofs.Codes.{refused-whole, next-whole, last-whole, refused, next-test, answer-done, buffer-done, buffer-refused}
 
 module _ (index recipes : List ℕ) (code : ℕ) (e : code ≡ joinable_code (form_of index) index recipes) where
   -- the number of occurrences
   abbrev many : ℕ
   many = length (join_list (form_of index) index recipes)
 
-  pub count-refused : code ≢ 0 → Refused code ≡ count_outcome (form_of index) index recipes
+  pub count-refused : (r : Refusal) → number_of r ≡ code → outcome_of (Err r) ≡ count_outcome (form_of index) index recipes
   unfolding count_outcome
-  count-refused h = ap Refused e ∙ answer-refused (joinable_code (form_of index) index recipes) many (λ z. h (e ∙ z))
+  count-refused r h = refusal-answers r (joinable_code (form_of index) index recipes) many (h ∙ e)
 
-  pub count-done : (n : ℕ) → code ≡ 0 → n ≡ many → Done n ≡ count_outcome (form_of index) index recipes
+  pub count-done : (n : ℕ) → code ≡ 0 → n ≡ many → outcome_of (Ok n) ≡ count_outcome (form_of index) index recipes
   unfolding count_outcome
   count-done n z m = ap Done m ∙ answer-done (joinable_code (form_of index) index recipes) many (sym e ∙ z)
 
@@ -62,31 +66,31 @@ module _ (index recipes : List ℕ) (code : ℕ) (e : code ≡ joinable_code (fo
         ∙ next-test _ 18 _ (le-ltb (length out) (9 * many) l)
         ∙ last-whole keyed
 
-    refusal : (n : ℕ) → n ≡ whole → n ≢ 0 → Joined out (Refused n) clients.tally
+    refusal : (r : Refusal) → number_of r ≡ whole → Joined out (outcome_of (Err r)) clients.tally
     unfolding join_outcome join_buffer join_tally
-    refusal n p h = (
-      ap Refused p ∙ answer-refused whole many (λ z. h (p ∙ z)),
-      buffer-refused whole (splice out 0 (list_bytes list)) out (λ z. h (p ∙ z)),
-      buffer-refused whole (tally_with clients list) clients.tally (λ z. h (p ∙ z)),
+    refusal r p = (
+      refusal-answers r whole many p,
+      buffer-refused whole (splice out 0 (list_bytes list)) out (λ z. number-some r (p ∙ z)),
+      buffer-refused whole (tally_with clients list) clients.tally (λ z. number-some r (p ∙ z)),
     )
 
-    pub join-refused : code ≢ 0 → Joined out (Refused code) clients.tally
-    join-refused h = refusal code (code-first h) h
+    pub join-refused : (r : Refusal) → number_of r ≡ code → Joined out (outcome_of (Err r)) clients.tally
+    join-refused r h = refusal r (h ∙ code-first (λ z. number-some r (h ∙ z)))
 
     -- the code divides, so that no product is taken
-    pub join-long : (n : ℕ) → code ≡ 0 → n ≡ many → length out / 9 < n → Joined out (Refused 18) clients.tally
-    join-long n z m h = refusal 18 (code-long z (omega arith)) (omega arith)
+    pub join-long : (n : ℕ) → code ≡ 0 → n ≡ many → length out / 9 < n → Joined out (outcome_of (Err ListTooLong)) clients.tally
+    join-long n z m h = refusal ListTooLong (code-long z (omega arith))
 
     pub join-room : (n : ℕ) → n ≡ many → n ≤ length out / 9 → 9 * many ≤ length out
     join-room n m h = omega arith
 
     -- the list has room
     module _ (n : ℕ) (z : code ≡ 0) (m : n ≡ many) (h : n ≤ length out / 9) where
-      pub join-keyed : (c : ℕ) → c ≡ keyed → c ≢ 0 → Joined out (Refused c) clients.tally
-      join-keyed c q d = refusal c (q ∙ sym (code-keyed z (join-room n m h))) d
+      pub join-keyed : (r : Refusal) → number_of r ≡ keyed → Joined out (outcome_of (Err r)) clients.tally
+      join-keyed r q = refusal r (q ∙ sym (code-keyed z (join-room n m h)))
 
       pub join-done : (after tally : List ℕ) → keyed ≡ 0 → after ≡ splice out 0 (list_bytes list) → tally ≡ tally_with clients list
-          → Joined after (Done n) tally
+          → Joined after (outcome_of (Ok n)) tally
       unfolding join_outcome join_buffer join_tally
       join-done after tally k w t =
           let c : whole ≡ 0 = code-keyed z (join-room n m h) ∙ k in (

@@ -1,5 +1,5 @@
 -- The loop over the files that lists them: before file k, what lies in the buffer and the files from k on are the whole list. Assumes nothing.
-use mathlib.Core.Path.{◌≡◌, sym, ap, ◌∙◌}
+use mathlib.Core.Path.{◌≡◌, sym, ap, subst, ◌∙◌}
 use mathlib.Core.List.{List, ◌++◌}
 use Prim.Native.Nat.{ℕ, ◌+◌, ◌*◌, ◌≤◌, ◌<◌}
 use native.Mathlib.Omega.{arith}
@@ -48,10 +48,11 @@ module _ (index recipes : List ℕ) where
         omega (arith, length-list here, going-room out₀ out 0 place whole (coming k) g.going (list_bytes here) (coming (k + 1)) whole_room bytes-step)
 
     pub listing-on : (out' : List ℕ) (end : ℕ) → (end ≡ place + 9 * length here) × (out' ≡ splice out place (list_bytes here))
-        → Listing out₀ out' (k + 1) (at + 4 + length file) end
+        → Listing out₀ out' (k + 1) (at + (4 + length file)) end
     listing-on out' end l =
+        let next : at + 4 + length file ≡ at + (4 + length file) = omega arith in
         record {
-          walk = file-next recipes k at g.walk turn file f;
+          walk = subst (Walk recipes (k + 1)) next (file-next recipes k at g.walk turn file f);
           going =
               going_on out₀ out 0 place whole (coming k) g.going out' (list_bytes here) (coming (k + 1)) end
               whole_room bytes-step (l.0 ∙ ap (λ (x : ℕ). place + x) (sym (length-list here))) l.1;

@@ -3,12 +3,14 @@
 // listed is added to the tally of the clients, by a key (request #110).
 #![tactic(auto)]
 
-ghost use Rattle.std.specs.Prelude.{◌≡◌, [], ◌*◌, ◌≤◌, length};
+ghost use Rattle.std.specs.Prelude.{◌≡◌, [], ◌*◌, ◌≤◌, length, Err};
 ghost use Rattle.spec.specs.Bytes.{splice};
 ghost use Rattle.spec.specs.Form.{form_of};
-ghost use Rattle.spec.specs.declared.Outcome.TheVariants.{Refused};
+ghost use Rattle.spec.specs.Refusal.{outcome_of};
 ghost use Rattle.spec.specs.Join.{counts_of, lent, join_list, list_bytes, count_outcome, join_outcome, join_buffer, join_tally};
 ghost use Rattle.plan.specs.Plans.{Planned};
+
+use spec::Refusal;
 
 // Lists the occurrences of all files.
 fn list_files(
@@ -24,51 +26,49 @@ fn list_files(
     ensures { out.new
         ≡ splice out.old 0 (list_bytes (join_list (form_of index.now) index.now recipes.now)) }
 {
+    let source = walk::Source {
+        index,
+        opened: made.opened,
+        chains,
+        tables,
+    };
     let files = recipes::count_at(recipes, 0);
     let mut place: usize = 0;
     let mut at: usize = 4;
-    let mut number: usize = 0;
-    while number < files {
+    for number in 0..files {
         let file = recipes::file_at(recipes, at);
-        let mark = made.marks[number];
         let listing = walk::Listing {
-            opened: made.opened,
-            number: number,
-            place: place,
-            mark: mark,
+            number,
+            place,
+            has_rows: made.has_rows[number],
         };
-        place = walk::list_file(index, listing, chains, tables, file, out);
-        at = at + 4 + file.len();
-        number += 1;
+        place = walk::list_file(source, listing, file, out);
+        at += 4 + file.len();
     }
 }
 
 // The count that a join would report, whatever the buffer, or the refusal.
-pub fn count(index: &[u8], recipes: &[u8]) -> spec::Outcome
-    ensures { result ≡ count_outcome (form_of index.now) index.now recipes.now }
+pub fn count(index: &[u8], recipes: &[u8]) -> Result<usize, Refusal>
+    ensures { outcome_of result ≡ count_outcome (form_of index.now) index.now recipes.now }
 {
     let mut chains = [0u32; 130536];
     let mut tables = [[[0u32; 32]; 32]; 16];
-    let all = [0u8; 0];
-    let counted = plan::make(index, recipes, &all, &mut chains, &mut tables);
-    if counted.code != 0 {
-        return spec::Outcome::Refused(counted.code);
-    }
-    spec::Outcome::Done(counted.total)
+    let counted = plan::make(index, recipes, &[], &mut chains, &mut tables)?;
+    Ok(counted.total)
 }
 
 // The answer of a join, and the tally after it.
 #[derive(Clone, Copy)]
 pub struct Joined {
-    pub outcome: spec::Outcome,
+    pub outcome: Result<usize, Refusal>,
     pub tally: spec::Tally,
 }
 
-fn refused(code: u8, before: spec::Tally) -> Joined
-    ensures { (result.outcome ≡ Refused code) × (result.tally ≡ before) }
+fn refused(refusal: Refusal, before: spec::Tally) -> Joined
+    ensures { (result.outcome ≡ Err refusal) × (result.tally ≡ before) }
 {
     Joined {
-        outcome: spec::Outcome::Refused(code),
+        outcome: Err(refusal),
         tally: before,
     }
 }
@@ -81,29 +81,27 @@ pub fn tallied(
     out: &mut [u8],
     before: spec::Tally,
 ) -> Joined
-    ensures { (result.outcome ≡ join_outcome (form_of index.now) index.now recipes.now (lent key.now before) (length out.old))
+    ensures { (outcome_of result.outcome ≡ join_outcome (form_of index.now) index.now recipes.now (lent key.now before) (length out.old))
         × (out.new ≡ join_buffer (form_of index.now) index.now recipes.now (lent key.now before) out.old)
         × (counts_of result.tally ≡ join_tally (form_of index.now) index.now recipes.now (lent key.now before) (length out.old)) }
 {
     let mut chains = [0u32; 130536];
     let mut tables = [[[0u32; 32]; 32]; 16];
-    let all = [0u8; 0];
-    let p = plan::make(index, recipes, &all, &mut chains, &mut tables);
-    if p.code != 0 {
-        return refused(p.code, before);
-    }
+    let p = match plan::make(index, recipes, &[], &mut chains, &mut tables) {
+        Ok(plan) => plan,
+        Err(refusal) => return refused(refusal, before),
+    };
     if out.len() / 9 < p.total {
-        return refused(18, before);
+        return refused(Refusal::ListTooLong, before);
     }
     let counts = p.counts;
-    let t = tally::add(key, p.opened.keywords, counts, before);
-    if t.code != 0 {
-        return refused(t.code, before);
-    }
-    let after = t.tally;
+    let after = match tally::add(key, p.opened.keywords, counts, before) {
+        Ok(sums) => sums,
+        Err(keyed) => return refused(keyed, before),
+    };
     list_files(index, recipes, p, &chains, &tables, out);
     Joined {
-        outcome: spec::Outcome::Done(p.total),
+        outcome: Ok(p.total),
         tally: after,
     }
 }
@@ -115,8 +113,8 @@ pub fn join(
     key: &[u8],
     out: &mut [u8],
     tally: &mut spec::Tally,
-) -> spec::Outcome
-    ensures { (result ≡ join_outcome (form_of index.now) index.now recipes.now (lent key.now tally.old) (length out.old))
+) -> Result<usize, Refusal>
+    ensures { (outcome_of result ≡ join_outcome (form_of index.now) index.now recipes.now (lent key.now tally.old) (length out.old))
         × (out.new ≡ join_buffer (form_of index.now) index.now recipes.now (lent key.now tally.old) out.old)
         × (counts_of tally.new ≡ join_tally (form_of index.now) index.now recipes.now (lent key.now tally.old) (length out.old)) }
 {

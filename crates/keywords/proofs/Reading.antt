@@ -79,9 +79,9 @@ reading-start list r =
     }
 
 -- the next keyword, while one is left
-pub reading-next : (list : List ℕ) (k at most : ℕ) (start len : List ℕ) → Reading list k at most start len → k < count_of list
+pub reading-next : {list : List ℕ} {k at most : ℕ} {start len : List ℕ} → Reading list k at most start len → k < count_of list
     → Next list (count_of list - (k + 1)) at (get_or list at 0)
-reading-next list k at most start len r h =
+reading-next {list} {k} {at} r h =
     let s : count_of list - k ≡ suc (count_of list - (k + 1)) = omega arith in
     next list (count_of list - (k + 1)) at (rw s at r.read)
 
@@ -102,9 +102,11 @@ module _ (keywords : List (List ℕ)) (k at n : ℕ) (keyword : List ℕ) (rest 
 store-on : (l whole left rest : List ℕ) (k x : ℕ) → k < length l → left ≡ x ∷ rest → splice l k left ≡ whole → splice (set l k x) (k + 1) rest ≡ whole
 store-on l whole left rest k x h p e = splice-cons l k x rest h ∙ ap (splice l k) (sym p) ∙ e
 
-pub reading-on : (list : List ℕ) (k at most : ℕ) (start len : List ℕ) → Reading list k at most start len → k < count_of list → count_of list ≤ 16
-    → (n m : ℕ) → n ≡ get_or list at 0 → m ≡ max most n → Reading list (k + 1) (at + 1 + n) m (set start k (at + 1)) (set len k n)
-reading-on list k at most start len r h few n m e f = go (rw (← e) at (reading-next list k at most start len r h))
+pub reading-on : {list : List ℕ} {k at most : ℕ} {start len : List ℕ} → Reading list k at most start len → k < count_of list → count_of list ≤ 16
+    → (n m : ℕ) → n ≡ get_or list at 0 → m ≡ max most n → Reading list (k + 1) (at + (1 + n)) m (set start k (at + 1)) (set len k n)
+reading-on {list} {k} {at} {most} {start} {len} r h few n m e f =
+    let on : at + (1 + n) ≡ at + 1 + n = omega arith in
+    rw on (go (rw (← e) at (reading-next r h)))
   where
     go : Next list (count_of list - (k + 1)) at n → Reading list (k + 1) (at + 1 + n) m (set start k (at + 1)) (set len k n)
     go x =
@@ -127,10 +129,11 @@ reading-on list k at most start len r h few n m e f = go (rw (← e) at (reading
         }
 
 -- nothing is left: the struct is as promised
-pub reading-end : (list : List ℕ) (k at most : ℕ) (start len : List ℕ) → Reading list k at most start len → count_of list ≤ k
-    → (words : Keywords) → words ≡ record { count = count_of list; flag = flag_of list; size = at; most = most; start = start; len = len } → words ≡ parsed_of list
+pub reading-end : {list : List ℕ} {k at most : ℕ} {start len : List ℕ} → Reading list k at most start len → count_of list ≤ k
+    → (words : Keywords) → words ≡ record { count = count_of list; flag = flag_of list; size = at; most = most; start = start; len = len }
+    → words ≡ parsed_of list
 unfolding parsed_of starts_from
-reading-end list k at most start len r h words e =
+reading-end {list} {k} {at} {most} {start} {len} r h words e =
     let z : count_of list - k ≡ 0 = omega arith in
     let size : at + 0 ≡ list_size list = rw z at r.size in
     let keys : [] ≡ drop k (keywords_of list) = rw z at r.keywords in

@@ -3,9 +3,12 @@
 
 ghost use Rattle.std.specs.Prelude.{◌≡◌, [], ◌∷◌, ◌+◌, ◌≤◌, ◌<◌, max, length, drop, get_or};
 ghost use Rattle.spec.specs.Bytes.{same, contains, twice};
-ghost use Rattle.spec.specs.Outcome.{first_number};
+ghost use Rattle.spec.specs.Outcome.{first_number, keywords_alike};
 ghost use Rattle.spec.specs.Keywords.{folded, folded_keywords, read_code, front_tests, keyword_code, keyword_front_code};
+ghost use Rattle.spec.specs.Refusal.{number};
 ghost use Rattle.keywords.specs.Parsed.{ReadableList, Places, parsed_of};
+
+use spec::Refusal;
 
 // A list that was read: how many keywords, the fold flag, the list's length, the longest keyword's length; for each keyword its first
 // byte's place in the list and its length.
@@ -19,41 +22,30 @@ pub struct Keywords {
     pub len: [usize; 16],
 }
 
-fn larger(a: usize, b: usize) -> usize
-    ensures { result ≡ max a b }
-{
-    if a < b {
-        return b;
-    }
-    a
-}
-
 // Splits a list that reads without fault, whether or not keywords are alike.
 fn split(list: &[u8]) -> Keywords
     requires { ReadableList list.now }
     ensures { result ≡ parsed_of list.now }
 {
-    let count = list[0] as usize;
+    let count = usize::from(list[0]);
     let mut start = [0usize; 16];
     let mut len = [0usize; 16];
-    let mut most: usize = 0;
-    let mut at: usize = 2;
-    let mut k: usize = 0;
-    while k < count {
-        let n = list[at] as usize;
+    let mut most = 0;
+    let mut at = 2;
+    for k in 0..count {
+        let n = usize::from(list[at]);
         start[k] = at + 1;
         len[k] = n;
-        most = larger(most, n);
-        at = at + 1 + n;
-        k += 1;
+        most = most.max(n);
+        at += 1 + n;
     }
     Keywords {
-        count: count,
+        count,
         flag: list[1],
         size: at,
-        most: most,
-        start: start,
-        len: len,
+        most,
+        start,
+        len,
     }
 }
 
@@ -66,48 +58,37 @@ pub fn parse(list: &[u8]) -> Keywords
 }
 
 // The code of the keywords behind the list's first two bytes.
-fn read_keywords(list: &[u8], count: usize) -> u8
+fn read_keywords(list: &[u8], count: usize) -> Result<(), Refusal>
     requires { 2 ≤ length list.now }
-    ensures { result ≡ read_code count (drop 2 list.now) }
+    ensures { number result ≡ read_code count (drop 2 list.now) }
 {
-    let mut at: usize = 2;
-    let mut k: usize = 0;
-    while k < count {
+    let mut at = 2;
+    for _ in 0..count {
         if list.len() <= at {
-            return 1;
+            return Err(Refusal::KeywordsCut);
         }
-        let n = list[at] as usize;
-        if n == 0 {
-            return 3;
-        }
-        if 32 < n {
-            return 3;
+        let n = usize::from(list[at]);
+        if !(1..=32).contains(&n) {
+            return Err(Refusal::KeywordLength);
         }
         if list.len() - at <= n {
-            return 1;
+            return Err(Refusal::KeywordsCut);
         }
-        at = at + 1 + n;
-        k += 1;
+        at += 1 + n;
     }
-    0
+    Ok(())
 }
 
 // The code of the tests that read the list from the front.
-fn read_front(list: &[u8]) -> u8
-    ensures { result ≡ first_number (front_tests list.now) }
+fn read_front(list: &[u8]) -> Result<(), Refusal>
+    ensures { number result ≡ first_number (front_tests list.now) }
 {
     if list.len() < 2 {
-        return 1;
+        return Err(Refusal::KeywordsCut);
     }
-    let count = list[0] as usize;
-    if count == 0 {
-        return 2;
-    }
-    if 16 < count {
-        return 2;
-    }
-    if 1 < list[1] {
-        return 2;
+    let count = usize::from(list[0]);
+    if !(1..=16).contains(&count) || 1 < list[1] {
+        return Err(Refusal::KeywordsHeader);
     }
     read_keywords(list, count)
 }
@@ -116,19 +97,8 @@ fn read_front(list: &[u8]) -> u8
 fn alike(flag: u8, a: &[u8], b: &[u8]) -> bool
     ensures { result ≡ same (folded flag a.now) (folded flag b.now) }
 {
-    if a.len() != b.len() {
-        return false;
-    }
-    let mut i: usize = 0;
-    while i < a.len() {
-        let x = folding::fold(flag, a[i]);
-        let y = folding::fold(flag, b[i]);
-        if x != y {
-            return false;
-        }
-        i += 1;
-    }
-    true
+    a.len() == b.len()
+        && a.iter().zip(b).all(|(&x, &y)| folding::fold(flag, x) == folding::fold(flag, y))
 }
 
 // Keywords i and j compare alike.
@@ -163,14 +133,7 @@ fn again(
     requires { Places list.now flag count start.now len.now × (i < count) }
     ensures { result ≡ contains (get_or (folded_keywords list.now) i []) (drop (i + 1) (folded_keywords list.now)) }
 {
-    let mut other: usize = i + 1;
-    while other < count {
-        if alike_at(list, flag, count, start, len, i, other) {
-            return true;
-        }
-        other += 1;
-    }
-    false
+    (i + 1..count).any(|other| alike_at(list, flag, count, start, len, i, other))
 }
 
 // Some two keywords compare alike.
@@ -178,58 +141,36 @@ fn repeats(list: &[u8], flag: u8, count: usize, start: &[usize; 16], len: &[usiz
     requires { Places list.now flag count start.now len.now }
     ensures { result ≡ twice (folded_keywords list.now) }
 {
-    let mut one: usize = 0;
-    while one < count {
-        if again(list, flag, count, start, len, one) {
-            return true;
-        }
-        one += 1;
+    (0..count).any(|one| again(list, flag, count, start, len, one))
+}
+
+// No two keywords of the list that was read compare alike.
+fn distinct(list: &[u8], k: &Keywords) -> Result<(), Refusal>
+    requires { Places list.now k.now.flag k.now.count k.now.start k.now.len }
+    ensures { number result ≡ first_number ((twice (folded_keywords list.now), keywords_alike) ∷ []) }
+{
+    if repeats(list, k.flag, k.count, &k.start, &k.len) {
+        return Err(Refusal::KeywordsAlike);
     }
-    false
+    Ok(())
 }
 
 // The keyword check without its left-over bytes.
-pub fn check_front(list: &[u8]) -> u8
-    ensures { result ≡ keyword_front_code list.now }
+pub fn check_front(list: &[u8]) -> Result<(), Refusal>
+    ensures { number result ≡ keyword_front_code list.now }
 {
-    let code = read_front(list);
-    if code != 0 {
-        return code;
-    }
-    let k = split(list);
-    let start = k.start;
-    let len = k.len;
-    if repeats(list, k.flag, k.count, &start, &len) {
-        return 4;
-    }
-    0
-}
-
-// The number of the first condition that holds, 0 where none does.
-fn first_of(a: bool, x: u8, b: bool, y: u8) -> u8
-    ensures { result ≡ first_number ((a, x) ∷ (b, y) ∷ []) }
-{
-    if a {
-        return x;
-    }
-    if b {
-        return y;
-    }
-    0
+    read_front(list)?;
+    distinct(list, &split(list))
 }
 
 // The keyword check.
-pub fn check(list: &[u8]) -> u8
-    ensures { result ≡ keyword_code list.now }
+pub fn check(list: &[u8]) -> Result<(), Refusal>
+    ensures { number result ≡ keyword_code list.now }
 {
-    let code = read_front(list);
-    if code != 0 {
-        return code;
-    }
+    read_front(list)?;
     let k = split(list);
-    let start = k.start;
-    let len = k.len;
-    let over = k.size < list.len();
-    let repeated = repeats(list, k.flag, k.count, &start, &len);
-    first_of(over, 1, repeated, 4)
+    if k.size < list.len() {
+        return Err(Refusal::KeywordsCut);
+    }
+    distinct(list, &k)
 }

@@ -3,11 +3,10 @@ use mathlib.Core.Path.{◌≡◌, refl, sym, ap, ◌∙◌}
 use mathlib.Core.Logic.{⊎_elim}
 use mathlib.Core.List.{List}
 use Prim.Native.Nat.{ℕ, zero, suc, ◌+◌, ◌≤◌, ◌<◌}
-use native.Mathlib.Nat.{zero-add, add-zero, not-suc-le-zero}
+use native.Mathlib.Nat.{zero-add, add-zero}
 use native.Mathlib.Omega.{arith}
-use borrow.Author.Count.{below_more}
-use lib.ListN.{length, get_or, set, length-set, get_or-eq_default}
-use lib.Seq.{ext_get_or, get_or-set_same, get_or-set_other}
+use lib.ListN.{length, get_or, get_or-eq_default}
+use lib.Seq.{ext_get_or}
 use Rattle.spec.specs.Join.{sums}
 use Rattle.spec.proofs.Tests.{le-or-lt}
 use Rattle.spec.proofs.Sums.{sum_up}
@@ -29,20 +28,7 @@ pub record CountingPlace (streams : List (List ℕ)) (counts₀ counts : List �
   pub same : (j : ℕ) → k ≤ j → get_or counts j 0 ≡ get_or counts₀ j 0
 
 module _ (streams : List (List ℕ)) (counts₀ : List ℕ) where
-  pub place-start : CountingPlace streams counts₀ counts₀ 0
-  place-start = record { long = refl; done = λ j h. absurd (not-suc-le-zero h); same = λ j h. refl }
-
   module _ (counts : List ℕ) (k : ℕ) (at : CountingPlace streams counts₀ counts k) where
-    pub place-on : (n : ℕ) → k < length counts₀ → n ≡ get_or counts k 0 + numbers (stream_of streams k) → CountingPlace streams counts₀ (set counts k n) (k + 1)
-    place-on n h e =
-        record {
-          long = length-set counts k n ∙ at.long;
-          done = below_more (λ (j : ℕ). get_or (set counts k n) j 0 ≡ get_or counts₀ j 0 + numbers (stream_of streams j)) k
-              (λ j u. get_or-set_other counts k j n 0 (λ q. omega arith) ∙ at.done j u)
-              (get_or-set_same counts k n 0 (omega (arith, at.long)) ∙ e ∙ ap (λ (x : ℕ). x + numbers (stream_of streams k)) (at.same k (omega arith)));
-          same = λ j u. get_or-set_other counts k j n 0 (λ q. omega arith) ∙ at.same j (omega arith);
-        }
-
     pub place_end : (count : ℕ) → k ≡ count → counts ≡ sums counts₀ (numbers_of streams count)
     place_end count e =
         ext_get_or 0 counts (sums counts₀ (numbers_of streams count)) (at.long ∙ sym (length-sums counts₀ (numbers_of streams count))) (λ j u.

@@ -89,13 +89,3 @@ bits-set t n d from h =
     bits_each d from (set_of t n) ∙ ap (each (λ s. keep (in_set (set_of t n) s) (from + s)) 0) e ∙ each_append _ 0 n (d - n)
     ∙ rw (each_none (λ s. keep (in_set (set_of t n) s) (from + s)) (0 + n) (d - n) (λ p u v. rw (has_above t n p (omega arith))), append-nil)
     (each-match _ _ 0 0 n (λ p l. rw (has-set t n (0 + p) (omega arith))))
-
--- a set that is not empty has its lowest member among its digits
-pub trailing_lt : (d x : ℕ) → 0 < x → x < 2 ^ d → count_trailing_zeros d x < d
-unfolding count_trailing_zeros
-trailing_lt zero x p h = let z : ⊥ = omega arith in absurd z
-trailing_lt (suc d) x p h = go (x % 2) refl (λ q. trailing_lt d (x / 2) q (half_lt d x h))
-  where
-    go : (r : ℕ) → x % 2 ≡ r → (0 < x / 2 → count_trailing_zeros d (x / 2) < d) → under r (count_trailing_zeros d (x / 2)) < suc d
-    go zero e ih = omega (arith, ih (omega arith))
-    go (suc r) e ih = omega arith

@@ -1,7 +1,7 @@
 -- While the list of a place is written: what is written and what is still to come are the whole. Assumes nothing.
 use mathlib.Core.Path.{◌≡◌, ap, ◌∙◌, subst}
 use mathlib.Core.List.{List, [], ◌∷◌, ◌++◌}
-use Prim.Native.Nat.{ℕ, ◌+◌, ◌-◌, ◌*◌, ◌≤◌}
+use Prim.Native.Nat.{ℕ, ◌+◌, ◌*◌, ◌≤◌}
 use native.Mathlib.Omega.{arith}
 use lib.ListN.{length}
 use Rattle.spec.specs.Bytes.{splice}
@@ -43,9 +43,10 @@ module _ (out₀ out : List ℕ) (place p : ℕ) (whole rest : List Occurrence) 
 
 -- ---- the occurrences of a place
 
--- `left` occurrences of the whole list are still to come, from p on, and the open streams give them.
-pub record ListingPlace (index : List ℕ) (place : Place) (out₀ out : List ℕ) (whole : List Occurrence) (opened : List (List ℕ)) (p left : ℕ) : Type 0 where
-  pub coming : Coming index place opened left
+-- So many occurrences of the whole list are written, up to p, and the open streams give those that are still to come.
+pub record ListingPlace (index : List ℕ) (place : Place) (out₀ out : List ℕ) (whole : List Occurrence) (opened : List (List ℕ)) (p written : ℕ)
+    : Type 0 where
+  pub coming : Coming index place opened written
   pub going : Going out₀ out place.at p (list_bytes whole) (list_bytes (still place index opened))
 
 module _ (index : List ℕ) (place : Place) (streams : List (List ℕ)) (out₀ : List ℕ)
@@ -61,7 +62,7 @@ module _ (index : List ℕ) (place : Place) (streams : List (List ℕ)) (out₀ 
       (list-ends out₀ out₀ place.at place.at whole whole g z, list-bytes out₀ out₀ place.at place.at whole whole g z)
 
   pub listing_start : (opened : List (List ℕ)) → OpenedStreams index place.width place.size place.count streams opened
-      → ListingPlace index place out₀ out₀ whole opened place.at place.many
+      → ListingPlace index place out₀ out₀ whole opened place.at 0
   listing_start opened o =
       record {
         coming = coming-start index place streams ready all opened o;
@@ -69,28 +70,28 @@ module _ (index : List ℕ) (place : Place) (streams : List (List ℕ)) (out₀ 
             (coming-all index place streams ready all opened o) (going_start out₀ place.at (list_bytes whole));
       }
 
-module _ (index : List ℕ) (place : Place) (out₀ out : List ℕ) (whole : List Occurrence) (opened : List (List ℕ)) (p left : ℕ)
-    (l : ListingPlace index place out₀ out whole opened p left) where
+module _ (index : List ℕ) (place : Place) (out₀ out : List ℕ) (whole : List Occurrence) (opened : List (List ℕ)) (p written : ℕ)
+    (l : ListingPlace index place out₀ out whole opened p written) where
   module _ (room : place.at + 9 * length whole ≤ length out₀) (opened' : List (List ℕ)) (keyword offset : ℕ)
       (t : NextTaken index place.width place.size place.count opened opened' keyword offset) where
     abbrev first : Occurrence
     first = record { file = place.file; offset = place.base + offset; keyword = keyword }
 
     taken : still place index opened ≡ first ∷ still place index opened'
-    taken = coming-first index place opened left l.coming opened' keyword offset t
+    taken = coming-first index place opened written l.coming opened' keyword offset t
 
     pub listing-room : p + 9 ≤ length out
     listing-room = list-room out₀ out place.at p whole (still place index opened) l.going first (still place index opened') room taken
 
-    pub listing-on : (out' : List ℕ) → out' ≡ splice out p (occurrence_bytes first) → ListingPlace index place out₀ out' whole opened' (p + 9) (left - 1)
+    pub listing-on : (out' : List ℕ) → out' ≡ splice out p (occurrence_bytes first) → ListingPlace index place out₀ out' whole opened' (p + 9) (written + 1)
     listing-on out' w =
         record {
-          coming = coming-on index place opened left l.coming opened' keyword offset t;
+          coming = coming-on index place opened written l.coming opened' keyword offset t;
           going = list_on out₀ out place.at p whole (still place index opened) l.going out' first (still place index opened') room taken w;
         }
 
-  pub listing-end : left ≡ 0 → (p ≡ place.at + 9 * length whole) × (out ≡ splice out₀ place.at (list_bytes whole))
-  listing-end e =
-      let z : still place index opened ≡ [] = coming-none index place opened left l.coming e in
+  pub listing-end : place.many ≤ written → (p ≡ place.at + 9 * length whole) × (out ≡ splice out₀ place.at (list_bytes whole))
+  listing-end h =
+      let z : still place index opened ≡ [] = coming-none index place opened written l.coming h in
       let rest : List Occurrence = still place index opened in
       (list-ends out₀ out place.at p whole rest l.going z, list-bytes out₀ out place.at p whole rest l.going z)

@@ -1,28 +1,21 @@
 -- The order of a place's occurrences: the first of the least heads is the next, and is taken off its stream. Nothing is said of how far
 -- the listing has come: numbers before the least head are in no stream. Assumes nothing.
-use mathlib.Core.Path.{◌≡◌, refl, sym, ap, ◌∙◌}
+use mathlib.Core.Path.{◌≡◌, sym, ap, ◌∙◌}
 use mathlib.Core.Logic.{◌≢◌, ◌⊎◌, inl, inr}
-use mathlib.Core.Bool.{Bool, true, false, false≢true}
+use mathlib.Core.Bool.{true, false}
 use mathlib.Core.List.{List, [], ◌∷◌, ◌++◌}
 use Prim.Native.Nat.{ℕ, suc, ◌+◌, ◌-◌, ◌≤◌, ◌<◌}
 use native.Mathlib.Nat.{zero-add, sub-zero}
 use native.Mathlib.Omega.{arith}
 use lib.ListN.{length, get_or}
-use lib.Dec.{eqb, eqb→eq}
+use Rattle.std.proofs.lemmas.Bool.{cases_eq}
 use Rattle.spec.specs.Bytes.{each, keep, member, rising}
 use Rattle.spec.specs.Join.{Occurrence, occurrences_at}
-use Rattle.spec.proofs.Tests.{eqb-ne, eqb_same, T_of}
+use Rattle.spec.proofs.Tests.{eqb-ne, eqb_same}
 use Rattle.spec.proofs.Each.{each_append, each-match, each_none, each-skip, each_step}
 use Rattle.spec.proofs.OccurrencesAt.{occurrences_at-none, occurrences_at-same}
 use Rattle.spec.proofs.Rising.{member-head, rising-tail, rising-next}
 use Rattle.listing.specs.Streams.{occurrences}
-
-pub eq-or-ne : (j k : ℕ) → (j ≡ k) ⊎ (j ≢ k)
-eq-or-ne j k = go (eqb j k) refl
-  where
-    go : (b : Bool) → eqb j k ≡ b → (j ≡ k) ⊎ (j ≢ k)
-    go true e = inl (eqb→eq j k (T_of (eqb j k) e))
-    go false e = inr (λ q. false≢true (sym e ∙ ap (eqb j) (sym q) ∙ eqb_same j))
 
 module _ (file count base size : ℕ) where
   abbrev found : ℕ → ℕ → Occurrence
@@ -36,7 +29,7 @@ module _ (file count base size : ℕ) where
       (first : (j : ℕ) → j < k → 0 < length (s j) → y < get_or (s j) 0 0) where
     -- at another offset keyword k's first number does not matter
     other : (p j : ℕ) → j < count → p ≢ y → member p (s j) ≡ member p (s' j)
-    other p j hj ne = go (eq-or-ne j k)
+    other p j hj ne = go (cases_eq j k)
       where
         go : (j ≡ k) ⊎ (j ≢ k) → member p (s j) ≡ member p (s' j)
         go (inl e) = rw (e, split, eqb-ne p y ne)

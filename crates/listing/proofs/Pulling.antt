@@ -14,7 +14,7 @@ use Rattle.spec.specs.Bytes.{field_at, fields_of, rising}
 use Rattle.spec.proofs.Tests.{leb-true, leb-false, T_of, and_left, and_right}
 use Rattle.spec.proofs.Rising.{rising-tail}
 use Rattle.listing.specs.Streams.{below, bits, unread, headed, stream, ReadableStream, Open, Pulled}
-use Rattle.listing.proofs.Digits.{bits-first, bits_none, trailing_lt}
+use Rattle.listing.proofs.Digits.{bits-first, bits_none}
 
 pub below-head : (n x : ℕ) (xs : List ℕ) → below n (x ∷ xs) ≡ true → x < n
 below-head n x xs e = ltb→lt x n (T_of (ltb x n) (and_left (ltb x n) (below n xs) e))
@@ -69,9 +69,6 @@ module _ (index : List ℕ) (width size : ℕ) (s : List ℕ) where
         let m = ap (λ (x : ℕ). width * x) e ∙ mul-suc width (left - 1) in
         (omega (arith, r.inside, m), omega (arith, r.inside, m))
 
-    pub field_room : 0 < left → at + width ≤ length index
-    field_room p = (room p).0
-
     number : 0 < left → (x : ℕ) → unread index width s ≡ field_at index at width ∷ unread index width (x ∷ (at + width) ∷ (left - 1) ∷ from ∷ set ∷ [])
     unfolding unread fields_of
     number h x = go left h
@@ -93,9 +90,6 @@ module _ (index : List ℕ) (width size : ℕ) (s : List ℕ) where
 
     abbrev low : ℕ
     low = count_trailing_zeros 32 set
-
-    pub digit : 0 < set → low < 32
-    digit p = trailing_lt 32 set p r.set
 
     start : left ≤ 0 → 0 < set
         → unread index width s ≡ (from + low) ∷ unread index width ((from + low) ∷ at ∷ left ∷ (from + low + 1) ∷ (set / 2 ^ low / 2) ∷ [])

@@ -3,16 +3,16 @@ use mathlib.Core.Path.{◌≡◌, refl, sym, ap, ◌∙◌, subst}
 use mathlib.Core.Logic.{◌≢◌, ◌⊎◌, inl, inr}
 use mathlib.Core.Bool.{Bool, true, false, cond}
 use mathlib.Core.List.{List, [], ◌∷◌}
-use Prim.Native.Nat.{ℕ, ◌+◌, ◌≤◌, ◌<◌}
+use Prim.Native.Nat.{ℕ, ◌≤◌, ◌<◌}
 use native.Mathlib.Omega.{arith}
-use borrow.Author.Count.{below_more}
 use lib.ListN.{length, get_or, set, length-set}
 use lib.Seq.{get_or-set_same, get_or-set_other}
 use lib.Dec.{ltb}
+use Rattle.std.proofs.lemmas.Bool.{cases_eq}
 use Rattle.spec.proofs.Tests.{le-or-lt}
 use Rattle.listing.specs.Streams.{headed, stream, stream_of, stream_at, unread_at, given}
-use Rattle.listing.specs.Streams.{Open, ReadableStream, Pulled, Held, Least, OpenedStreams, NextTaken}
-use Rattle.listing.proofs.Order.{eq-or-ne, merge_step, merge-done}
+use Rattle.listing.specs.Streams.{Open, ReadableStream, Pulled, Held, Least, NextTaken}
+use Rattle.listing.proofs.Order.{merge_step, merge-done}
 use Rattle.listing.proofs.Pulling.{headed-out, open-head, behind}
 
 headed-first : (size x : ℕ) (xs : List ℕ) → 0 < length (headed size x xs) → x ≡ get_or (headed size x xs) 0 0
@@ -33,7 +33,7 @@ module _ (streams : List (List ℕ)) (k : ℕ) (s : List ℕ) where
 
   -- what holds of the new one and held of the others holds of all
   pub set_all : (P : ℕ → List ℕ → Type 0) → k < length streams → P k s → (j : ℕ) → (j ≢ k → P j (stream_of streams j)) → P j (stream_of (set streams k s) j)
-  set_all P h p j rest = go (eq-or-ne j k)
+  set_all P h p j rest = go (cases_eq j k)
     where
       go : (j ≡ k) ⊎ (j ≢ k) → P j (stream_of (set streams k s) j)
       go (inl e) = subst (λ (i : ℕ). P i (stream_of (set streams k s) i)) (sym e) (subst (P k) (sym (set_here h)) p)
@@ -45,27 +45,6 @@ module _ (streams : List (List ℕ)) (k : ℕ) (s : List ℕ) where
 pub record Opening (index : List ℕ) (width size : ℕ) (streams opened : List (List ℕ)) (k : ℕ) : Type 0 where
   pub long : length opened ≡ 16
   pub done : (j : ℕ) → j < k → Pulled index width size (stream_of streams j) (stream_of opened j)
-
-module _ (index : List ℕ) (width size : ℕ) (streams opened : List (List ℕ)) where
-  pub opening-start : length opened ≡ 16 → Opening index width size streams opened 0
-  opening-start e = record { long = e; done = λ j h. let z : ⊥ = omega arith in absurd z }
-
-  module _ (k : ℕ) (o : Opening index width size streams opened k) where
-    pub opening_on : k < 16 → (s : List ℕ) → Pulled index width size (stream_of streams k) s → Opening index width size streams (set opened k s) (k + 1)
-    opening_on h s p =
-        record {
-          long = length-set opened k s ∙ o.long;
-          done = below_more (λ (j : ℕ). Pulled index width size (stream_of streams j) (stream_of (set opened k s) j)) k
-              (λ j u. subst (Pulled index width size (stream_of streams j)) (sym (set_there opened k s j (λ e. omega arith))) (o.done j u))
-              (subst (Pulled index width size (stream_of streams k)) (sym (set_here opened k s (omega (arith, o.long)))) p);
-        }
-
-    pub opening-end : (count : ℕ) → count ≤ 16 → count ≤ k → OpenedStreams index width size count streams opened
-    opening-end count few h =
-        record {
-          held = record { long = omega (arith, o.long); each = λ j u. (o.done j (omega arith)).opened };
-          same = λ j u. (o.done j (omega arith)).same;
-        }
 
 -- ---- the next occurrence
 

@@ -10,6 +10,7 @@ use native.Mathlib.Omega.{arith}
 use lib.ListN.{length, get_or, set, drop, length-append}
 use lib.Seq.{get_or-set_same, get_or-set_other}
 use lib.Dec.{eqb, ltb}
+use Rattle.std.proofs.lemmas.Bool.{cases_eq}
 use Rattle.spec.specs.Bytes.{fields_of, each, keep, member, rising}
 use Rattle.spec.specs.Join.{Occurrence, occurrences_at, count_by}
 use Rattle.spec.proofs.FieldLists.{length-fields_of}
@@ -18,7 +19,6 @@ use Rattle.spec.proofs.Tests.{le-or-lt, eqb-ne}
 use Rattle.spec.proofs.Sums.{sum_up, sum_same, sum-none, sum-swap, sum-last, sum-single, length-each, length-keep}
 use Rattle.spec.proofs.Clients.{count_none, count-append}
 use Rattle.listing.specs.Streams.{below, unread, stream_of, unread_at, stream_at, occurrences, given, numbers, numbers_of, total, ReadableStreams, Held}
-use Rattle.listing.proofs.Order.{eq-or-ne}
 use Rattle.listing.proofs.Digits.{bits-length}
 use Rattle.listing.proofs.Counted.{numbers-at, numbers-past}
 
@@ -70,7 +70,7 @@ count-each k f a (suc n) =
     count-append (λ j. j) k (f a) (each f (suc a) n) ∙ ap (λ (x : ℕ). count_by (λ j. j) k (f a) + x) (count-each k f (suc a) n)
 
 eqb_swap : (i k : ℕ) → eqb i k ≡ eqb k i
-eqb_swap i k = ⊎_elim (λ e. rw e) (λ ne. eqb-ne i k ne ∙ sym (eqb-ne k i (λ q. ne (sym q)))) (eq-or-ne i k)
+eqb_swap i k = ⊎_elim (λ e. rw e) (λ ne. eqb-ne i k ne ∙ sym (eqb-ne k i (λ q. ne (sym q)))) (cases_eq i k)
 
 cond-none : (b : Bool) → ◌≡◌ {A = ℕ} (cond b 0 0) 0
 cond-none true = refl

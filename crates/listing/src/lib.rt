@@ -37,7 +37,7 @@ fn pull(index: &[u8], width: usize, size: usize, stream: [usize; 5]) -> [usize; 
     if set == 0 {
         return [size, at, left, from, set];
     }
-    let z = u32::trailing_zeros(set as u32);
+    let z = (set as u32).trailing_zeros();
     let y = from + z as usize;
     [y, at, left, y + 1, (set >> z) / 2]
 }
@@ -47,16 +47,14 @@ fn least(streams: &[[usize; 5]; 16], count: usize) -> usize
     requires { (0 < count) × (count ≤ 16) }
     ensures { Least streams.now count result }
 {
-    let mut k: usize = 0;
+    let mut k = 0;
     let mut y = streams[0][HEAD];
-    let mut i: usize = 1;
-    while i < count {
+    for i in 1..count {
         let x = streams[i][HEAD];
         if x < y {
             k = i;
             y = x;
         }
-        i += 1;
     }
     k
 }
@@ -73,10 +71,8 @@ fn open(
     ensures { OpenedStreams index.now width size count streams.now result }
 {
     let mut opened = [[0usize; 5]; 16];
-    let mut k: usize = 0;
-    while k < count {
+    for k in 0..count {
         opened[k] = pull(index, width, size, streams[k]);
-        k += 1;
     }
     opened
 }
@@ -126,7 +122,7 @@ pub fn offsets_in(stream: [usize; 5]) -> usize
 {
     let left = stream[LEFT];
     let set = stream[SET];
-    left + u32::count_ones(set as u32) as usize
+    left + (set as u32).count_ones() as usize
 }
 
 // Adds each keyword's number of occurrences at a place, of which there are `many`, to its count (request #110). The streams are not open yet.
@@ -138,10 +134,8 @@ pub fn count_place(streams: &[[usize; 5]; 16], count: usize, many: usize, counts
     if many == 0 {
         return;
     }
-    let mut keyword: usize = 0;
-    while keyword < count {
+    for keyword in 0..count {
         counts[keyword] += offsets_in(streams[keyword]);
-        keyword += 1;
     }
 }
 
@@ -171,13 +165,11 @@ pub fn list_place(index: &[u8], place: Place, streams: &[[usize; 5]; 16], out: &
     }
     let mut opened = open(index, place.width, place.size, place.count, streams);
     let mut p = place.at;
-    let mut left = place.many;
-    while 0 < left {
+    for _ in 0..place.many {
         let t = next(index, place.width, place.size, place.count, &mut opened);
         let offset = place.base + t.offset;
         put(out, p, place.file as u64, offset as u64, t.keyword);
         p += 9;
-        left -= 1;
     }
     p
 }
@@ -195,11 +187,10 @@ pub struct Choice {
 pub fn nothing_chosen() -> Choice
     ensures { result ≡ no_choice }
 {
-    let offsets = [0usize; 8];
     Choice {
         step: 0,
         from: 0,
-        offsets: offsets,
+        offsets: [0; 8],
     }
 }
 
@@ -220,7 +211,7 @@ fn advance(
     if query.len() <= step {
         return choice;
     }
-    let asked = query[step] as usize;
+    let asked = usize::from(query[step]);
     if keyword != asked {
         return choice;
     }
@@ -253,15 +244,13 @@ pub fn choose_place(
     }
     let mut opened = open(index, place.width, place.size, place.count, streams);
     let mut chosen = choice;
-    let mut remaining = place.many;
-    while 0 < remaining {
+    for _ in 0..place.many {
         if query.len() <= chosen.step {
             return chosen;
         }
         let t = next(index, place.width, place.size, place.count, &mut opened);
         let offset = place.base + t.offset;
         chosen = advance(chosen, t.keyword, offset, lengths, query);
-        remaining -= 1;
     }
     chosen
 }

@@ -159,10 +159,6 @@ module _ (f : Form) (index : List ℕ) (at len count : ℕ) (inside : at + len �
   pub rows_end : row_end f.width (row_of (rows_from f 0 count at (part index at len)) k) ≤ at + len
   rows_end = row_in.ends
 
-  -- its set is behind it
-  pub rows-set : set_at f index (at + len) (row_of (rows_from f 0 count at (part index at len)) k) k ≡ (record_in f (part index at len) count k).inner
-  rows-set = row_in.inner
-
 -- THE ROWS HOLD THE RECORDS that the body says, and their sets are behind them.
 pub record Loaded (f : Form) (index : List ℕ) (at len count : ℕ) (rows : List (List ℕ)) : Type 0 where
   pub long : count ≤ length rows
@@ -204,13 +200,6 @@ pub record Loading (format : Format) (index : List ℕ) (at len count : ℕ) (ro
       ≡ rows_from (form_in format) 0 count at (part index at len)
   pub rest : drop count rows ≡ drop count rows₀
 
-pub loading-start : (format : Format) (index : List ℕ) (at len count : ℕ) (rows : List (List ℕ)) → Loadable format index at len count rows
-    → Loading format index at len count rows rows at 0
-loading-start format index at len count rows h =
-    let n : count - 0 ≡ count = omega arith in
-    let m : at + len - at ≡ len = omega arith in
-    record { wide = h.wide; long = h.long; inside = h.inside; within = omega arith; fits = rw (n, m) h.whole; left = rw (n, m); rest = refl }
-
 module _ (format : Format) (index : List ℕ) (at len count : ℕ) (rows₀ rows : List (List ℕ)) (place k : ℕ)
     (l : Loading format index at len count rows₀ rows place k) where
   pub loading-end : k ≡ count → rows ≡ rows_from (form_in format) 0 count at (part index at len) ++ drop count rows₀
@@ -232,9 +221,6 @@ module _ (format : Format) (index : List ℕ) (at len count : ℕ) (rows₀ rows
 
     whole : fits_from (form_in format) k (suc (count - suc k)) here ≡ true
     whole = rw step at l.fits
-
-    pub record-room : record_taken (form_in format) k here ≤ at + len - place
-    record-room = room-record (form_in format) index place (at + len - place) k (count - suc k) inner whole
 
     pub keyword-room : keyword_taken (form_in format) k here ≤ at + len - place
     keyword-room = room_next (form_in format) index place (at + len - place) k (count - suc k) inner whole

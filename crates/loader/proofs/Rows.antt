@@ -421,6 +421,16 @@ module _ (f : Form) (index : List ℕ) (at len k : ℕ) (inside : at + len ≤ l
     unfolding row_at
     row_here q h = rw (keyword-read f k here (next_here q), size-here q) (row_is h)
 
+    -- a record that lies whole in the body has its row
+    pub record-row : set_is_next f k here ≡ false → {a b c d : ℕ}
+        → (record_size f here ≤ len → RowAt index f.width at (a ∷ b ∷ c ∷ d ∷ []) (read_record f here) (record_size f here))
+        → a ∷ b ∷ c ∷ d ∷ [] ≡ row_at f.width at (record_taken f k here) (read_keyword f k here)
+    record-row q h = row_here q (h (whole_here q))
+
+    -- and the place of its exact count is in the index
+    pub exact-room : set_is_next f k here ≡ false → 3 ≤ get_or index (at + 1) 0 → at + (5 + f.width) + f.width ≤ length index
+    exact-room q h = room-exact f index at len inside (whole_here q) (λ z. omega arith) (λ z. omega arith) (λ z. omega arith)
+
   -- THE ROW OF THE NEXT KEYWORD holds its record
   pub next-holds : record_taken f k here ≤ len
       → RowAt index f.width at (row_at f.width at (record_taken f k here) (read_keyword f k here)) (read_keyword f k here) (record_taken f k here)

@@ -28,18 +28,7 @@ fn is_set(index: &[u8], format: Format, at: usize, len: usize, k: usize) -> bool
     requires { at + len ≤ length index.now }
     ensures { result ≡ set_is_next (form_in format) k (part index.now at len) }
 {
-    let sets = format.sets;
-    if !sets {
-        return false;
-    }
-    if len < 2 {
-        return false;
-    }
-    let first = index[at] as usize;
-    if first != k {
-        return false;
-    }
-    index[at + 1] == SET
+    format.sets && 2 <= len && usize::from(index[at]) == k && index[at + 1] == SET
 }
 
 // The row of keyword k, whose number is next with a kind other than 0, 1 and 2: a record with its exact count, or no prefix, suffix or offset
@@ -54,8 +43,8 @@ fn exact_at(index: &[u8], format: Format, at: usize, len: usize, k: usize) -> [u
         return [0, 0, at, 0];
     }
     let width = format.width;
-    let prefix = index[at + 2] as usize;
-    let suffix = index[at + 3] as usize;
+    let prefix = usize::from(index[at + 2]);
+    let suffix = usize::from(index[at + 3]);
     let exact = field::read_offset(index, at + (5 + width), width) as usize;
     [prefix, suffix, at + (5 + 2 * width), exact]
 }
@@ -69,12 +58,12 @@ fn record_at(index: &[u8], format: Format, at: usize, len: usize, k: usize) -> [
 {
     let width = format.width;
     let kind = index[at + 1];
-    let prefix = index[at + 2] as usize;
+    let prefix = usize::from(index[at + 2]);
     if kind == 0 {
         return [prefix % TINY_STEP, prefix / TINY_STEP, at + 3, 0];
     }
-    let suffix = index[at + 3] as usize;
-    let count = index[at + 4] as usize;
+    let suffix = usize::from(index[at + 3]);
+    let count = usize::from(index[at + 4]);
     if kind == 1 {
         if count == 0 {
             return [prefix, suffix, at + (5 + width), 0];
@@ -93,8 +82,7 @@ fn set_end(index: &[u8], format: Format, behind: usize, left: usize, k: usize) -
     ensures { result ≡ behind + set_taken (form_in format) k (part index.now behind left) }
 {
     if is_set(index, format, behind, left, k) {
-        let next = behind + SET_SIZE;
-        return next;
+        return behind + SET_SIZE;
     }
     behind
 }
@@ -104,11 +92,7 @@ fn next_at(index: &[u8], format: Format, behind: usize, left: usize, k: usize) -
     requires { behind + left ≤ length index.now }
     ensures { result ≡ behind + set_taken (form_in format) k (part index.now behind left) }
 {
-    if left == 0 {
-        return behind;
-    }
-    let number = index[behind] as usize;
-    if number != k {
+    if left == 0 || usize::from(index[behind]) != k {
         return behind;
     }
     set_end(index, format, behind, left, k)
@@ -129,14 +113,7 @@ fn keyword_at(index: &[u8], format: Format, at: usize, len: usize, k: usize) -> 
         (read_keyword (form_in format) k (part index.now at len)))
         × (result.next ≡ at + keyword_taken (form_in format) k (part index.now at len)) }
 {
-    if len == 0 {
-        return Step {
-            row: [0, 0, at, 0],
-            next: at,
-        };
-    }
-    let number = index[at] as usize;
-    if number != k {
+    if len == 0 || usize::from(index[at]) != k {
         return Step {
             row: [0, 0, at, 0],
             next: at,
@@ -146,10 +123,7 @@ fn keyword_at(index: &[u8], format: Format, at: usize, len: usize, k: usize) -> 
     let row = record_at(index, format, at, len, k);
     let behind = row[PLACE] + width * row[LEFT];
     let next = next_at(index, format, behind, at + len - behind, k);
-    Step {
-        row: row,
-        next: next,
-    }
+    Step { row, next }
 }
 
 // The rows of `count` keywords, from the body of `len` bytes at `at`.
@@ -166,13 +140,11 @@ pub fn load(
 {
     let end = at + len;
     let mut place = at;
-    let mut k: usize = 0;
-    while k < count {
+    for k in 0..count {
         let step = keyword_at(index, format, place, end - place, k);
         let row = step.row;
         rows[k] = row;
         place = step.next;
-        k += 1;
     }
 }
 
@@ -183,11 +155,8 @@ pub fn set_at(index: &[u8], format: Format, row: [usize; 4], end: usize, k: usiz
 {
     let at = row[PLACE] + format.width * row[LEFT];
     let left = end - at;
-    if left < SET_SIZE {
+    if left < SET_SIZE || !is_set(index, format, at, left, k) {
         return 0;
     }
-    if is_set(index, format, at, left, k) {
-        return field::read(index, at + 2, 4) as u32;
-    }
-    0
+    field::read(index, at + 2, 4) as u32
 }

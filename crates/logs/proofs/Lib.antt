@@ -1,3 +1,5 @@
 pub mod Bits
 pub mod LogLaws
 pub mod Tallying
+pub mod Joins
+pub mod Backwards

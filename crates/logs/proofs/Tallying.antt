@@ -4,10 +4,10 @@ use mathlib.Core.Path.{◌≡◌, refl, sym, ap, ap₂, ◌∙◌}
 use mathlib.Core.Bool.{Bool, true, false, cond}
 use mathlib.Core.List.{List, [], ◌∷◌, ◌++◌}
 use Prim.Native.Nat.{ℕ, zero, suc, ◌+◌, ◌-◌, ◌≤◌, ◌<◌}
-use native.Mathlib.Nat.{le_refl, zero-add}
+use native.Mathlib.Nat.{zero-add}
 use native.Mathlib.Omega.{arith}
-use lib.ListN.{length, drop, get_or, replicate, length-replicate, length-append, drop_of_length-le, get_or-eq_default}
-use lib.Seq.{drop-cons, ext_get_or}
+use lib.ListN.{length, get_or, replicate, length-replicate, length-append, get_or-eq_default}
+use lib.Seq.{ext_get_or}
 use lib.Dec.{eqb}
 use Rattle.spec.specs.Bytes.{keep, in_set}
 use Rattle.spec.proofs.Tests.{eqb-ne, le-or-lt}
@@ -70,30 +70,29 @@ pub sixteenth : (f : ℕ → ℕ) (k : ℕ) → k < 16 → get_or (tabulated f 0
 sixteenth f k h = tabulated-at f 0 16 k 0 h ∙ ap f (zero-add k)
 
 module _ (ends len : List ℕ) where
-  abbrev tally : List ℕ → List ℕ → Tally
+  abbrev pub tally : List ℕ → List ℕ → Tally
   tally counts firsts = record { counts = counts; firsts = firsts }
 
-  -- behind the last entry nothing is counted
-  pub tally-none : (log : List ℕ) → Tallied ends len (drop (length log) log) (tally (replicate 16 0) (replicate 16 0))
+  -- of no entry nothing is counted
+  pub tally-none : Tallied ends len [] (tally (replicate 16 0) (replicate 16 0))
   unfolding logged_offsets
-  tally-none log = rw (drop_of_length-le log (le_refl (length log))) (record {
+  tally-none = record {
     counted = length-replicate {A = ℕ} 16 0;
     kept = length-replicate {A = ℕ} 16 0;
     count = λ k. zeros 16 k;
     first = λ k. zeros 16 k;
-  })
+  }
 
   -- the entry before those counted
-  pub tally-more : (log : List ℕ) (i j : ℕ) (counts firsts counts' firsts' : List ℕ) → let e = get_or log i 0 in
-      i < length log → suc i ≡ j → length counts' ≡ length counts → length firsts' ≡ length firsts
+  pub tally-more : (e : ℕ) (log counts firsts counts' firsts' : List ℕ) → length counts' ≡ length counts → length firsts' ≡ length firsts
       → OneMore (set_at ends e) counts counts' → Kept (set_at ends e) (place_in e + 1) len firsts firsts'
-      → Tallied ends len (drop j log) (tally counts firsts) → Tallied ends len (drop i log) (tally counts' firsts')
-  tally-more log i j counts firsts counts' firsts' h s p q o f t = rw (drop-cons log i 0 h, s) (record {
+      → Tallied ends len log (tally counts firsts) → Tallied ends len (e ∷ log) (tally counts' firsts')
+  tally-more e log counts firsts counts' firsts' p q o f t = record {
     counted = p ∙ t.counted;
     kept = q ∙ t.kept;
-    count = λ k. count-more ends k (get_or len k 0) (get_or log i 0) (drop j log) (get_or counts k 0) (get_or counts' k 0) (o k) (t.count k);
-    first = λ k. first_more ends k (get_or len k 0) (get_or log i 0) (drop j log) (get_or firsts k 0) (get_or firsts' k 0) (f k) (t.first k);
-  })
+    count = λ k. count-more ends k (get_or len k 0) e log (get_or counts k 0) (get_or counts' k 0) (o k) (t.count k);
+    first = λ k. first_more ends k (get_or len k 0) e log (get_or firsts k 0) (get_or firsts' k 0) (f k) (t.first k);
+  }
 
   -- a count is at most the number of entries
   pub count_most : (log : List ℕ) (t : Tally) → Tallied ends len log t → (k : ℕ) → get_or t.counts k 0 ≤ length log

@@ -24,7 +24,7 @@ fn count_entry(counts: &mut [usize], firsts: &mut [usize], len: &[usize], member
     let mut rest = members;
     let mut from: usize = 0;
     while rest != 0 {
-        let z = u32::trailing_zeros(rest);
+        let z = rest.trailing_zeros();
         let k = from + z as usize;
         counts[k] += 1;
         firsts[k] = end - len[k];
@@ -43,28 +43,19 @@ pub fn tally_of(log: &[u32], ends: &[u32], len: &[usize]) -> Tally
 {
     let mut counts = [0usize; 16];
     let mut firsts = [0usize; 16];
-    let mut i = log.len();
-    while 0 < i {
-        i -= 1;
-        let entry = log[i];
+    for &entry in log.iter().rev() {
         let node = (entry / PLACES) as usize;
         let end = (entry % PLACES) as usize + 1;
         count_entry(&mut counts, &mut firsts, len, ends[node], end);
     }
-    Tally {
-        counts: counts,
-        firsts: firsts,
-    }
+    Tally { counts, firsts }
 }
 
 // The first offset of a log in two parts: the second part's where the first has none.
 fn first_of(count: usize, first: usize, other: usize) -> usize
     ensures { result ≡ cond (eqb count 0) other first }
 {
-    if count == 0 {
-        return other;
-    }
-    first
+    if count == 0 { other } else { first }
 }
 
 // The tally of two logs, one after the other, from the tally of each.
@@ -76,14 +67,9 @@ pub fn tally_with(before: Tally, more: Tally) -> Tally
     let more_firsts = more.firsts;
     let mut counts = before.counts;
     let mut firsts = before.firsts;
-    let mut k: usize = 0;
-    while k < 16 {
+    for k in 0..16 {
         firsts[k] = first_of(counts[k], firsts[k], more_firsts[k]);
         counts[k] += more_counts[k];
-        k += 1;
     }
-    Tally {
-        counts: counts,
-        firsts: firsts,
-    }
+    Tally { counts, firsts }
 }

@@ -1,8 +1,9 @@
 -- The set of inner starts, one start after the other. Assumes nothing.
 use mathlib.Core.Path.{◌≡◌, refl, sym, ap, ap₂, ◌∙◌}
 use mathlib.Core.Bool.{Bool, ◌&&◌}
+use mathlib.Core.Logic.{◌⊎◌, inl, inr}
 use mathlib.Core.List.{List}
-use Prim.Native.Nat.{ℕ, zero, suc, ◌+◌, ◌-◌, ◌≤◌}
+use Prim.Native.Nat.{ℕ, zero, suc, ◌+◌, ◌-◌, ◌≤◌, ◌<◌}
 use native.Mathlib.Nat.{add-sub_cancel_left}
 use native.Mathlib.Omega.{arith}
 use lib.Dec.{leb}
@@ -10,7 +11,7 @@ use lib.ListN.{length, take, drop}
 use Rattle.spec.specs.Bytes.{occurs_at, set_of}
 use Rattle.spec.specs.Keywords.{folded}
 use Rattle.spec.specs.Records.{lies_at, inner_of}
-use Rattle.spec.proofs.Tests.{leb-true}
+use Rattle.spec.proofs.Tests.{leb-true, le-or-lt}
 use Rattle.spec.proofs.Folding.{folded-take, folded-drop, folded-length}
 
 module _ (flag : ℕ) (keyword chunk : List ℕ) where
@@ -29,11 +30,13 @@ module _ (flag : ℕ) (keyword chunk : List ℕ) where
   inner-is = ap (set_of inside) (ap₂ (λ (x y : ℕ). x - y) (folded-length flag keyword) (folded-length flag chunk))
 
   -- a chunk of more than n - 2 bytes lies nowhere inside
-  pub inside-none : length keyword ≤ length chunk + 1 → 0 ≡ inner_of (folded flag keyword) (folded flag chunk)
-  inside-none h = sym (inner-is ∙ none_below (length keyword - length chunk) (omega arith))
-
-  pub inside-end : (p set : ℕ) → p ≡ length keyword - length chunk → set ≡ set_of inside p → set ≡ inner_of (folded flag keyword) (folded flag chunk)
-  inside-end p set e q = q ∙ ap (set_of inside) e ∙ sym inner-is
+  pub inside-end : (p set : ℕ) → p ≤ length keyword - length chunk + 1 → (1 ≤ length keyword - length chunk → p ≡ length keyword - length chunk)
+      → set ≡ set_of inside p → set ≡ inner_of (folded flag keyword) (folded flag chunk)
+  inside-end p set few ends q = q ∙ go (le-or-lt 1 (length keyword - length chunk)) ∙ sym inner-is
+    where
+      go : (1 ≤ length keyword - length chunk) ⊎ (length keyword - length chunk < 1) → set_of inside p ≡ set_of inside (length keyword - length chunk)
+      go (inl h) = ap (set_of inside) (ends h)
+      go (inr h) = none_below p (omega arith) ∙ sym (none_below (length keyword - length chunk) (omega arith))
 
   -- the part of the keyword that the code compares
   pub inside-part : (p : ℕ) → 1 ≤ p → (r : Bool) → r ≡ occurs_at (folded flag (take (p + length chunk - p) (drop p keyword))) (folded flag chunk) 0

@@ -11,52 +11,30 @@ ghost use Rattle.spec.specs.Records.{reach, suffix_of, inner_of};
 pub fn occurs_at(keyword: &[u8], chunk: &[u8], at: usize, flag: u8) -> bool
     ensures { result ≡ occurs_at (folded flag keyword.now) (folded flag chunk.now) at }
 {
-    if keyword.len() == 0 {
+    if keyword.is_empty() {
         return true;
     }
-    if chunk.len() < at {
+    if chunk.len() < at || chunk.len() - at < keyword.len() {
         return false;
     }
-    if chunk.len() - at < keyword.len() {
-        return false;
-    }
-    let mut k = 0;
-    while k < keyword.len() {
-        let x = folding::fold(flag, keyword[k]);
-        let y = folding::fold(flag, chunk[at + k]);
-        if x != y {
+    for (k, &b) in keyword.iter().enumerate() {
+        if folding::fold(flag, b) != folding::fold(flag, chunk[at + k]) {
             return false;
         }
-        k += 1;
     }
     true
-}
-
-// The greatest length of a suffix: the smaller of the keyword's length minus 1 and the chunk's length.
-fn reach_of(keyword: &[u8], chunk: &[u8]) -> usize
-    ensures { result ≡ reach (length keyword.now) (length chunk.now) }
-{
-    if keyword.len() == 0 {
-        return 0;
-    }
-    let n = keyword.len() - 1;
-    if n < chunk.len() {
-        return n;
-    }
-    chunk.len()
 }
 
 // The record's suffix: the longest beginning of the chunk that ends the keyword and is not all of it.
 pub fn suffix_of(keyword: &[u8], chunk: &[u8], flag: u8) -> usize
     ensures { result ≡ suffix_of (folded flag keyword.now) (folded flag chunk.now) }
 {
-    let mut j = reach_of(keyword, chunk);
-    while 0 < j {
+    let reach = keyword.len().saturating_sub(1).min(chunk.len());
+    for j in (1..=reach).rev() {
         let from = keyword.len() - j;
         if occurs_at(&keyword[from..], chunk, 0, flag) {
             return j;
         }
-        j -= 1;
     }
     0
 }
@@ -68,17 +46,11 @@ pub fn set_of(keyword: &[u8], chunk: &[u8], flag: u8) -> u32
     ensures { result ≡ inner_of (folded flag keyword.now) (folded flag chunk.now) }
 {
     let size = chunk.len();
-    if keyword.len() <= size + 1 {
-        return 0;
-    }
-    let last = keyword.len() - 1 - size;
-    let mut set: u32 = 0;
-    let mut p: usize = 1;
-    while p <= last {
+    let mut set = 0;
+    for p in 1..keyword.len().saturating_sub(size) {
         if occurs_at(&keyword[p..p + size], chunk, 0, flag) {
             set += 1 << p;
         }
-        p += 1;
     }
     set
 }

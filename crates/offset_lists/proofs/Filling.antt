@@ -90,6 +90,12 @@ module _ (counts len : List ℕ) (members end : ℕ) where
   unfolding entry_run
   run-other k h = rw h
 
+  -- what stays of the promise with the members below `from` done
+  abbrev pub Promised : (before c₀ out c : List ℕ) (from : ℕ) → Type 0
+  Promised before c₀ out c from =
+      (n : ℕ) → ((k : ℕ) → n ≤ k → run k ≡ []) → Apart n (cursor c₀) run (length before)
+      → patched n (cursor c) (run_from from) out ≡ patched n (cursor c₀) run before
+
   -- done and left are all
   moved-left : (from k : ℕ) (c₀ c : List ℕ) → Changed members moves from c₀ c → cursor c k + length (run_from from k) ≡ cursor c₀ k + length (run k)
   moved-left from k c₀ c h = ⊎_elim
@@ -165,9 +171,7 @@ module _ (counts len : List ℕ) (members end : ℕ) where
 
   -- none is left
   pub member-end : (from : ℕ) (c₀ c before out : List ℕ) → 0 ≡ members / 2 ^ from → Changed members moves from c₀ c
-      → ((n : ℕ) → ((j : ℕ) → n ≤ j → run j ≡ []) → Apart n (cursor c₀) run (length before)
-      → patched n (cursor c) (run_from from) out ≡ patched n (cursor c₀) run before)
-      → Filled run before c₀ out c
+      → Promised before c₀ out c from → Filled run before c₀ out c
   member-end from c₀ c before out z h p = record {
     bytes = λ n none a. sym (patched-none n (cursor c) (run_from from) out (λ k i. left k)) ∙ p n none a;
     moved = λ k. sym (add-zero (cursor c k)) ∙ ap (λ (v : List ℕ). cursor c k + length v) (sym (left k)) ∙ moved-left from k c₀ c h;

@@ -40,7 +40,7 @@ fn put_entry(
     let mut rest = members;
     let mut from: usize = 0;
     while rest != 0 {
-        let z = u32::trailing_zeros(rest);
+        let z = rest.trailing_zeros();
         let k = from + z as usize;
         let at = cursors[k];
         cursors[k] = at + put_offset(out, at, end - len[k], counts[k]);
@@ -64,13 +64,9 @@ pub fn put_log(
         ends.now log.now) out.old) × (cursors.new ≡ moved_by (log_run newest counts.now words.len
         ends.now log.now) cursors.old) }
 {
-    let len = words.len;
-    let mut i: usize = 0;
-    while i < log.len() {
-        let entry = log[i];
+    for &entry in log {
         let node = (entry / logs::PLACES) as usize;
         let end = (entry % logs::PLACES) as usize + 1;
-        put_entry(out, cursors, counts, &len, ends[node], end);
-        i += 1;
+        put_entry(out, cursors, counts, &words.len, ends[node], end);
     }
 }

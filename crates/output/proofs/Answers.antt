@@ -8,8 +8,7 @@ use native.Mathlib.Omega.{arith}
 use lib.ListN.{length, drop, length-append}
 use lib.Dec.{eqb}
 use borrow.Author.Tests.{ne_eqb, eqb-true, lt-ltb}
-use Rattle.spec.specs.declared.Searched.{Searched}
-use Rattle.spec.specs.declared.Searched.TheVariants.{ScanRefused, JoinRefused, Found}
+use Rattle.spec.specs.Searched.{Searched, ScanRefused, JoinRefused, Found}
 use Rattle.spec.specs.Bytes.{splice}
 use Rattle.spec.specs.Outcome.{first_number, whole, unless_refused}
 use Rattle.spec.specs.Form.{newest}

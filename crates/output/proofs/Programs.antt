@@ -10,7 +10,7 @@ use lib.Seq.{length-take-le, take_all}
 use lib.Dec.{ltb}
 use borrow.Author.Tests.{lt-ltb, le-ltb, ltb-false}
 use Rattle.spec.proofs.Tests.{le-or-lt, bool_cases, cond-elim}
-use Rattle.spec.specs.declared.Searched.{Searched}
+use Rattle.spec.specs.Searched.{Searched}
 use Rattle.spec.specs.Form.{newest}
 use Rattle.spec.specs.Join.{one_client, read_list}
 use Rattle.spec.specs.Search.{search_outcome, search_buffer, searched_code, searched_count}

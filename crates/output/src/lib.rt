@@ -7,7 +7,7 @@ ghost use Rattle.spec.specs.Join.{read_list};
 ghost use Rattle.spec.specs.Program.{decimal, list_text, refused_text, too_long_text, search_text, program_text, longest_text, printed_length, printed_buffer};
 ghost use Rattle.output.specs.Lines.{Room, Puts, row_text, rows_text};
 
-use spec::Searched;
+use spec::SearchRefusal;
 
 // The longest file that is taken; the index and the list have buffers of the same length.
 const ROOM: usize = 65536;
@@ -59,10 +59,8 @@ fn put_rows(out: &mut [u8], at: usize, list: &[u8], count: usize) -> usize
     ensures { Puts out.old out.new at (rows_text list.now count 0) result }
 {
     let mut place = at;
-    let mut i: usize = 0;
-    while i < count {
+    for i in 0..count {
         place = put_row(out, place, list, 9 * i);
-        i += 1;
     }
     place
 }
@@ -84,7 +82,7 @@ fn put_refused(out: &mut [u8], code: u8) -> usize
     ensures { Puts out.old out.new 0 (refused_text code) result }
 {
     let a = put_word(out, 0, b"refused", b' ');
-    put_number(out, a, code as u64, b'\n')
+    put_number(out, a, u64::from(code), b'\n')
 }
 
 fn put_too_long(out: &mut [u8], name: &[u8]) -> usize
@@ -111,11 +109,10 @@ fn put_search(out: &mut [u8], store: &[u8], words: &[u8], recipes: &[u8]) -> usi
         client3: 0,
     };
     let answer = search::search(words, store, recipes, &key, &mut index, &mut list, none);
-    let searched = answer.searched;
-    match searched {
-        Searched::ScanRefused(code) => put_refused(out, code),
-        Searched::JoinRefused(_, code) => put_refused(out, code),
-        Searched::Found(_, count) => put_list(out, &list, count),
+    match answer.searched {
+        Err(SearchRefusal::Scan(refusal)) => put_refused(out, refusal.number()),
+        Err(SearchRefusal::Join(_, refusal)) => put_refused(out, refusal.number()),
+        Ok(done) => put_list(out, &list, done.count),
     }
 }
 

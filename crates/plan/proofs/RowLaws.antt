@@ -6,6 +6,7 @@ use mathlib.Core.Bool.{Bool, true, false, cond}
 use mathlib.Core.List.{List, [], ◌∷◌}
 use Prim.Native.Nat.{ℕ, ◌+◌, ◌*◌, ◌^◌, ◌≤◌, ◌<◌}
 use native.Mathlib.Omega.{arith}
+use mir.Val.{bool_byte}
 use borrow.Author.Tests.{eq-eqb, ne_eqb}
 use lib.Dec.{eqb}
 use lib.ListN.{length, length-append}
@@ -54,17 +55,15 @@ module _ (lengths query : List ℕ) (k : ℕ) (list : List Occurrence) where
   unfolding rows
   rows-line h = rw (ne_eqb (length query) 0 h)
 
+  byte_of : (b : Bool) → bool_byte b ≡ cond b 1 0
+  byte_of true = refl
+  byte_of false = refl
+
   -- a query's choice, by how far it got
   module _ (h : length query ≢ 0) (choice : Choice) (c : Chosen choice (earliest lengths 0 query list)) where
-    pub rows-one : choice.step ≡ length query → 1 ≡ rows lengths query k list
-    rows-one e =
-        sym (ap (λ (b : Bool). cond b 1 0) (eq-eqb (length (earliest lengths 0 query list)) (length query) (sym c.many ∙ e)))
-        ∙ sym line-one ∙ rows-line h
-
-    pub rows_none : choice.step ≢ length query → 0 ≡ rows lengths query k list
-    rows_none e =
-        sym (ap (λ (b : Bool). cond b 1 0) (ne_eqb (length (earliest lengths 0 query list)) (length query) (λ z. e (c.many ∙ z))))
-        ∙ sym line-one ∙ rows-line h
+    pub rows-choice : bool_byte (eqb choice.step (length query)) ≡ rows lengths query k list
+    rows-choice =
+        ap (λ (n : ℕ). bool_byte (eqb n (length query))) c.many ∙ byte_of _ ∙ sym line-one ∙ rows-line h
 
 -- ---- an empty query's rows are occurrences
 

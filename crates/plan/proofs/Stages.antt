@@ -1,15 +1,14 @@
 -- The stages of a plan: each refusal, and what the stage after it may start from; and what a plan without refusal gives who lists. Assumes nothing.
 use mathlib.Core.Path.{◌≡◌, refl, sym, ap, ◌∙◌, subst}
 use mathlib.Core.Logic.{◌≢◌, ◌⊎◌, inl, inr}
+use mathlib.Core.Bool.{Bool, true, false, true≢false}
 use mathlib.Core.List.{List}
-use Prim.Native.Nat.{ℕ, zero, suc, ◌+◌, ◌-◌, ◌≤◌}
+use Prim.Native.Nat.{ℕ, zero, suc, ◌+◌, ◌-◌, ◌≤◌, ◌<◌}
 use native.Mathlib.Nat.{zero-add}
 use native.Mathlib.Omega.{arith}
-use borrow.Author.Tests.{eq-eqb, ne_eqb}
-use lib.ListN.{length, take, drop, get_or, replicate}
-use lib.Seq.{get_or-take}
+use borrow.Author.Tests.{lt-ltb, eq-eqb, ne_eqb}
+use lib.ListN.{length, take, drop, get_or}
 use Rattle.spec.specs.declared.Opened.{Opened}
-use Rattle.spec.specs.Bytes.{written}
 use Rattle.spec.specs.Form.{form_of}
 use Rattle.spec.specs.Keywords.{folded_keywords, list_size, keyword_front_code}
 use Rattle.spec.specs.Store.{chunk_count}
@@ -19,17 +18,17 @@ use Rattle.spec.specs.Recipes.{file_count, recipes_code}
 use Rattle.spec.specs.Join.{join_list, joinable_code, inner_least}
 use Rattle.spec.proofs.Codes.{passed-whole, refused-whole, next-whole, last-whole}
 use Rattle.spec.proofs.IndexChecks.{index-good}
-use Rattle.spec.proofs.Splices.{splice-read}
-use Rattle.spec.proofs.Tabulated.{length-tabulated, tabulated-at}
+use Rattle.spec.proofs.Tabulated.{tabulated-at}
+use Rattle.recipes.proofs.Files.{accepted}
 use Rattle.directory.specs.Chains.{Chained, Empty}
 use Rattle.files.specs.Measures.{least_in}
 use Rattle.files.proofs.OfIndex.{index-keys}
 use Rattle.tables.specs.Tabled.{tables_of}
 use Rattle.index.specs.Stages.{examined_chains}
-use Rattle.walk.specs.Walking.{keyword_counts}
 use Rattle.index.proofs.CheckLaws.{list-is, index-chains}
+use Rattle.walk.specs.Walking.{keyword_counts}
 use Rattle.plan.specs.declared.Plan.{Plan}
-use Rattle.plan.specs.Plans.{all_files_code, front_code, all_rows, counted, mark_of, marks_of, refused_plan, plan_of, planned_tables}
+use Rattle.plan.specs.Plans.{all_files_code, front_code, rows_of, all_rows, counted, has_row, files_with_rows, plan_code, plan_of, planned_tables}
 use Rattle.plan.specs.Plans.{Joinable, Marked, Planned}
 
 zero_or : (n : ℕ) → (n ≡ 0) ⊎ (n ≢ 0)
@@ -136,91 +135,65 @@ module _ (index recipes : List ℕ) where
       }
 
 module _ (index recipes query : List ℕ) where
-  -- ---- the marks
+  -- ---- the files with rows
 
-  length-marks : length (marks_of index recipes query) ≡ file_count recipes
-  unfolding marks_of
-  length-marks = length-tabulated (mark_of index recipes query) 0 (file_count recipes)
-
-  marks-mark : (marks : List ℕ) → marks ≡ written (replicate 65535 0) (marks_of index recipes query) → Marked index recipes query marks
-  unfolding marks_of
-  marks-mark marks e =
-      let v = marks_of index recipes query in
+  rows-marked : (has_rows : List Bool) → recipes_code recipes ≡ 0 → has_rows ≡ files_with_rows index recipes query → Marked index recipes query has_rows
+  unfolding files_with_rows
+  rows-marked has_rows good e =
       record {
         none = λ k h z.
-            let first : take (length v) marks ≡ v = ap (take (length v)) e ∙ splice-read (replicate 65535 0) 0 v (omega arith) in
-            let here : get_or marks k 0 ≡ mark_of index recipes query k =
-            sym (get_or-take (length v) marks k 0 (omega (arith, length-marks)))
-            ∙ ap (λ (x : List ℕ). get_or x k 0) first
-            ∙ tabulated-at (mark_of index recipes query) 0 (file_count recipes) k 0 h
-            ∙ ap (mark_of index recipes query) (zero-add k) in
-            omega (arith, here, z);
+            let here : get_or has_rows k false ≡ has_row index recipes query k =
+            ap (λ (l : List Bool). get_or l k false) e
+            ∙ tabulated-at (has_row index recipes query) 0 65535 k false (omega (arith, (accepted recipes good).few))
+            ∙ ap (has_row index recipes query) (zero-add k) in
+            no_row k h (sym here ∙ z);
       }
+    where
+      no_row : (k : ℕ) → k < file_count recipes → has_row index recipes query k ≡ false → rows_of index recipes query k ≡ 0
+      no_row k h z = go (zero_or (rows_of index recipes query k))
+        where
+          go : (rows_of index recipes query k ≡ 0) ⊎ (rows_of index recipes query k ≢ 0) → rows_of index recipes query k ≡ 0
+          go (inl e) = e
+          go (inr n) =
+              let some : has_row index recipes query k ≡ true = rw (lt-ltb k (file_count recipes) h, ne_eqb (rows_of index recipes query k) 0 n) refl in
+              let y : ⊥ = true≢false (sym some ∙ z) in absurd y
 
-  -- ---- the plan, by its code
+  -- ---- the plan, by its parts
 
-  abbrev code : ℕ
-  code = joinable_code (form_of index) index recipes
-
-  plan-refused : code ≢ 0 → plan_of index recipes query ≡ refused_plan code
-  unfolding plan_of
-  plan-refused h = rw (ne_eqb code 0 h)
-
-  pub refused-plan : (n : ℕ) (plan : Plan) → n ≡ code → n ≢ 0 → plan ≡ refused_plan n → plan ≡ plan_of index recipes query
-  refused-plan n plan e h p = p ∙ ap refused_plan e ∙ sym (plan-refused (λ z. h (e ∙ z)))
-
-  abbrev accepted-plan : ℕ → List ℕ → Opened → List ℕ → Plan
-  accepted-plan total counts opened marks = record { code = 0; total = total; counts = counts; opened = opened; marks = marks }
+  abbrev plan-with : ℕ → List ℕ → Opened → List Bool → Plan
+  plan-with total counts opened has_rows = record { total = total; counts = counts; opened = opened; has_rows = has_rows }
 
   abbrev all_counts : List ℕ
   all_counts = keyword_counts (counted query (join_list (form_of index) index recipes))
 
-  plan-accepted : code ≡ 0
-      → plan_of index recipes query
-      ≡ accepted-plan (all_rows index recipes query) all_counts (opened_of index) (written (replicate 65535 0) (marks_of index recipes query))
+  pub done-plan : (total : ℕ) (counts : List ℕ) (opened : Opened) (has_rows : List Bool) → total ≡ all_rows index recipes query → counts ≡ all_counts
+      → opened ≡ opened_of index → has_rows ≡ files_with_rows index recipes query → plan-with total counts opened has_rows ≡ plan_of index recipes query
   unfolding plan_of
-  plan-accepted z = rw (eq-eqb code 0 z)
-
-  pub done-plan : (total : ℕ) (counts : List ℕ) (opened : Opened) (marks : List ℕ) → code ≡ 0 → total ≡ all_rows index recipes query → counts ≡ all_counts
-      → opened ≡ opened_of index → marks ≡ written (replicate 65535 0) (marks_of index recipes query)
-      → accepted-plan total counts opened marks ≡ plan_of index recipes query
-  done-plan total counts opened marks z t n o m =
-      ap {B = Plan} (λ (x : ℕ). accepted-plan x counts opened marks) t
-      ∙ ap {B = Plan} (λ (x : List ℕ). accepted-plan (all_rows index recipes query) x opened marks) n
-      ∙ ap {B = Plan} (λ (x : Opened). accepted-plan (all_rows index recipes query) all_counts x marks) o
-      ∙ ap {B = Plan} (accepted-plan (all_rows index recipes query) all_counts (opened_of index)) m
-      ∙ sym (plan-accepted z)
-
-  refused-number : (n : ℕ) → (refused_plan n).code ≡ n
-  unfolding refused_plan
-  refused-number n = refl
+  done-plan total counts opened has_rows t n o h =
+      ap {B = Plan} (λ (x : ℕ). plan-with x counts opened has_rows) t
+      ∙ ap {B = Plan} (λ (x : List ℕ). plan-with (all_rows index recipes query) x opened has_rows) n
+      ∙ ap {B = Plan} (λ (x : Opened). plan-with (all_rows index recipes query) all_counts x has_rows) o
+      ∙ ap {B = Plan} (plan-with (all_rows index recipes query) all_counts (opened_of index)) h
 
   -- ---- what a plan without refusal gives who lists
 
   module _ (plan : Plan) (p : plan ≡ plan_of index recipes query) where
-    pub plan-number : plan.code ≡ code
-    plan-number = go (zero_or code)
-      where
-        go : (code ≡ 0) ⊎ (code ≢ 0) → plan.code ≡ code
-        go (inl z) = ap (λ (x : Plan). x.code) (p ∙ plan-accepted z) ∙ sym z
-        go (inr h) = ap (λ (x : Plan). x.code) (p ∙ plan-refused h) ∙ refused-number code
+    pub plan-total : plan.total ≡ all_rows index recipes query
+    unfolding plan_of
+    plan-total = ap (λ (x : Plan). x.total) p
 
-    pub plan-total : plan.code ≡ 0 → plan.total ≡ all_rows index recipes query
-    plan-total z = ap (λ (x : Plan). x.total) (p ∙ plan-accepted (sym plan-number ∙ z))
-
-    pub planned : (chains₀ chains : List ℕ) (tables₀ tables : List (List (List ℕ))) → plan.code ≡ 0 → Empty chains₀ → chains ≡ examined_chains index chains₀
-        → tables ≡ planned_tables index recipes tables₀ → Planned index recipes query plan chains tables
+    pub planned : (chains₀ chains : List ℕ) (tables₀ tables : List (List (List ℕ))) → plan_code index recipes ≡ 0 → Empty chains₀
+        → chains ≡ examined_chains index chains₀ → tables ≡ planned_tables index recipes tables₀ → Planned index recipes query plan chains tables
+    unfolding plan_of
     planned chains₀ chains tables₀ tables z e x t =
-        let a : code ≡ 0 = sym plan-number ∙ z in
-        let q = p ∙ plan-accepted a in
-        let passed = joinable-passed index recipes a in
+        let passed = joinable-passed index recipes z in
         let front : front_code index recipes ≡ 0 = sym (front-recipes index recipes passed.0) ∙ passed.1 in
         record {
-          accepted = a;
+          accepted = z;
           passed = passed.2;
-          totalled = plan-total z;
-          counts = ap (λ (y : Plan). y.counts) q;
-          marked = marks-mark plan.marks (ap (λ (y : Plan). y.marks) q);
-          joinable = joinable index recipes plan.opened chains₀ chains tables passed.0 passed.1 (ap (λ (y : Plan). y.opened) q) e x
+          totalled = plan-total;
+          counts = ap (λ (y : Plan). y.counts) p;
+          marked = rows-marked plan.has_rows passed.1 (ap (λ (y : Plan). y.has_rows) p);
+          joinable = joinable index recipes plan.opened chains₀ chains tables passed.0 passed.1 (ap (λ (y : Plan). y.opened) p) e x
               (t ∙ tables-made index recipes tables₀ front);
         }

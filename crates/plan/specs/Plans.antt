@@ -1,7 +1,7 @@
 -- The plan of an index and recipes: what the operations on them share before they list, and what its stages hand over.
-use Rattle.std.specs.Prelude.{◌≡◌, false, cond, List, [], ◌∷◌, ℕ, ◌<◌, min, eqb, length, get_or, replicate}
+use Rattle.std.specs.Prelude.{◌≡◌, Bool, false, not, ◌&&◌, cond, List, [], ◌∷◌, ℕ, ◌<◌, eqb, ltb, length, get_or}
 use Rattle.spec.specs.declared.Opened.{Opened}
-use Rattle.spec.specs.Bytes.{written, each}
+use Rattle.spec.specs.Bytes.{each}
 use Rattle.spec.specs.Outcome.{first_number, whole}
 use Rattle.spec.specs.Form.{form_of}
 use Rattle.spec.specs.Keywords.{folded_keywords}
@@ -48,36 +48,27 @@ all_rows index recipes query =
 unfoldable pub counted : List ℕ → List Occurrence → List Occurrence
 counted query list = cond (eqb (length query) 0) list []
 
--- A file's mark: 1 where it has a row, else 0.
-abbrev pub mark_of : List ℕ → List ℕ → List ℕ → ℕ → ℕ
-mark_of index recipes query k = min (rows_of index recipes query k) 1
+-- Whether there is a file k that has a row.
+abbrev pub has_row : List ℕ → List ℕ → List ℕ → ℕ → Bool
+has_row index recipes query k = ltb k (file_count recipes) && not (eqb (rows_of index recipes query k) 0)
 
--- The marks of all files.
-unfoldable pub marks_of : List ℕ → List ℕ → List ℕ → List ℕ
-marks_of index recipes query = each (λ k. mark_of index recipes query k ∷ []) 0 (file_count recipes)
+-- That, of all numbers that files can have.
+unfoldable pub files_with_rows : List ℕ → List ℕ → List ℕ → List Bool
+files_with_rows index recipes query = each (λ k. has_row index recipes query k ∷ []) 0 65535
 
--- The plan of a refusal: nothing but its number.
-unfoldable pub refused_plan : ℕ → Plan
-refused_plan code = record {
-  code = code;
-  total = 0;
-  counts = replicate 16 0;
-  opened = record { directory = 0; entries = 0; keywords = 0; longest = 0; format = record { number = 0; width = 0; longest = 0; sets = false } };
-  marks = replicate 65535 0;
-}
+-- The number of the plan's refusal, before 18 and a query's 21; 0 where there is none.
+abbrev pub plan_code : List ℕ → List ℕ → ℕ
+plan_code index recipes = joinable_code (form_of index) index recipes
 
--- The refusals before 18 (but a query's 21); where there is none the count, the counts by keyword, the opened index and the files' marks, 0 behind the last file.
+-- The plan where there is no refusal: the count, the counts by keyword, the opened index, and which files have rows.
 unfoldable pub plan_of : List ℕ → List ℕ → List ℕ → Plan
 plan_of index recipes query =
-    cond (eqb (joinable_code (form_of index) index recipes) 0)
-    (record {
-      code = 0;
+    record {
       total = all_rows index recipes query;
       counts = keyword_counts (counted query (join_list (form_of index) index recipes));
       opened = opened_of index;
-      marks = written (replicate 65535 0) (marks_of index recipes query);
-    })
-    (refused_plan (joinable_code (form_of index) index recipes))
+      has_rows = files_with_rows index recipes query;
+    }
 
 -- The tables after it: the keywords' where neither index nor recipes are refused; as they were else.
 unfoldable pub planned_tables : List ℕ → List ℕ → List (List (List ℕ)) → List (List (List ℕ))
@@ -96,15 +87,15 @@ pub record Joinable (index recipes : List ℕ) (opened : Opened) (chains : List 
   pub looked : Directory index opened chains
   pub tabled : tables ≡ tables_of (folded_keywords (list_in index))
 
--- A file whose mark is 0 has no row.
-pub record Marked (index recipes query marks : List ℕ) : Type 0 where
-  pub none : (k : ℕ) → k < file_count recipes → get_or marks k 0 ≡ 0 → rows_of index recipes query k ≡ 0
+-- A file that is not said to have rows has none.
+pub record Marked (index recipes query : List ℕ) (has_rows : List Bool) : Type 0 where
+  pub none : (k : ℕ) → k < file_count recipes → get_or has_rows k false ≡ false → rows_of index recipes query k ≡ 0
 
--- What a plan without refusal gives who lists: everything passes, files can be walked, the total and the marks are the definition's.
+-- What a plan without refusal gives who lists: everything passes, files can be walked, the total and the files with rows are the definition's.
 pub record Planned (index recipes query : List ℕ) (plan : Plan) (chains : List ℕ) (tables : List (List (List ℕ))) : Type 0 where
   pub accepted : joinable_code (form_of index) index recipes ≡ 0
   pub passed : all_files_code index recipes ≡ 0
   pub totalled : plan.total ≡ all_rows index recipes query
   pub counts : plan.counts ≡ keyword_counts (counted query (join_list (form_of index) index recipes))
-  pub marked : Marked index recipes query plan.marks
+  pub marked : Marked index recipes query plan.has_rows
   pub joinable : Joinable index recipes plan.opened chains tables

@@ -1,19 +1,23 @@
 -- The answers of `count` and `query`, one for each way out. Assumes nothing.
 use mathlib.Core.Path.{◌≡◌, sym, ap, ◌∙◌}
-use mathlib.Core.Logic.{◌≢◌, ◌⊎◌, inl, inr}
+use mathlib.Core.Logic.{◌⊎◌, inl, inr}
 use mathlib.Core.List.{List}
 use Prim.Native.Nat.{ℕ, ◌*◌, ◌/◌, ◌≤◌, ◌<◌}
 use native.Mathlib.Nat.{mul_comm, div-lt_iff_lt-mul}
 use native.Mathlib.Omega.{arith}
 use lib.ListN.{length}
 use borrow.Author.Tests.{lt-ltb, le-ltb}
-use Rattle.spec.specs.declared.Outcome.{Outcome}
-use Rattle.spec.specs.declared.Outcome.TheVariants.{Done, Refused}
+use Rattle.std.specs.Prelude.{Ok, Err}
+use Rattle.spec.specs.declared.Refusal.{Refusal}
+use Rattle.spec.specs.declared.Refusal.TheVariants.{ListTooLong}
+use Rattle.spec.specs.Outcome.{Outcome, Done}
+use Rattle.spec.specs.Refusal.{number_of, outcome_of}
+use Rattle.spec.proofs.Refusals.{number-some, refusal-answers}
 use Rattle.spec.specs.Bytes.{splice}
 use Rattle.spec.specs.Form.{form_of}
 use Rattle.spec.specs.Query.{query_lines, line_size, lines_bytes, queryable_code, query_code, query_outcome, query_buffer, query_count}
 use Rattle.spec.proofs.Tests.{le-or-lt}
-use Rattle.spec.proofs.Codes.{refused-whole, next-whole, refused, next-test, answer-done, answer-refused, buffer-done, buffer-refused}
+use Rattle.spec.proofs.Codes.{refused-whole, next-whole, refused, next-test, answer-done, buffer-done, buffer-refused}
 
 -- what is divided, said as a product
 more-lines : (room size n : ℕ) → 0 < size → room / size < n → room < size * n
@@ -40,11 +44,11 @@ module _ (index recipes query : List ℕ) where
   -- ---- the count
 
   module _ (n : ℕ) (e : n ≡ front) where
-    pub count-refused : n ≢ 0 → Refused n ≡ query_count (form_of index) index recipes query
+    pub count-refused : (r : Refusal) → number_of r ≡ n → outcome_of (Err r) ≡ query_count (form_of index) index recipes query
     unfolding query_count
-    count-refused h = ap Refused e ∙ answer-refused front many (λ z. h (e ∙ z))
+    count-refused r h = refusal-answers r front many (h ∙ e)
 
-    pub count-done : n ≡ 0 → (total : ℕ) → total ≡ many → Done total ≡ query_count (form_of index) index recipes query
+    pub count-done : n ≡ 0 → (total : ℕ) → total ≡ many → outcome_of (Ok total) ≡ query_count (form_of index) index recipes query
     unfolding query_count
     count-done z total m = ap Done m ∙ answer-done front many (sym e ∙ z)
 
@@ -61,30 +65,27 @@ module _ (index recipes query : List ℕ) where
     abbrev Found : List ℕ → Outcome → Type 0
     Found after r = (r ≡ query_outcome (form_of index) index recipes query (length out)) × (after ≡ query_buffer (form_of index) index recipes query out)
 
-    refusal : (n : ℕ) → n ≡ code → n ≢ 0 → Found out (Refused n)
+    refusal : (r : Refusal) → number_of r ≡ code → Found out (outcome_of (Err r))
     unfolding query_outcome query_buffer
-    refusal n p h = (
-      ap Refused p ∙ answer-refused code many (λ z. h (p ∙ z)),
-      buffer-refused code (splice out 0 bytes) out (λ z. h (p ∙ z)),
-    )
+    refusal r p = (refusal-answers r code many p, buffer-refused code (splice out 0 bytes) out (λ z. number-some r (p ∙ z)))
 
     module _ (n : ℕ) (e : n ≡ front) where
-      pub lines-refused : n ≢ 0 → Found out (Refused n)
+      pub lines-refused : (r : Refusal) → number_of r ≡ n → Found out (outcome_of (Err r))
       unfolding query_code
-      lines-refused h = refusal n (e ∙ refused-whole front _ (λ z. h (e ∙ z))) h
+      lines-refused r h = refusal r (h ∙ e ∙ refused-whole front _ (λ z. number-some r (h ∙ e ∙ z)))
 
       module _ (z : n ≡ 0) (total : ℕ) (m : total ≡ many) where
         -- the code divides, so that no product is taken
-        pub lines_long : length out / line_size query < total → Found out (Refused 18)
+        pub lines_long : length out / line_size query < total → Found out (outcome_of (Err ListTooLong))
         unfolding query_code
         lines_long h =
             let l : length out < line_size query * many = rw m at (more-lines (length out) (line_size query) total (omega arith) h) in
-            refusal 18 (refused _ 18 0 (lt-ltb (length out) (line_size query * many) l) ∙ sym (next-whole front _ (sym e ∙ z))) (omega arith)
+            refusal ListTooLong (refused _ 18 0 (lt-ltb (length out) (line_size query * many) l) ∙ sym (next-whole front _ (sym e ∙ z)))
 
         pub lines-room : total ≤ length out / line_size query → line_size query * many ≤ length out
         lines-room h = rw m at (fit-lines (length out) (line_size query) total (omega arith) h)
 
-        pub lines-done : (after : List ℕ) → total ≤ length out / line_size query → after ≡ splice out 0 bytes → Found after (Done total)
+        pub lines-done : (after : List ℕ) → total ≤ length out / line_size query → after ≡ splice out 0 bytes → Found after (outcome_of (Ok total))
         unfolding query_outcome query_buffer query_code
         lines-done after h w =
             let c : code ≡ 0 = next-whole front _ (sym e ∙ z) ∙ next-test _ 18 0 (le-ltb (length out) (line_size query * many) (lines-room h)) in

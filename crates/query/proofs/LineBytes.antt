@@ -8,7 +8,7 @@ use native.Mathlib.Nat.{mul-one, mul-zero, mul-add}
 use native.Mathlib.Numerals.{add-one}
 use native.Mathlib.Omega.{arith}
 use lib.ListN.{length, take, drop, get_or, length-append, drop_of_length-le}
-use lib.Seq.{drop-cons, get_or-take, length-take-le}
+use lib.Seq.{drop-cons}
 use lib.Dec.{eqb}
 use borrow.Author.Tests.{eqb-true, eqb-false, eq-eqb, ne_eqb}
 use Rattle.spec.specs.Bytes.{le_bytes, fields_bytes, splice}
@@ -24,7 +24,7 @@ use Rattle.spec.proofs.Splices.{splice-nil, splice-then}
 use Rattle.listing.specs.declared.Choice.{Choice}
 use Rattle.listing.specs.Choosing.{chosen_from, no_choice, Chosen}
 use Rattle.listing.proofs.Choices.{chosen-earliest}
-use Rattle.spec.proofs.Writing.{Going, going_start, going-room, going_on, going_end}
+use Rattle.spec.proofs.Writing.{Going, going-room, going_on, going_end}
 
 -- ---- bytes
 
@@ -97,47 +97,39 @@ query-size f index recipes query = lines-size (lengths_in index) query 0 _ _
 
 -- ---- writing offsets: k of them are written
 
-abbrev pub Offsets : List ℕ → ℕ → List ℕ → ℕ → List ℕ → ℕ → ℕ → Type 0
-Offsets out₀ at offsets n out p k = Going out₀ out at p (fields_bytes 4 (take n offsets)) (fields_bytes 4 (drop k (take n offsets)))
+abbrev pub Offsets : List ℕ → ℕ → List ℕ → List ℕ → ℕ → ℕ → Type 0
+Offsets out₀ at offsets out p k = Going out₀ out at p (fields_bytes 4 offsets) (fields_bytes 4 (drop k offsets))
 
-module _ (out₀ : List ℕ) (at : ℕ) (offsets : List ℕ) (n : ℕ) (long : n ≤ length offsets) (room : at + 4 * n ≤ length out₀) where
+module _ (out₀ : List ℕ) (at : ℕ) (offsets : List ℕ) (room : at + 4 * length offsets ≤ length out₀) where
   -- the bytes of all offsets, and of those from k on
   abbrev whole : List ℕ
-  whole = fields_bytes 4 (take n offsets)
+  whole = fields_bytes 4 offsets
 
   abbrev coming : ℕ → List ℕ
-  coming k = fields_bytes 4 (drop k (take n offsets))
-
-  taken : length (take n offsets) ≡ n
-  taken = length-take-le n offsets long
+  coming k = fields_bytes 4 (drop k offsets)
 
   fits : at + length whole ≤ length out₀
-  fits = omega (arith, room, length-fields_bytes 4 (take n offsets), taken)
+  fits = omega (arith, room, length-fields_bytes 4 offsets)
 
-  pub offsets-start : Offsets out₀ at offsets n out₀ at 0
-  offsets-start = going_start out₀ at whole
-
-  module _ (out : List ℕ) (p k : ℕ) (h : k < n) (g : Offsets out₀ at offsets n out p k) where
+  module _ (out : List ℕ) (p k : ℕ) (h : k < length offsets) (g : Offsets out₀ at offsets out p k) where
     abbrev here : List ℕ
     here = le_bytes 4 (get_or offsets k 0)
 
     next : coming k ≡ here ++ coming (k + 1)
     unfolding fields_bytes
-    next = rw (drop-cons (take n offsets) k 0 (omega (arith, taken)), get_or-take n offsets k 0 h, add-one)
+    next = rw (drop-cons offsets k 0 h, add-one)
 
     pub offsets-room : p + 4 ≤ length out
     offsets-room = omega (arith, length-le_bytes 4 (get_or offsets k 0), going-room out₀ out at p whole (coming k) g here (coming (k + 1)) fits next)
 
-    pub offsets-on : (out' : List ℕ) → out' ≡ splice out p here → Offsets out₀ at offsets n out' (p + 4) (k + 1)
+    pub offsets-on : (out' : List ℕ) → out' ≡ splice out p here → Offsets out₀ at offsets out' (p + 4) (k + 1)
     offsets-on out' w =
         going_on out₀ out at p whole (coming k) g out' here (coming (k + 1)) (p + 4) fits next
         (ap (λ (m : ℕ). p + m) (sym (length-le_bytes 4 (get_or offsets k 0)))) w
 
-  pub offsets-end : (out : List ℕ) (p k : ℕ) → n ≤ k → Offsets out₀ at offsets n out p k → out ≡ splice out₀ at whole
+  pub offsets-end : (out : List ℕ) (p k : ℕ) → length offsets ≤ k → Offsets out₀ at offsets out p k → out ≡ splice out₀ at whole
   unfolding fields_bytes
-  offsets-end out p k h g =
-      going_end out₀ out at p whole (coming k) g
-      (let past : length (take n offsets) ≤ k = omega (arith, taken) in ap (fields_bytes 4) (drop_of_length-le (take n offsets) past))
+  offsets-end out p k h g = going_end out₀ out at p whole (coming k) g (ap (fields_bytes 4) (drop_of_length-le offsets h))
 
 -- ---- a file's line, by the choice that was made in the file
 

@@ -1,7 +1,8 @@
 -- The loop over the files that writes their lines: before file k, what lies in the buffer and the lines of the files from k on are all lines. And what
 -- the plan says of a query's lines. Assumes nothing.
-use mathlib.Core.Path.{◌≡◌, refl, sym, ap, ◌∙◌}
+use mathlib.Core.Path.{◌≡◌, refl, sym, ap, subst, ◌∙◌}
 use mathlib.Core.Logic.{◌≢◌}
+use mathlib.Core.Bool.{Bool, false}
 use mathlib.Core.List.{List, [], ◌∷◌, ◌++◌}
 use Prim.Native.Nat.{ℕ, ◌+◌, ◌*◌, ◌≤◌, ◌<◌}
 use native.Mathlib.Omega.{arith}
@@ -41,11 +42,11 @@ module _ (index recipes query : List ℕ) (some : 1 ≤ length query) where
       let e : length (line_of (lengths_in index) query k list) ≡ 0 = rw (ne_eqb (length query) 0 asks) at z in
       none (line_of (lengths_in index) query k list) e
 
-  -- a file whose mark is 0 has no line
-  pub unmarked : (marks : List ℕ) → Marked index recipes query marks → (k at : ℕ) → Walk recipes k at → k < file_count recipes → (file : List ℕ)
-      → file ≡ part recipes (at + 4) (20 * field_at recipes at 4) → get_or marks k 0 ≡ 0
+  -- a file that is not said to have rows has no line
+  pub unmarked : (has_rows : List Bool) → Marked index recipes query has_rows → (k at : ℕ) → Walk recipes k at → k < file_count recipes → (file : List ℕ)
+      → file ≡ part recipes (at + 4) (20 * field_at recipes at 4) → get_or has_rows k false ≡ false
       → line_of (lengths_in index) query k (file_list k index file) ≡ []
-  unmarked marks m k at w turn file f z =
+  unmarked has_rows m k at w turn file f z =
       no_rows k (file_list k index file) (ap (rows (lengths_in index) query k) (sym (list-is index recipes k at w turn file f)) ∙ m.none k turn z)
 
 -- ---- the loop
@@ -87,10 +88,11 @@ module _ (index recipes query : List ℕ) where
         omega (arith, here-size, going-room out₀ out 0 place whole (coming k) g.going (lines_bytes here) (coming (k + 1)) whole_room bytes-step)
 
     pub lining-on : (out' : List ℕ) (end : ℕ) → Lined (lengths_in index) query k (file_list k index file) place out out' end
-        → Lining out₀ out' (k + 1) (at + 4 + length file) end
+        → Lining out₀ out' (k + 1) (at + (4 + length file)) end
     lining-on out' end l =
+        let next : at + 4 + length file ≡ at + (4 + length file) = omega arith in
         record {
-          walk = file-next recipes k at g.walk turn file f;
+          walk = subst (Walk recipes (k + 1)) next (file-next recipes k at g.walk turn file f);
           going =
               going_on out₀ out 0 place whole (coming k) g.going out' (lines_bytes here) (coming (k + 1)) end
               whole_room bytes-step (l.0 ∙ ap (λ (x : ℕ). place + x) (sym here-size)) l.1;

@@ -2,7 +2,7 @@
 // is complete, so that the lines are counted before a byte is written; files without a line are not walked again.
 #![tactic(auto)]
 
-ghost use Rattle.std.specs.Prelude.{◌≡◌, [], ◌+◌, ◌*◌, ◌≤◌, length, take, replicate};
+ghost use Rattle.std.specs.Prelude.{◌≡◌, false, [], ◌+◌, ◌*◌, ◌≤◌, length, replicate};
 ghost use Rattle.spec.specs.Bytes.{splice, fields_bytes, written};
 ghost use Rattle.spec.specs.Form.{form_of};
 ghost use Rattle.spec.specs.Index.{list_in, lengths_in};
@@ -11,71 +11,69 @@ ghost use Rattle.spec.specs.Query.{lines_bytes, line_size, query_lines, query_ou
 ghost use Rattle.tables.specs.Tabled.{tables_of};
 ghost use Rattle.walk.specs.Walking.{Directory, File};
 ghost use Rattle.plan.specs.Plans.{Planned};
+ghost use Rattle.spec.specs.Refusal.{outcome_of};
 ghost use Rattle.query.specs.FileLines.{file_line};
 
-// Writes n offsets, 4 bytes each.
-fn put_offsets(out: &mut [u8], at: usize, offsets: &[usize], n: usize)
-    requires { (at + 4 * n ≤ length out.old) × (n ≤ length offsets.now) }
-    ensures { out.new ≡ splice out.old at (fields_bytes 4 (take n offsets.now)) }
+use spec::Refusal;
+
+// Writes the offsets, 4 bytes each.
+fn put_offsets(out: &mut [u8], at: usize, offsets: &[usize])
+    requires { at + 4 * length offsets.now ≤ length out.old }
+    ensures { out.new ≡ splice out.old at (fields_bytes 4 offsets.now) }
 {
     let mut p = at;
-    let mut k: usize = 0;
-    while k < n {
-        field::write(out, p, 4, offsets[k] as u64);
+    for &offset in offsets {
+        field::write(out, p, 4, offset as u64);
         p += 4;
-        k += 1;
     }
 }
 
-// What the line of a file goes by: the opened index, the keywords' lengths, the file's number, where in the buffer its line starts, and its mark,
-// which is 0 where it has none, so that none of its places is looked at.
+// What the line of a file goes by: the keywords' lengths, the file's number, where in the buffer its line starts, and whether it
+// has one: where it has none, none of its places is looked at.
 #[derive(Drop)]
 struct Lining {
-    opened: spec::Opened,
     lengths: [usize; 16],
     number: usize,
     place: usize,
-    mark: u8,
+    has_line: bool,
 }
 
 // Writes the line of a file that has one, and returns the place behind. Every place is looked up.
 fn write_line(
-    index: &[u8],
+    source: walk::Source,
     lining: Lining,
-    chains: &[u32],
-    tables: &[[[u32; 32]; 32]; 16],
     file: &[u8],
     query: &[u8],
     out: &mut [u8],
 ) -> usize
-    requires file_value { lining.mark ≡ 0 → file_line index.now query.now lining.number file.now ≡ [] }
-    requires directory { Directory index.now lining.opened chains.now × (tables.now ≡ tables_of (folded_keywords (list_in index.now))) }
-    requires file { File index.now file.now [] × (length query.now ≤ 8) × (lining.lengths ≡ written (replicate 16 0) (lengths_in index.now)) }
-    requires file_in_bounds { lining.place + line_size query.now * length (file_line index.now query.now lining.number file.now) ≤ length out.old }
+    requires file_value { lining.has_line ≡ false → file_line source.index.now query.now lining.number file.now ≡ [] }
+    requires directory { Directory source.index.now source.opened source.chains.now
+        × (source.tables.now ≡ tables_of (folded_keywords (list_in source.index.now))) }
+    requires file { File source.index.now file.now [] × (length query.now ≤ 8) × (lining.lengths ≡ written (replicate 16 0) (lengths_in source.index.now)) }
+    requires file_in_bounds { lining.place + line_size query.now * length (file_line source.index.now query.now lining.number file.now) ≤ length out.old }
     ensures { (result ≡ lining.place + line_size query.now
-        * length (file_line index.now query.now lining.number file.now))
+        * length (file_line source.entry.index.now query.now lining.number file.now))
         × (out.new ≡ splice out.old lining.place
-        (lines_bytes (file_line index.now query.now lining.number file.now))) }
+        (lines_bytes (file_line source.entry.index.now query.now lining.number file.now))) }
 {
-    if lining.mark == 0 {
-        return lining.place;
+    let Lining {
+        lengths,
+        number,
+        place,
+        has_line,
+    } = lining;
+    if !has_line {
+        return place;
     }
     let slots = [0u32; 0];
-    let opened = lining.opened;
-    let lengths = lining.lengths;
-    let choosing = walk::Choosing {
-        opened: opened,
-        number: lining.number,
-        lengths: lengths,
-    };
-    let choice = walk::choose_file(index, choosing, chains, tables, file, &slots, query);
+    let choosing = walk::Choosing { number, lengths };
+    let choice = walk::choose_file(source, choosing, file, &slots, query);
     if choice.step != query.len() {
-        return lining.place;
+        return place;
     }
-    let place = lining.place;
     let offsets = choice.offsets;
-    field::write(out, place, 4, lining.number as u64);
-    put_offsets(out, place + 4, &offsets, query.len());
+    field::write(out, place, 4, number as u64);
+    put_offsets(out, place + 4, &offsets[..query.len()]);
     place + 4 + 4 * query.len()
 }
 
@@ -94,31 +92,33 @@ fn write_lines(
     ensures { out.new ≡ splice out.old 0
         (lines_bytes (query_lines (form_of index.now) index.now recipes.now query.now)) }
 {
+    let source = walk::Source {
+        index,
+        opened: made.opened,
+        chains,
+        tables,
+    };
     let words = keywords::parse(&index[8..]);
     let lengths = words.len;
     let files = recipes::count_at(recipes, 0);
     let mut place: usize = 0;
     let mut at: usize = 4;
-    let mut number: usize = 0;
-    while number < files {
+    for number in 0..files {
         let file = recipes::file_at(recipes, at);
-        let mark = made.marks[number];
         let lining = Lining {
-            opened: made.opened,
-            lengths: lengths,
-            number: number,
-            place: place,
-            mark: mark,
+            lengths,
+            number,
+            place,
+            has_line: made.has_rows[number],
         };
-        place = write_line(index, lining, chains, tables, file, query, out);
-        at = at + 4 + file.len();
-        number += 1;
+        place = write_line(source, lining, file, query, out);
+        at += 4 + file.len();
     }
 }
 
 // The number of lines that a query would report, whatever the buffer, or the refusal.
-pub fn count(index: &[u8], recipes: &[u8], query: &[u8]) -> spec::Outcome
-    ensures { result ≡ query_count (form_of index.now) index.now recipes.now query.now }
+pub fn count(index: &[u8], recipes: &[u8], query: &[u8]) -> Result<usize, Refusal>
+    ensures { outcome_of result ≡ query_count (form_of index.now) index.now recipes.now query.now }
 {
     let mut chains = [0u32; 130536];
     let mut tables = [[[0u32; 32]; 32]; 16];
@@ -128,17 +128,14 @@ pub fn count(index: &[u8], recipes: &[u8], query: &[u8]) -> spec::Outcome
         asking::askable(query),
         &mut chains,
         &mut tables,
-    );
-    let refusal = asking::query_code(counted.code, query, counted.opened.keywords);
-    if refusal != 0 {
-        return spec::Outcome::Refused(refusal);
-    }
-    spec::Outcome::Done(counted.total)
+    )?;
+    asking::check(Ok(()), query, counted.opened.keywords)?;
+    Ok(counted.total)
 }
 
 // The query: the number of lines, or the refusal, which changes no byte of the buffer.
-pub fn query(index: &[u8], recipes: &[u8], query: &[u8], out: &mut [u8]) -> spec::Outcome
-    ensures { (result ≡ query_outcome (form_of index.now) index.now recipes.now query.now
+pub fn query(index: &[u8], recipes: &[u8], query: &[u8], out: &mut [u8]) -> Result<usize, Refusal>
+    ensures { (outcome_of result ≡ query_outcome (form_of index.now) index.now recipes.now query.now
         (length out.old))
         × (out.new ≡ query_buffer (form_of index.now) index.now recipes.now query.now out.old) }
 {
@@ -150,14 +147,11 @@ pub fn query(index: &[u8], recipes: &[u8], query: &[u8], out: &mut [u8]) -> spec
         asking::askable(query),
         &mut chains,
         &mut tables,
-    );
-    let code = asking::query_code(p.code, query, p.opened.keywords);
-    if code != 0 {
-        return spec::Outcome::Refused(code);
-    }
+    )?;
+    asking::check(Ok(()), query, p.opened.keywords)?;
     if out.len() / (4 + 4 * query.len()) < p.total {
-        return spec::Outcome::Refused(18);
+        return Err(Refusal::ListTooLong);
     }
     write_lines(index, recipes, p, &chains, &tables, query, out);
-    spec::Outcome::Done(p.total)
+    Ok(p.total)
 }

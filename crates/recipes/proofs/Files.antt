@@ -1,21 +1,21 @@
 -- The files of recipes one after the other: one step of `files_whole`, and what a file's place gives. Assumes nothing.
-use mathlib.Core.Path.{◌≡◌, refl, sym, ap, ◌∙◌}
-use mathlib.Core.Bool.{Bool, true, false, cond, ◌&&◌, not, and-false}
+use mathlib.Core.Path.{◌≡◌, sym, ap, ◌∙◌}
+use mathlib.Core.Logic.{◌⊎◌, inl, inr}
+use mathlib.Core.Bool.{true, false, ◌&&◌, and-false}
 use mathlib.Core.List.{List, [], ◌∷◌}
 use Prim.Native.Nat.{ℕ, suc, ◌+◌, ◌-◌, ◌*◌, ◌/◌, ◌≤◌, ◌<◌}
-use native.Mathlib.Nat.{sub-zero, add-sub_cancel_left}
+use native.Mathlib.Nat.{sub-zero}
 use native.Mathlib.Omega.{arith}
-use borrow.Author.Tests.{le-leb, lt-leb, leb-true, ltb-false, not-false, lt-ltb, le-ltb}
-use lib.Dec.{leb}
-use lib.ListN.{length, take, drop, get_or, length-drop, drop_of_length-le}
+use borrow.Author.Tests.{le-leb, lt-leb, leb-true, ltb-false, not-false, eq-eqb, ne_eqb}
+use lib.Dec.{eqb, leb}
+use lib.ListN.{length, drop, length-drop, drop_of_length-le}
 use lib.Seq.{drop-drop}
-use Rattle.spec.specs.Bytes.{part, field_at}
+use Rattle.spec.specs.Bytes.{field_at, same}
 use Rattle.spec.specs.Directory.{keys_of}
 use Rattle.spec.specs.Recipes.{file_count, files_whole, read_files, files_of, recipes_code}
-use Rattle.spec.proofs.Tests.{and_left, and_right}
+use Rattle.spec.proofs.Tests.{and_left, and_right, le-or-lt}
 use Rattle.spec.proofs.Same.{same_not}
 use Rattle.spec.proofs.Codes.{passed}
-use Rattle.spec.proofs.EntryLaws.{key-at}
 
 -- ---- one file, n its chunk count, `left` files behind it
 
@@ -47,11 +47,6 @@ file-at recipes left at n e w =
       files = files-step recipes left at n e;
     }
 
--- a file's slice, as `file_at` cuts it
-pub slice_is : (recipes : List ℕ) (at n : ℕ) → n ≡ field_at recipes at 4
-    → take (at + 4 + 20 * n - (at + 4)) (drop (at + 4) recipes) ≡ part recipes (at + 4) (20 * field_at recipes at 4)
-slice_is recipes at n e = ap (λ (m : ℕ). take m (drop (at + 4) recipes)) (add-sub_cancel_left (at + 4) (20 * n) ∙ ap (λ (m : ℕ). 20 * m) e)
-
 -- ---- the check's turn: the files from k on, at their place
 
 module _ (recipes : List ℕ) (count k at : ℕ) (turn : k < count) where
@@ -60,46 +55,27 @@ module _ (recipes : List ℕ) (count k at : ℕ) (turn : k < count) where
       ≡ (leb 4 (length recipes - at) && leb (20 * n) (length recipes - at - 4) && files_whole (count - (k + 1)) (drop (at + 4 + 20 * n) recipes))
   step n e = let s : count - k ≡ suc (count - (k + 1)) = omega arith in rw s (whole-step recipes (count - (k + 1)) at n e)
 
-  pub whole-cut : length recipes - at < 4 → false ≡ files_whole (count - k) (drop at recipes)
-  whole-cut h = sym (step (field_at recipes at 4) refl ∙ rw (lt-leb 4 (length recipes - at) h))
-
   pub whole-lies : (n : ℕ) → n ≡ field_at recipes at 4 → 4 ≤ length recipes - at → (length recipes - at - 4) / 20 < n
       → false ≡ files_whole (count - k) (drop at recipes)
   whole-lies n e h l = sym (step n e ∙ rw (lt-leb (20 * n) (length recipes - at - 4) (omega arith), and-false))
 
   pub whole-on : (n : ℕ) → n ≡ field_at recipes at 4 → 4 ≤ length recipes - at → n ≤ (length recipes - at - 4) / 20
-      → files_whole (count - (k + 1)) (drop (at + 4 + 20 * n) recipes) ≡ files_whole (count - k) (drop at recipes)
-  whole-on n e h l = sym (step n e ∙ rw (le-leb 4 (length recipes - at) h, le-leb (20 * n) (length recipes - at - 4) (omega arith)))
+      → files_whole (count - (k + 1)) (drop (at + (4 + 20 * n)) recipes) ≡ files_whole (count - k) (drop at recipes)
+  whole-on n e h l =
+      let a : at + (4 + 20 * n) ≡ at + 4 + 20 * n = omega arith in
+      rw a (sym (step n e ∙ rw (le-leb 4 (length recipes - at) h, le-leb (20 * n) (length recipes - at - 4) (omega arith))))
 
-module _ (recipes : List ℕ) (count k at : ℕ) (done : count ≤ k) where
-  pub whole-over : at < length recipes → false ≡ files_whole (count - k) (drop at recipes)
-  whole-over h =
-      let z : count - k ≡ 0 = omega arith in
-      rw z (sym (same_not (drop at recipes) [] (λ e. omega (arith, ap length e, length-drop at recipes))))
-
-  pub whole-end : length recipes ≤ at → true ≡ files_whole (count - k) (drop at recipes)
-  whole-end h = let z : count - k ≡ 0 = omega arith in rw (z, drop_of_length-le recipes h)
-
--- ---- the check
-
-module _ (recipes : List ℕ) where
-  pub check-short : length recipes < 4 → 14 ≡ recipes_code recipes
-  unfolding recipes_code
-  check-short h = rw (lt-ltb (length recipes) 4 h)
-
-  pub check-many : 4 ≤ length recipes → 65535 < file_count recipes → 14 ≡ recipes_code recipes
-  unfolding recipes_code
-  check-many l h = rw (le-ltb (length recipes) 4 l, lt-ltb 65535 (file_count recipes) h)
-
-  -- t tells whether the files are whole
-  pub check-files : 4 ≤ length recipes → (count : ℕ) → count ≡ file_count recipes → count ≤ 65535 → (t u : Bool) → t ≡ files_whole count (drop 4 recipes) → t ≡ u
-      → cond (not u) 14 0 ≡ recipes_code recipes
-  unfolding recipes_code
-  check-files l count c h t u e f = rw (le-ltb (length recipes) 4 l, ← c, le-ltb 65535 count h, ← e, f)
-
--- fingerprint j of a file of n whose fingerprints start at `from`
-pub file-key : (recipes : List ℕ) (from n j : ℕ) → j < n → get_or (keys_of 20 n (drop from recipes)) j [] ≡ part recipes (from + 20 * j) 20
-file-key recipes from n j h = key-at 20 n j (drop from recipes) h ∙ rw drop-drop
+-- behind the last file nothing is left over
+pub whole_end : (recipes : List ℕ) (count k at : ℕ) → count ≤ k → at ≤ length recipes → eqb at (length recipes) ≡ files_whole (count - k) (drop at recipes)
+whole_end recipes count k at done h =
+    let z : count - k ≡ 0 = omega arith in
+    rw z (go (le-or-lt (length recipes) at))
+  where
+    go : (length recipes ≤ at) ⊎ (at < length recipes) → eqb at (length recipes) ≡ same (drop at recipes) []
+    go (inl l) = rw (eq-eqb at (length recipes) (omega arith), drop_of_length-le recipes l)
+    go (inr l) =
+        rw (ne_eqb at (length recipes) (λ e. omega arith))
+        (sym (same_not (drop at recipes) [] (λ e. omega (arith, ap length e, length-drop at recipes))))
 
 -- ---- the walk along all files
 
@@ -155,7 +131,8 @@ walk-files recipes k at n w h e =
     let s : file_count recipes - k ≡ suc (file_count recipes - (k + 1)) = omega arith in
     let f = walk-file recipes k at n w h e in
     let g = sym f.files ∙ rw s at w.files in
-    sym g ∙ ap (λ (m : List (List (List ℕ))). keys_of 20 n (drop (at + 4) recipes) ∷ m) (tail_of (files_of recipes) k (keys_of 20 n (drop (at + 4) recipes)) _ g)
+    sym g
+    ∙ ap (λ (m : List (List (List ℕ))). keys_of 20 n (drop (at + 4) recipes) ∷ m) (tail_of (files_of recipes) k (keys_of 20 n (drop (at + 4) recipes)) _ g)
 
 -- behind the last file there is nothing
 pub walk_end : (recipes : List ℕ) (k at : ℕ) → Walk recipes k at → file_count recipes ≤ k → drop k (files_of recipes) ≡ []

@@ -4,6 +4,9 @@
 ghost use Rattle.std.specs.Prelude.{◌≡◌, ◌+◌, ◌*◌, ◌≤◌, length, drop};
 ghost use Rattle.spec.specs.Bytes.{part, field_at};
 ghost use Rattle.spec.specs.Recipes.{files_whole, recipes_code};
+ghost use Rattle.spec.specs.Refusal.{number};
+
+use spec::Refusal;
 
 // The chunk count of the file at `at`; at 0, the file count.
 pub fn count_at(recipes: &[u8], at: usize) -> usize
@@ -28,9 +31,8 @@ fn files_whole(recipes: &[u8], count: usize) -> bool
     requires { 4 ≤ length recipes.now }
     ensures { result ≡ files_whole count (drop 4 recipes.now) }
 {
-    let mut at: usize = 4;
-    let mut k: usize = 0;
-    while k < count {
+    let mut at = 4;
+    for _ in 0..count {
         if recipes.len() - at < 4 {
             return false;
         }
@@ -39,28 +41,23 @@ fn files_whole(recipes: &[u8], count: usize) -> bool
         if (recipes.len() - at - 4) / 20 < n {
             return false;
         }
-        at = at + 4 + 20 * n;
-        k += 1;
+        at += 4 + 20 * n;
     }
-    if at < recipes.len() {
-        return false;
-    }
-    true
+    at == recipes.len()
 }
 
 // The check of recipes.
-pub fn check(recipes: &[u8]) -> u8
-    ensures { result ≡ recipes_code recipes.now }
+#[tactic(auto, unfolding(spec::specs::Recipes::recipes_code))]
+pub fn check(recipes: &[u8]) -> Result<(), Refusal>
+    ensures { number result ≡ recipes_code recipes.now }
 {
     if recipes.len() < 4 {
-        return 14;
+        return Err(Refusal::RecipesWrong);
     }
     let count = count_at(recipes, 0);
-    if 65535 < count {
-        return 14;
+    if count <= 65535 && files_whole(recipes, count) {
+        Ok(())
+    } else {
+        Err(Refusal::RecipesWrong)
     }
-    if files_whole(recipes, count) {
-        return 0;
-    }
-    14
 }

@@ -10,44 +10,16 @@ use lib.Dec.{eqb, leb}
 use Rattle.spec.specs.Bytes.{le_bytes, splice}
 use Rattle.spec.specs.Form.{newest}
 use Rattle.spec.specs.Records.{kind_of}
-use Rattle.spec.proofs.Tests.{eqb-ne, leb-true, leb-false, and_left, and_right, bool_cases, le-or-lt}
+use Rattle.spec.proofs.Tests.{leb-true, leb-false, and_left, and_right, bool_cases, le-or-lt}
 use Rattle.spec.proofs.Fields.{length-le_bytes}
 use Rattle.spec.proofs.Splices.{splice-nil, sets-splice, splice-then}
 use Rattle.spec.proofs.RecordLaws.{le_of}
 use Rattle.records.specs.declared.Summary.{Summary}
-use Rattle.records.specs.Summaries.{empty_in, tiny_in, tiny_part, head_part, record_part, listed, Wrote}
+use Rattle.records.specs.Summaries.{empty_in, tiny_in, tiny_part, head_part, record_part, Wrote}
 
 -- ---- tests
 
 module _ (s : Summary) where
-  pub empty-prefix : (s.prefix ≡ 0 → ⊥) → false ≡ empty_in s
-  unfolding empty_in
-  empty-prefix h = rw (eqb-ne s.prefix 0 h)
-
-  pub empty-suffix : s.prefix ≡ 0 → (s.suffix ≡ 0 → ⊥) → false ≡ empty_in s
-  unfolding empty_in
-  empty-suffix p h = rw (p, eqb-ne s.suffix 0 h)
-
-  pub empty-count : s.prefix ≡ 0 → s.suffix ≡ 0 → eqb s.count 0 ≡ empty_in s
-  unfolding empty_in
-  empty-count p q = rw (p, q)
-
-  pub tiny-count : (n : ℕ) → (s.count ≡ 0 → ⊥) → false ≡ tiny_in newest n s
-  unfolding tiny_in
-  tiny-count n h = rw (eqb-ne s.count 0 h)
-
-  pub tiny-prefix : (n : ℕ) → s.count ≡ 0 → 1 < s.prefix → false ≡ tiny_in newest n s
-  unfolding tiny_in
-  tiny-prefix n c h = rw (c, leb-false s.prefix 1 h)
-
-  pub tiny-suffix : (n : ℕ) → s.count ≡ 0 → s.prefix ≤ 1 → 1 < s.suffix → false ≡ tiny_in newest n s
-  unfolding tiny_in
-  tiny-suffix n c p h = rw (c, leb-true s.prefix 1 p, leb-false s.suffix 1 h)
-
-  pub tiny-some : (n : ℕ) (b : Bool) → s.count ≡ 0 → s.prefix ≤ 1 → s.suffix ≤ 1 → b ≡ empty_in s → not b ≡ tiny_in newest n s
-  unfolding tiny_in
-  tiny-some n b c p q h = rw (h, c, leb-true s.prefix 1 p, leb-true s.suffix 1 q)
-
   -- a tiny summary's numbers
   pub tiny-prefix-most : (n : ℕ) → tiny_in newest n s ≡ true → s.prefix ≤ 1
   unfolding tiny_in
@@ -63,25 +35,6 @@ module _ (s : Summary) where
       let p : Bool = eqb s.count 0 && leb s.prefix 1 in
       let q : Bool = leb s.suffix 1 in
       le_of s.suffix 1 (and_right p q (and_left (p && q) (not (empty_in s)) t))
-
--- ---- kinds
-
-pub kind-one : (count : ℕ) → count ≤ 1 → 1 ≡ kind_of count
-kind-one count h = rw (leb-true count 1 h)
-
-pub kind-two : (count : ℕ) → 1 < count → count ≤ 254 → 2 ≡ kind_of count
-kind-two count l h = rw (leb-false count 1 l, leb-true count 254 h)
-
-pub kind-three : (count : ℕ) → 254 < count → 3 ≡ kind_of count
-kind-three count h = rw (leb-false count 1 (omega arith), leb-false count 254 h)
-
-pub listed-none : (count : ℕ) → count ≤ 1 → 0 ≡ listed count
-unfolding listed
-listed-none count h = rw (leb-true count 1 h)
-
-pub listed-all : (count : ℕ) → 1 < count → count ≡ listed count
-unfolding listed
-listed-all count h = rw (leb-false count 1 h)
 
 -- ---- the record's three forms
 
@@ -146,10 +99,6 @@ module _ (n k : ℕ) (s : Summary) where
   pub any_part : (m : ℕ) → record_part newest m k s ≡ record_part newest n k s
   unfolding record_part tiny_in
   any_part m = refl
-
-  pub any-tiny : (m : ℕ) → tiny_in newest m s ≡ tiny_in newest n s
-  unfolding tiny_in
-  any-tiny m = refl
 
 -- ---- stores into a buffer
 

@@ -21,7 +21,7 @@ use Rattle.keywords.specs.Parsed.{Reads}
 use Rattle.records.specs.Bodies.{found_at, list_of, Tells}
 use Rattle.logs.proofs.Tallying.{tally-counts, tally-firsts, tally-count, tally-first}
 use Rattle.logs.proofs.LogLaws.{logged-offsets, logged-prefix, logged-fits, logged_none, last-below}
-use Rattle.records.proofs.BodyLaws.{keywords-count, keywords-few, flag_is, within, slice, slice_is, slice-most, length-is, length_some, found_prefix}
+use Rattle.records.proofs.BodyLaws.{keywords-count, keywords-few, flag_is, within, slice, slice_is, slice-most, length-is, length_some}
 
 -- The list is read, the chunk is not longer than chunks are, the trie's arrays are its keywords', and its walk left this log and last node.
 pub record Sources (list : List ℕ) (words : Keywords) (chunk log ends tails : List ℕ) (last : ℕ) : Type 0 where
@@ -114,7 +114,3 @@ module _ (list : List ℕ) (words : Keywords) (chunk tails : List ℕ) (last : �
 
   pub tells-most : length (slice list words t.reads k h) ≤ 32
   tells-most = slice-most list words t.reads k h
-
-  -- a prefix is a byte
-  pub tells-prefix : get_or tails (last * 16 + k) 0 < 256
-  tells-prefix = omega (arith, t.prefix k h, found_prefix list words t.reads k h chunk)

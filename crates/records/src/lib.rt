@@ -24,16 +24,11 @@ struct Summary {
 }
 
 // The record is empty, so nothing is written of it but its set.
+#[tactic(auto, unfolding(crate::specs::Summaries::empty_in))]
 fn is_empty(s: Summary) -> bool
     ensures { result ≡ empty_in s }
 {
-    if s.prefix != 0 {
-        return false;
-    }
-    if s.suffix != 0 {
-        return false;
-    }
-    s.count == 0
+    s.prefix == 0 && s.suffix == 0 && s.count == 0
 }
 
 // The longest prefix or suffix of a tiny record, and what a suffix of length 1 adds to its byte.
@@ -42,19 +37,11 @@ const TINY_MOST: usize = 1;
 const TINY_STEP: usize = 2;
 
 // The record is tiny.
+#[tactic(auto, unfolding(crate::specs::Summaries::tiny_in))]
 fn is_tiny(s: Summary) -> bool
     ensures { (n : ℕ) → result ≡ tiny_in newest n s }
 {
-    if s.count != 0 {
-        return false;
-    }
-    if TINY_MOST < s.prefix {
-        return false;
-    }
-    if TINY_MOST < s.suffix {
-        return false;
-    }
-    !is_empty(s)
+    s.count == 0 && s.prefix <= TINY_MOST && s.suffix <= TINY_MOST && !is_empty(s)
 }
 
 // The most offsets of a record of kind 2; with more the exact count is written too, kind 3.
@@ -65,12 +52,12 @@ fn kind_of(count: usize) -> u8
     ensures { result ≡ kind_of count }
 {
     if count <= 1 {
-        return 1;
+        1
+    } else if count <= LISTED_MOST {
+        2
+    } else {
+        3
     }
-    if count <= LISTED_MOST {
-        return 2;
-    }
-    3
 }
 
 // The smaller number, worked out from the comparison as 0 or 1, without a branch.
@@ -107,25 +94,21 @@ fn record_size(s: Summary) -> usize
     ensures { (n k : ℕ) → result ≡ length (record_part newest n k s) }
 {
     if is_empty(s) {
-        return 0;
+        0
+    } else if is_tiny(s) {
+        TINY
+    } else if s.count <= LISTED_MOST {
+        HEAD
+    } else {
+        HEAD + offset_lists::WIDTH
     }
-    if is_tiny(s) {
-        return TINY;
-    }
-    if s.count <= LISTED_MOST {
-        return HEAD;
-    }
-    HEAD + offset_lists::WIDTH
 }
 
 // How many bytes the set has.
 fn set_size(set: u32) -> usize
     ensures { (k : ℕ) → result ≡ length (set_bytes k set) }
 {
-    if set == NO_STARTS {
-        return 0;
-    }
-    SET
+    if set == NO_STARTS { 0 } else { SET }
 }
 
 // How many bytes stand before the list of offsets, the set included: a record that has a set lists no offsets.
@@ -136,13 +119,11 @@ fn start_size(s: Summary) -> usize
 }
 
 // How many offsets are listed.
+#[tactic(auto, unfolding(crate::specs::Summaries::listed))]
 fn listed_of(count: usize) -> usize
     ensures { result ≡ listed count }
 {
-    if count <= 1 {
-        return 0;
-    }
-    count
+    if count <= 1 { 0 } else { count }
 }
 
 // ---- writing
@@ -236,20 +217,14 @@ fn summary_of(
     requires { Tells list.now words chunk.now tails.now last tally × (k < words.count) }
     ensures { result ≡ summary_of (found_at list.now chunk.now k) }
 {
-    let start = words.start;
-    let len = words.len;
-    let counts = tally.counts;
-    let firsts = tally.firsts;
-    let at = start[k];
-    let end = at + len[k];
-    let suffix = matcher::suffix_of(&list[at..end], chunk, words.flag);
-    let set = matcher::set_of(&list[at..end], chunk, words.flag);
+    let at = words.start[k];
+    let word = &list[at..at + words.len[k]];
     Summary {
         prefix: tails[last * TAILS + k] as usize,
-        suffix: suffix,
-        count: counts[k],
-        first: firsts[k],
-        set: set,
+        suffix: matcher::suffix_of(word, chunk, words.flag),
+        count: tally.counts[k],
+        first: tally.firsts[k],
+        set: matcher::set_of(word, chunk, words.flag),
     }
 }
 
@@ -265,13 +240,10 @@ pub fn body_size(
     requires { Tells list.now words chunk.now tails.now last tally }
     ensures { result ≡ length (scan_body newest list.now chunk.now) }
 {
-    let count = words.count;
-    let mut size: usize = 0;
-    let mut k: usize = 0;
-    while k < count {
+    let mut size = 0;
+    for k in 0..words.count {
         let s = summary_of(list, words, chunk, tails, last, tally, k);
         size += start_size(s) + offset_lists::WIDTH * listed_of(s.count);
-        k += 1;
     }
     size
 }
@@ -297,19 +269,13 @@ pub fn put_starts(
     ensures { (out.new ≡ patched words.count (place_of list.now chunk.now) (start_of list.now
         chunk.now) out.old) × (result ≡ started_of list.now chunk.now) }
 {
-    let count = words.count;
     let mut cursors = [0usize; 16];
-    let mut size: usize = 0;
-    let mut k: usize = 0;
-    while k < count {
+    let mut size = 0;
+    for k in 0..words.count {
         let s = summary_of(list, words, chunk, tails, last, tally, k);
         let end = size + put_start(&mut out[size..], k, s);
         cursors[k] = end;
         size = end + offset_lists::WIDTH * listed_of(s.count);
-        k += 1;
     }
-    Started {
-        size: size,
-        cursors: cursors,
-    }
+    Started { size, cursors }
 }

@@ -8,10 +8,9 @@ use native.Mathlib.Omega.{arith}
 use lib.ListN.{length}
 use lib.Dec.{ltb}
 use borrow.Author.Tests.{lt-ltb, le-ltb}
-use Rattle.spec.specs.declared.Outcome.{Outcome}
-use Rattle.spec.specs.declared.Outcome.TheVariants.{Done, Refused}
-use Rattle.spec.specs.declared.Scanned.{Scanned}
-use Rattle.spec.specs.declared.Scanned.TheVariants as scanned
+use Rattle.spec.specs.Outcome.{Outcome, Done, Refused}
+use Rattle.spec.specs.Scanned.{Scanned}
+use Rattle.spec.specs.Scanned as scanned
 use Rattle.spec.specs.Bytes.{largest32, splice}
 use Rattle.spec.specs.Form.{newest}
 use Rattle.spec.specs.Scan.{scan_index, scannable_code, scan_code, scan_outcome, with_moves, scan_answer, scan_buffer, size_outcome}
@@ -51,7 +50,8 @@ module _ (list store : List ℕ) where
       unfolding scan_answer scan_outcome scan_buffer
       refusal n p h = record {
         answered = ap scanned.Refused p
-            ∙ ap (λ (o : Outcome). with_moves o (scan_moves list store)) (answer-refused (scan_code newest list store (length before)) long (λ z. h (p ∙ z)));
+            ∙ ap (λ (o : Outcome). with_moves o (scan_moves list store))
+            (answer-refused (scan_code newest list store (length before)) long (λ z. h (p ∙ z)));
         bytes = buffer-refused (scan_code newest list store (length before)) (splice before 0 (scan_index newest list store)) before (λ z. h (p ∙ z));
       }
 
@@ -64,7 +64,8 @@ module _ (list store : List ℕ) where
       pub scan-large : (len : ℕ) → code ≡ 0 → len ≡ long → 4294967295 < len → Scans list store before before (scanned.Refused 9)
       scan-large len z n h = refusal 9 (code-nine z (rw (lt-ltb largest32 long (omega arith), or-true))) (omega arith)
 
-      pub scan-done : (len moves : ℕ) (after : List ℕ) → code ≡ 0 → len ≡ long → moves ≡ scan_moves list store → len ≤ length before → len ≤ 4294967295
+      pub scan-done : (len moves : ℕ) (after : List ℕ) → code ≡ 0 → len ≡ long → moves ≡ scan_moves list store
+          → len ≤ length before → len ≤ 4294967295
           → after ≡ splice before 0 (scan_index newest list store)
           → Scans list store before after (scanned.Done len moves)
       unfolding scan_answer scan_outcome scan_buffer

@@ -19,8 +19,8 @@ use Rattle.chunkwalk.proofs.Equipping.{equip}
 use Rattle.index_writer.specs.Layout.{Walks, CanMeasure, AllOdd}
 use Rattle.scan.proofs.Checks.{Passed}
 
-pub walks-read : {list : List ℕ} {words : Keywords} {store : List ℕ} {count : ℕ} → Passed list store → words ≡ parsed_of list → count ≡ chunk_count store
-    → Walks list words store count
+pub walks-read : {list : List ℕ} {words : Keywords} {store : List ℕ} {count : ℕ} → Passed list store
+    → words ≡ parsed_of list → count ≡ chunk_count store → Walks list words store count
 walks-read {list = list} p e c = record { reads = record { accepted = keyword-front list p.accepted; parsed = e }; checked = p.checked; counted = c }
 
 -- An array is as long as it was made, and stays so. For any length: one that is written out would be counted, by `omega` above all.

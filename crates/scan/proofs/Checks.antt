@@ -1,23 +1,21 @@
 -- The refusals of a scan before 9: the two checks, one after the other. Assumes nothing.
-use mathlib.Core.Path.{◌≡◌, sym, ap₂, ◌∙◌}
+use mathlib.Core.Path.{◌≡◌, sym, ◌∙◌}
+use mathlib.Core.Logic.{◌≢◌}
 use mathlib.Core.List.{List, [], ◌∷◌}
 use Prim.Native.Nat.{ℕ}
 use Rattle.spec.specs.Store.{store_code}
-use Rattle.spec.specs.Outcome.{first_number, first_code, whole}
+use Rattle.spec.specs.Outcome.{first_number, whole}
 use Rattle.spec.specs.Keywords.{keyword_code}
 use Rattle.spec.specs.Scan.{scannable_code}
 use Rattle.spec.proofs.Codes.{refused-whole, next-whole, last-whole, passed-whole}
 
-pub first-refused : (first second : ℕ) → (first ≡ 0 → ⊥) → first ≡ first_code (first ∷ second ∷ [])
-first-refused first second h = refused-whole first _ h
-
-pub second-asked : (first second : ℕ) → first ≡ 0 → second ≡ first_code (first ∷ second ∷ [])
-second-asked first second z = sym (next-whole first _ z ∙ last-whole second)
-
-pub both-asked : (list store : List ℕ) (listed stored code : ℕ) → listed ≡ keyword_code list → stored ≡ store_code store
-    → code ≡ first_code (listed ∷ stored ∷ []) → code ≡ scannable_code list store
+pub list-refused : (list store : List ℕ) (code : ℕ) → code ≡ keyword_code list → code ≢ 0 → code ≡ scannable_code list store
 unfolding scannable_code
-both-asked list store listed stored code e f c = c ∙ ap₂ {C = ℕ} (λ x y. first_code (x ∷ y ∷ [])) e f
+list-refused list store code e h = e ∙ refused-whole (keyword_code list) _ (λ z. h (e ∙ z))
+
+pub store-asked : (list store : List ℕ) (code : ℕ) → 0 ≡ keyword_code list → code ≡ store_code store → code ≡ scannable_code list store
+unfolding scannable_code
+store-asked list store code z e = e ∙ sym (next-whole (keyword_code list) _ (sym z) ∙ last-whole (store_code store))
 
 pub record Passed (list store : List ℕ) : Type 0 where
   pub accepted : keyword_code list ≡ 0

@@ -51,8 +51,8 @@ module _ {list : List ℕ} {words : Keywords} {store : List ℕ} {count : ℕ} (
 
   -- the comparison, by the way taken
   module _ (most room : ℕ) (e : most ≡ most_bytes list store) where
-    pub fits_not : room < most → false ≡ (leb (most_bytes list store) room && leb (most_bytes list store) 4294967295)
-    fits_not h = sym (rw (← e, lt-leb most room h))
+    pub fits_not : room < most → leb most room ≡ (leb (most_bytes list store) room && leb (most_bytes list store) 4294967295)
+    fits_not h = rw (← e, lt-leb most room h)
 
     pub fits-so : most ≤ room → leb most 4294967295 ≡ (leb (most_bytes list store) room && leb (most_bytes list store) 4294967295)
     fits-so h = sym (rw (← e, le-leb most room h))
@@ -79,9 +79,6 @@ module _ {list : List ℕ} {words : Keywords} {store : List ℕ} {count : ℕ} (
 
     pub len_is : 8 + length list + 32 * count + size ≡ length (scan_index newest list store)
     len_is = omega (arith, e, w.counted, index-length list store w.checked)
-
-  pub front_fits : length list * 1 < 9223372036854775808 → Fits w64 (8 + length list)
-  front_fits short = omega arith
 
   pub entries_fit : Fits w64 (32 * count)
   entries_fit = omega (arith, count-few)

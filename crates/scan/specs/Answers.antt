@@ -1,6 +1,6 @@
 -- The bound by which a scan writes at once, and what the scan's inner functions promise.
 use Rattle.std.specs.Prelude.{◌≡◌, List, ℕ, ◌+◌, ◌*◌, length}
-use Rattle.spec.specs.declared.Scanned.{Scanned}
+use Rattle.spec.specs.Scanned.{Scanned}
 use Rattle.spec.specs.Keywords.{count_of}
 use Rattle.spec.specs.Store.{chunk_count}
 use Rattle.spec.specs.Form.{newest}

@@ -4,49 +4,38 @@
 // at most 65,536 bytes once and a longer one twice.
 #![tactic(auto)]
 
-ghost use Rattle.std.specs.Prelude.{◌≡◌, ◌&&◌, [], ◌∷◌, ◌+◌, ◌*◌, length, leb};
-ghost use Rattle.spec.specs.Outcome.{first_code};
+ghost use Rattle.std.specs.Prelude.{◌≡◌, ◌&&◌, ◌+◌, ◌*◌, length, leb};
 ghost use Rattle.spec.specs.Form.{newest};
 ghost use Rattle.spec.specs.Scan.{scannable_code, size_outcome, scan_answer, scan_buffer};
+ghost use Rattle.spec.specs.Refusal.{number, outcome_of};
+ghost use Rattle.spec.specs.Scanned.{scanned_of};
 ghost use Rattle.directory.specs.Chains.{Empty};
 ghost use Rattle.index_writer.specs.Layout.{Walks, AllOdd, CanMeasure};
 ghost use Rattle.scan.specs.Answers.{most_bytes, Scans};
 
+use spec::{Refusal, ScanDone};
+
 // The largest number of 32 bits: offsets in an index have 32.
 const LARGEST: usize = 4294967295;
 
-// The first of two checks' numbers that is not 0.
-fn first_code(first: u8, second: u8) -> u8
-    ensures { result ≡ first_code (first ∷ second ∷ []) }
-{
-    if first != 0 {
-        return first;
-    }
-    second
-}
-
 // The refusals before 9: the keyword check, then the store check, whose chains of the fingerprints go where the table goes later: so the stack
 // holds one of the two.
-fn scannable(list: &[u8], store: &[u8], chains: &mut [u32]) -> u8
+fn scannable(list: &[u8], store: &[u8], chains: &mut [u32]) -> Result<(), Refusal>
     requires { Empty chains.old }
-    ensures { result ≡ scannable_code list.now store.now }
+    ensures { number result ≡ scannable_code list.now store.now }
 {
-    let listed = keywords::check(list);
-    let stored = store::examine(store, chains);
-    first_code(listed, stored)
+    keywords::check(list)?;
+    store::examine(store, chains)
 }
 
 // ---- the size
 
 // The length of the index that a scan would write, whatever the buffer, or the refusal.
-pub fn size(list: &[u8], store: &[u8]) -> spec::Outcome
-    ensures { result ≡ size_outcome newest list.now store.now }
+pub fn size(list: &[u8], store: &[u8]) -> Result<usize, Refusal>
+    ensures { outcome_of result ≡ size_outcome newest list.now store.now }
 {
     let mut table = [0u32; 131328];
-    let code = scannable(list, store, &mut table);
-    if code != 0 {
-        return spec::Outcome::Refused(code);
-    }
+    scannable(list, store, &mut table)?;
     let words = keywords::parse(list);
     let count = store::chunk_count(store);
     let mut ends = [0u32; 513];
@@ -57,12 +46,18 @@ pub fn size(list: &[u8], store: &[u8]) -> spec::Outcome
     let mut run3 = [0u32; 16384];
     let mut marks = [0u32; 65000];
     automaton_table::build(list, words, &mut table, &mut ends, &mut tails);
+    let machine = windows::Machine {
+        list,
+        words,
+        table: &table,
+        ends: &ends,
+        tails: &tails,
+    };
     let bodies = index_writer::measure_bodies(
-        list, words, store, count, &table, &ends, &tails, &mut log, &mut run1, &mut run2,
-        &mut run3, &mut marks,
+        &machine, store, count, &mut log, &mut run1, &mut run2, &mut run3, &mut marks,
     );
     let whole = 8 + list.len() + 32 * count + bodies.size;
-    spec::Outcome::Done(whole)
+    Ok(whole)
 }
 
 // ---- the scan
@@ -84,89 +79,78 @@ fn always_fits(
         return false;
     }
     let most = 8 + list.len() + 32 * count + words.count * (17 * count + 3 * store.len());
-    if room < most {
-        return false;
-    }
-    most <= LARGEST
+    most <= room && most <= LARGEST
 }
 
 // Measures the index and writes it where there is room: the answer of a scan whose checks found nothing.
 fn measured(
     out: &mut [u8],
-    list: &[u8],
-    words: keywords::Keywords,
+    machine: &windows::Machine,
     store: &[u8],
     count: usize,
-    table: &[u32],
-    ends: &[u32],
-    tails: &[u8],
     log: &mut [u32],
     run1: &mut [u32],
     run2: &mut [u32],
     run3: &mut [u32],
     marks: &mut [u32],
-) -> spec::Scanned
-    requires { CanMeasure list.now words store.now count table.now ends.now tails.now log.old run1.old run2.old run3.old marks.old
-        × (scannable_code list.now store.now ≡ 0) }
-    ensures { Scans list.now store.now out.old out.new result }
+) -> Result<ScanDone, Refusal>
+    requires { CanMeasure machine.now.list.now machine.now.words store.now count machine.now.table.now machine.now.ends.now
+        machine.now.tails.now log.old run1.old run2.old run3.old marks.old
+        × (scannable_code machine.now.list.now store.now ≡ 0) }
+    ensures { Scans machine.now.list.now store.now out.old out.new (scanned_of result) }
 {
-    let bodies = index_writer::measure_bodies(
-        list, words, store, count, table, ends, tails, log, run1, run2, run3, marks,
-    );
-    let len = 8 + list.len() + 32 * count + bodies.size;
+    let bodies = index_writer::measure_bodies(machine, store, count, log, run1, run2, run3, marks);
+    let len = 8 + machine.list.len() + 32 * count + bodies.size;
     if out.len() < len {
-        return spec::Scanned::Refused(9);
+        return Err(Refusal::OutputTooLong);
     }
     if LARGEST < len {
-        return spec::Scanned::Refused(9);
+        return Err(Refusal::OutputTooLong);
     }
-    index_writer::put_index(
-        out, list, words, store, count, table, ends, tails, log, run1, run2, run3, marks,
-    );
-    spec::Scanned::Done(len, bodies.moves)
+    index_writer::put_index(out, machine, store, count, log, run1, run2, run3, marks);
+    Ok(ScanDone {
+        size: len,
+        moves: bodies.moves,
+    })
 }
 
 // Writes the index at once where it fits whatever the chunks hold; else it is measured first. Every mark is odd.
 fn scanned(
     out: &mut [u8],
-    list: &[u8],
-    words: keywords::Keywords,
+    machine: &windows::Machine,
     store: &[u8],
     count: usize,
-    table: &[u32],
-    ends: &[u32],
-    tails: &[u8],
     log: &mut [u32],
     run1: &mut [u32],
     run2: &mut [u32],
     run3: &mut [u32],
     marks: &mut [u32],
-) -> spec::Scanned
-    requires { CanMeasure list.now words store.now count table.now ends.now tails.now log.old run1.old run2.old run3.old marks.old
-        × AllOdd marks.old × (scannable_code list.now store.now ≡ 0) }
-    ensures { Scans list.now store.now out.old out.new result }
+) -> Result<ScanDone, Refusal>
+    requires { CanMeasure machine.now.list.now machine.now.words store.now count machine.now.table.now machine.now.ends.now
+        machine.now.tails.now log.old run1.old run2.old run3.old marks.old
+        × AllOdd marks.old × (scannable_code machine.now.list.now store.now ≡ 0) }
+    ensures { Scans machine.now.list.now store.now out.old out.new (scanned_of result) }
 {
-    if always_fits(list, words, store, count, out.len()) {
+    if always_fits(machine.list, machine.words, store, count, out.len()) {
         let once = index_writer::put_index(
-            out, list, words, store, count, table, ends, tails, log, run1, run2, run3, marks,
+            out, machine, store, count, log, run1, run2, run3, marks,
         );
-        return spec::Scanned::Done(once.size, once.moves);
+        Ok(ScanDone {
+            size: once.size,
+            moves: once.moves,
+        })
+    } else {
+        measured(out, machine, store, count, log, run1, run2, run3, marks)
     }
-    measured(
-        out, list, words, store, count, table, ends, tails, log, run1, run2, run3, marks,
-    )
 }
 
 // The scan: the index's length and the moves, or the refusal, which changes no byte of the buffer.
-pub fn scan(list: &[u8], store: &[u8], out: &mut [u8]) -> spec::Scanned
-    ensures { (result ≡ scan_answer newest list.now store.now (length out.old))
+pub fn scan(list: &[u8], store: &[u8], out: &mut [u8]) -> Result<ScanDone, Refusal>
+    ensures { (scanned_of result ≡ scan_answer newest list.now store.now (length out.old))
         × (out.new ≡ scan_buffer newest list.now store.now out.old) }
 {
     let mut table = [0u32; 131328];
-    let code = scannable(list, store, &mut table);
-    if code != 0 {
-        return spec::Scanned::Refused(code);
-    }
+    scannable(list, store, &mut table)?;
     let words = keywords::parse(list);
     let count = store::chunk_count(store);
     let mut ends = [0u32; 513];
@@ -177,8 +161,14 @@ pub fn scan(list: &[u8], store: &[u8], out: &mut [u8]) -> spec::Scanned
     let mut run3 = [0u32; 16384];
     let mut marks = [1u32; 65000];
     automaton_table::build(list, words, &mut table, &mut ends, &mut tails);
+    let machine = windows::Machine {
+        list,
+        words,
+        table: &table,
+        ends: &ends,
+        tails: &tails,
+    };
     scanned(
-        out, list, words, store, count, &table, &ends, &tails, &mut log, &mut run1, &mut run2,
-        &mut run3, &mut marks,
+        out, &machine, store, count, &mut log, &mut run1, &mut run2, &mut run3, &mut marks,
     )
 }

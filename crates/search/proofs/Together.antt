@@ -5,11 +5,9 @@ use mathlib.Core.List.{List}
 use Prim.Native.Nat.{ℕ, ◌≤◌}
 use native.Mathlib.Omega.{arith}
 use lib.ListN.{length, take, length-take}
-use Rattle.spec.specs.declared.Outcome.{Outcome}
-use Rattle.spec.specs.declared.Outcome.TheVariants.{Done, Refused}
-use Rattle.spec.specs.declared.Scanned.TheVariants as Scanned
-use Rattle.spec.specs.declared.Searched.{Searched}
-use Rattle.spec.specs.declared.Searched.TheVariants.{ScanRefused}
+use Rattle.spec.specs.Outcome.{Outcome, Done, Refused}
+use Rattle.spec.specs.Scanned as Scanned
+use Rattle.spec.specs.Searched.{Searched, ScanRefused}
 use Rattle.spec.specs.Form.{newest, form_of}
 use Rattle.spec.specs.Join.{Clients, join_outcome, join_buffer, join_tally}
 use Rattle.spec.specs.Scan.{scan_answer, scan_buffer}

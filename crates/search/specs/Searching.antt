@@ -1,9 +1,7 @@
 -- What the second half of a search promises: a join, with its answer as a search's.
 use Rattle.std.specs.Prelude.{◌≡◌, List, ℕ, length}
-use Rattle.spec.specs.declared.Outcome.{Outcome}
-use Rattle.spec.specs.declared.Outcome.TheVariants.{Done, Refused}
-use Rattle.spec.specs.declared.Searched.{Searched}
-use Rattle.spec.specs.declared.Searched.TheVariants.{JoinRefused, Found}
+use Rattle.spec.specs.Outcome.{Outcome, Done, Refused}
+use Rattle.spec.specs.Searched.{Searched, JoinRefused, Found}
 use Rattle.spec.specs.Form.{form_of}
 use Rattle.spec.specs.Join.{Clients, join_outcome, join_buffer, join_tally}
 

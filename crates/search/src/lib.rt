@@ -6,34 +6,34 @@ ghost use Rattle.std.specs.Prelude.{◌≡◌, length};
 ghost use Rattle.spec.specs.Form.{newest};
 ghost use Rattle.spec.specs.Scan.{scan_buffer};
 ghost use Rattle.spec.specs.Join.{counts_of, lent};
+ghost use Rattle.spec.specs.Searched.{searched_of};
 ghost use Rattle.spec.specs.Search.{search_outcome, search_buffer, search_tally};
 ghost use Rattle.search.specs.Searching.{Joins};
 
-use spec::{Outcome, Scanned, Searched};
+use spec::{SearchDone, SearchRefusal};
 
 // The answer of a search, and the tally after it.
 #[derive(Drop)]
 pub struct Answer {
-    pub searched: Searched,
+    pub searched: Result<SearchDone, SearchRefusal>,
     pub tally: spec::Tally,
 }
 
 // A join, with its answer as a search's.
 fn joined(index: &[u8], recipes: &[u8], key: &[u8], out: &mut [u8], before: spec::Tally) -> Answer
-    ensures { Joins index.now recipes.now (lent key.now before) out.old out.new result.searched (counts_of result.tally) }
+    ensures { Joins index.now recipes.now (lent key.now before) out.old out.new (searched_of result.searched) (counts_of result.tally) }
 {
-    let n = index.len();
+    let size = index.len();
     let j = join::tallied(index, recipes, key, out, before);
-    let outcome = j.outcome;
     let tally = j.tally;
-    match outcome {
-        Outcome::Refused(code) => Answer {
-            searched: Searched::JoinRefused(n, code),
-            tally: tally,
+    match j.outcome {
+        Err(refusal) => Answer {
+            searched: Err(SearchRefusal::Join(size, refusal)),
+            tally,
         },
-        Outcome::Done(count) => Answer {
-            searched: Searched::Found(n, count),
-            tally: tally,
+        Ok(count) => Answer {
+            searched: Ok(SearchDone { size, count }),
+            tally,
         },
     }
 }
@@ -49,16 +49,16 @@ pub fn search(
     out: &mut [u8],
     before: spec::Tally,
 ) -> Answer
-    ensures { (result.searched ≡ search_outcome newest list.now store.now recipes.now (lent key.now before) (length index.old) (length out.old))
+    ensures { (searched_of result.searched ≡ search_outcome newest list.now store.now recipes.now (lent key.now before) (length index.old) (length out.old))
         × (index.new ≡ scan_buffer newest list.now store.now index.old)
         × (out.new ≡ search_buffer newest list.now store.now recipes.now (lent key.now before) (length index.old) out.old)
         × (counts_of result.tally ≡ search_tally newest list.now store.now recipes.now (lent key.now before) (length index.old) (length out.old)) }
 {
     match scan::scan(list, store, index) {
-        Scanned::Refused(code) => Answer {
-            searched: Searched::ScanRefused(code),
+        Err(refusal) => Answer {
+            searched: Err(SearchRefusal::Scan(refusal)),
             tally: before,
         },
-        Scanned::Done(n, _) => joined(&index[..n], recipes, key, out, before),
+        Ok(done) => joined(&index[..done.size], recipes, key, out, before),
     }
 }

@@ -50,9 +50,9 @@ module _ (tables : List (List (List ℕ))) (k i : ℕ) where
   unfolding some_cell
   joined-none s = none-empty s
 
-  pub joined-on : (set j : ℕ) → Joined set j → Joined (bit_or set (cell_at tables k i j)) (j + 1)
+  pub joined-on : (set j next : ℕ) → Joined set j → next ≡ bit_or set (cell_at tables k i j) → Joined next (j + 1)
   unfolding some_cell
-  joined-on set j h s = rw add-one (in-or set (cell_at tables k i j) s ∙ ap (λ (b : Bool). b || in_set (cell_at tables k i j) s) (h s))
+  joined-on set j next h e s = rw (e, add-one) (in-or set (cell_at tables k i j) s ∙ ap (λ (b : Bool). b || in_set (cell_at tables k i j) s) (h s))
 
-  pub joined-all : (set : ℕ) → set < 2 ^ 32 → Joined set 32 → set ≡ set_of (λ s. some_cell tables k i s 32) 32
-  joined-all set l h = word-is (λ s. some_cell tables k i s 32) set 32 l (λ s m. h s)
+  pub joined-all : (set j : ℕ) → set < 2 ^ 32 → j ≡ 32 → Joined set j → set ≡ set_of (λ s. some_cell tables k i s 32) 32
+  joined-all set j l e h = word-is (λ s. some_cell tables k i s 32) set 32 l (λ s m. rw (← e) (h s))

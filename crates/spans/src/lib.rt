@@ -12,10 +12,7 @@ ghost use Rattle.spans.specs.Spans.{some_cell};
 fn has(set: u32, s: usize) -> bool
     ensures { result ≡ in_set set s }
 {
-    if 32 <= s {
-        return false;
-    }
-    (set >> s) % 2 == 1
+    s < 32 && (set >> s) % 2 == 1
 }
 
 // The numbers that one of two sets has.
@@ -30,11 +27,9 @@ pub fn starts_of(tables: &[[[u32; 32]; 32]; 16], k: usize, i: usize) -> u32
     requires { (k < 16) × (i < 32) }
     ensures { result ≡ set_of (λ s. some_cell tables.now k i s 32) 32 }
 {
-    let mut set: u32 = 0;
-    let mut j: usize = 0;
-    while j < 32 {
-        set = either(set, tables[k][i][j]);
-        j += 1;
+    let mut set = 0;
+    for &cell in &tables[k][i] {
+        set = either(set, cell);
     }
     set
 }
@@ -44,13 +39,11 @@ pub fn ends_of(tables: &[[[u32; 32]; 32]; 16], k: usize, j: usize) -> u32
     requires { (k < 16) × (j < 32) }
     ensures { result ≡ set_of (λ p. in_set (cell_at tables.now k p j) 0) 32 }
 {
-    let mut set: u32 = 0;
-    let mut p: usize = 0;
-    while p < 32 {
+    let mut set = 0;
+    for p in 0..32 {
         if has(tables[k][p][j], 0) {
             set += 1 << p;
         }
-        p += 1;
     }
     set
 }
@@ -60,10 +53,7 @@ fn goes(set: u32, live: u32, i: usize, gone: usize, s: usize) -> bool
     requires { (s < i) × (i ≤ 32) × (gone < 2 ^ 32) }
     ensures { result ≡ (in_set live s && in_set set (i - s + gone)) }
 {
-    if has(live, s) {
-        return has(set, i - s + gone);
-    }
-    false
+    has(live, s) && has(set, i - s + gone)
 }
 
 // Those of the starts `live` whose next byte is in the set: the keyword's first i - s bytes and `gone` more lie before it.
@@ -71,13 +61,11 @@ pub fn going(set: u32, live: u32, i: usize, gone: usize) -> u32
     requires { (i ≤ 32) × (gone < 2 ^ 32) }
     ensures { result ≡ set_of (λ s. in_set live s && in_set set (i - s + gone)) i }
 {
-    let mut kept: u32 = 0;
-    let mut s: usize = 0;
-    while s < i {
+    let mut kept = 0;
+    for s in 0..i {
         if goes(set, live, i, gone, s) {
             kept += 1 << s;
         }
-        s += 1;
     }
     kept
 }

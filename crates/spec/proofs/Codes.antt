@@ -8,8 +8,7 @@ use Prim.Native.Nat.{ℕ, zero, suc, ◌<◌}
 use native.Mathlib.Omega.{arith}
 use lib.Dec.{ltb}
 use borrow.Author.Tests.{ne_eqb, lt-ltb}
-use Rattle.spec.specs.declared.Outcome.TheVariants.{Done, Refused}
-use Rattle.spec.specs.Outcome.{first_number, whole, first_code, answer, unless_refused}
+use Rattle.spec.specs.Outcome.{Done, Refused, first_number, whole, first_code, answer, unless_refused}
 
 -- ---- a chain of 0: the first test is false, and so on
 

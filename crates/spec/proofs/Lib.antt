@@ -16,6 +16,7 @@ pub mod Point
 pub mod Crossing
 pub mod Stream
 pub mod Codes
+pub mod Refusals
 pub mod JoinIsSearch
 pub mod EntryLaws
 pub mod KnownBytes

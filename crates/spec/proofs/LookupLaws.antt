@@ -8,9 +8,8 @@ use native.Mathlib.Omega.{arith}
 use borrow.Author.Tests.{eq-eqb, ne_eqb, eqb-true, eqb-false, lt-ltb, le-ltb, ltb-true, not-false}
 use lib.Dec.{eqb}
 use lib.ListN.{length}
-use Rattle.spec.specs.declared.Outcome.TheVariants.{Done, Refused}
+use Rattle.spec.specs.Outcome.{Done, Refused, answer}
 use Rattle.spec.specs.Bytes.{contains, position_of}
-use Rattle.spec.specs.Outcome.{answer}
 use Rattle.spec.specs.Directory.{Layout, offset_at, length_at}
 use Rattle.spec.specs.Lookup.{lookup_code, lookup_start, lookup_length}
 use Rattle.spec.proofs.Codes.{passed, passed-whole, refused-whole, answer-done, answer-refused}

@@ -1,8 +1,7 @@
 -- Compaction: request #107. From a store and recipes, a store without holes that has exactly the chunks that some recipe names, in their old order.
 use Rattle.std.specs.Prelude.{not, cond, List, [], ◌∷◌, ℕ, length, ltb}
-use Rattle.spec.specs.declared.Outcome.{Outcome}
+use Rattle.spec.specs.Outcome.{Outcome, first_number, whole, answer, unless_refused, not_found, store_too_long}
 use Rattle.spec.specs.Bytes.{written, contains, every, joined}
-use Rattle.spec.specs.Outcome.{first_number, whole, answer, unless_refused, not_found, store_too_long}
 use Rattle.spec.specs.Store.{Chunk, store_bytes, store_keys, stored_chunks, store_code}
 use Rattle.spec.specs.Recipes.{files_of, recipes_code}
 

@@ -1,9 +1,8 @@
 -- The join in two parts: request #111. The first, the recipe check, is `joinable_code`; here is the second, the listing of a file by its number. It is said of
 -- `many` files from number `first` on, whose lists stand one after the other: with `many` = 1 it is the request's one file.
 use Rattle.std.specs.Prelude.{List, [], ◌∷◌, ℕ, ◌+◌, ◌*◌, length, get_or, ltb}
-use Rattle.spec.specs.declared.Outcome.{Outcome}
+use Rattle.spec.specs.Outcome.{Outcome, first_number, whole, answer, unless_refused, list_too_long, file_number_wrong}
 use Rattle.spec.specs.Bytes.{written, each}
-use Rattle.spec.specs.Outcome.{first_number, whole, answer, unless_refused, list_too_long, file_number_wrong}
 use Rattle.spec.specs.Keywords.{folded_keywords}
 use Rattle.spec.specs.Form.{Form}
 use Rattle.spec.specs.Index.{list_in}

@@ -1,9 +1,8 @@
 -- The join: document 01, "Joining two notes" and "Recipes and the join". It is defined on any records, also those that no chunk gives.
 use Rattle.std.specs.Prelude.{Bool, false, ◌&&◌, ◌||◌, not, cond, List, [], ◌∷◌, ◌++◌, map, ℕ, zero, suc, ◌+◌, ◌*◌, ◌-◌, ◌^◌, length, replicate, drop, get_or, take, eqb, leb, ltb}
-use Rattle.spec.specs.declared.Outcome.{Outcome}
+use Rattle.spec.specs.Outcome.{Outcome, first_number, whole, answer, unless_refused, list_too_long, key_wrong, count_too_large}
 use Rattle.spec.specs.declared.Tally.{Tally}
 use Rattle.spec.specs.Bytes.{le_bytes, field_at, written, position_of, each, keep, member, begins, every, in_set}
-use Rattle.spec.specs.Outcome.{first_number, whole, answer, unless_refused, list_too_long, key_wrong, count_too_large}
 use Rattle.spec.specs.Keywords.{folded_keywords, keywords_of, longest}
 use Rattle.spec.specs.Directory.{size_at}
 use Rattle.spec.specs.Form.{Form}

@@ -1,6 +1,9 @@
 pub mod Bytes
 pub mod Form
 pub mod Outcome
+pub mod Refusal
+pub mod Scanned
+pub mod Searched
 pub mod Keywords
 pub mod Directory
 pub mod Store

@@ -1,7 +1,5 @@
 -- Answers: the numbers of document 01's section "Refusals by operation", each under a name, and how an operation's tests give its answer.
 use Rattle.std.specs.Prelude.{Bool, cond, List, [], ◌∷◌, map, ℕ, eqb, ltb}
-use Rattle.spec.specs.declared.Outcome.{Outcome}
-use Rattle.spec.specs.declared.Outcome.TheVariants.{Done, Refused}
 
 -- The keyword list is cut short, or bytes are left over.
 abbrev pub keywords_cut : ℕ
@@ -123,6 +121,11 @@ abbrev pub first_code : List ℕ → ℕ
 first_code codes = first_number (map whole codes)
 
 -- ---- the answer
+
+-- An answer, in document 01's numbers: the length or count of work done, or the number that refuses it.
+pub data Outcome : Type 0 where
+  Done : (value : ℕ) → Outcome
+  Refused : (code : ℕ) → Outcome
 
 -- The number of an answer: 0 for work done.
 abbrev pub code_of : Outcome → ℕ

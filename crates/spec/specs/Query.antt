@@ -1,8 +1,7 @@
 -- Queries: request #109, "Several words in order". A query is 2 to 8 keyword numbers of one byte each, repeats allowed.
 use Rattle.std.specs.Prelude.{◌≡◌, Bool, true, false, ◌&&◌, ◌||◌, not, cond, List, [], ◌∷◌, ◌++◌, map, ℕ, zero, suc, ◌+◌, ◌*◌, length, drop, get_or, eqb, leb, ltb}
-use Rattle.spec.specs.declared.Outcome.{Outcome}
+use Rattle.spec.specs.Outcome.{Outcome, first_number, whole, answer, unless_refused, list_too_long, query_wrong}
 use Rattle.spec.specs.Bytes.{le_bytes, field_at, fields_of, fields_bytes, written, keep, every}
-use Rattle.spec.specs.Outcome.{first_number, whole, answer, unless_refused, list_too_long, query_wrong}
 use Rattle.spec.specs.Keywords.{folded_keywords}
 use Rattle.spec.specs.Form.{Form}
 use Rattle.spec.specs.Records.{ChunkRecords}

@@ -1,11 +1,9 @@
 -- The scan: it writes the index of a store, chunk by chunk (document 01, "Notes file" and "Refusals by operation").
 use Rattle.std.specs.Prelude.{◌||◌, List, [], ◌∷◌, map, ℕ, length, get_or, ltb}
-use Rattle.spec.specs.declared.Outcome.{Outcome}
-use Rattle.spec.specs.declared.Outcome.TheVariants as outcome
-use Rattle.spec.specs.declared.Scanned.{Scanned}
-use Rattle.spec.specs.declared.Scanned.TheVariants.{Done, Refused}
+use Rattle.spec.specs.Outcome.{Outcome, first_number, whole, answer, unless_refused, index_too_long}
+use Rattle.spec.specs.Outcome as outcome
+use Rattle.spec.specs.Scanned.{Scanned, Done, Refused}
 use Rattle.spec.specs.Bytes.{largest32, written, each}
-use Rattle.spec.specs.Outcome.{first_number, whole, answer, unless_refused, index_too_long}
 use Rattle.spec.specs.Keywords.{flag_of, folded, folded_keywords, keyword_code}
 use Rattle.spec.specs.Directory.{size_at}
 use Rattle.spec.specs.Store.{store_layout, chunk_count, store_keys, chunk_at, store_code}

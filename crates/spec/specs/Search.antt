@@ -1,7 +1,6 @@
 -- The search: what a scan and a join of its index answer together, said by the restored files alone (demand 3).
 use Rattle.std.specs.Prelude.{cond, List, [], ◌∷◌, ◌++◌, map, ℕ, suc, ◌*◌, length, eqb, ltb}
-use Rattle.spec.specs.declared.Searched.{Searched}
-use Rattle.spec.specs.declared.Searched.TheVariants.{ScanRefused, JoinRefused, Found}
+use Rattle.spec.specs.Searched.{Searched, ScanRefused, JoinRefused, Found}
 use Rattle.spec.specs.Bytes.{written, position_of, occurs_at, each, joined}
 use Rattle.spec.specs.Outcome.{first_number, whole, unless_refused, list_too_long}
 use Rattle.spec.specs.Keywords.{flag_of, folded, keywords_of, folded_keywords}

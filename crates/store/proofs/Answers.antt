@@ -1,7 +1,7 @@
 -- The answers of the store check and of a lookup, each by the tests that led there. Assumes nothing.
-use mathlib.Core.Path.{◌≡◌, sym, ap, ap₂, ◌∙◌}
+use mathlib.Core.Path.{◌≡◌, refl, sym, ap, ap₂, ◌∙◌}
 use mathlib.Core.Logic.{◌≢◌}
-use mathlib.Core.Bool.{Bool, true, false, cond, ◌||◌}
+use mathlib.Core.Bool.{Bool, true, false, cond, ◌||◌, ◌&&◌}
 use mathlib.Core.List.{List, [], ◌∷◌}
 use Prim.Native.Nat.{ℕ, zero, suc, ◌+◌, ◌*◌, ◌-◌, ◌≤◌, ◌<◌}
 use native.Mathlib.Nat.{add-sub_cancel_left}
@@ -9,6 +9,9 @@ use native.Mathlib.Omega.{arith}
 use borrow.Author.Tests.{ne_eqb, lt-ltb, le-ltb}
 use lib.Dec.{eqb, ltb}
 use lib.ListN.{length, get_or, take, drop}
+use Rattle.std.proofs.lemmas.Bool.Decides.{nat_tests}
+use Rattle.std.specs.Cmp.Lexicographic.{pointwise}
+use Rattle.std.specs.List.{starts_with}
 use Rattle.spec.specs.Bytes.{largest32, part, same, twice, position_of, written}
 use Rattle.spec.specs.Outcome.{first_number, whole}
 use Rattle.spec.specs.Directory.{size_at, offset_at, length_at}
@@ -58,6 +61,18 @@ refused-early store chains code e p q = (e, rw (← e, ne_eqb code 0 p, ne_eqb c
 pub short : (store : List ℕ) → length store < 8 → 5 ≡ store_code store
 unfolding store_code
 short store a = rw (lt-ltb (length store) 8 a)
+
+same_pointwise : (xs ys : List ℕ) → pointwise eqb ys xs ≡ same xs ys
+same_pointwise [] [] = refl
+same_pointwise [] (y ∷ ys) = refl
+same_pointwise (x ∷ xs) [] = refl
+same_pointwise (x ∷ xs) (y ∷ ys) = ap₂ {C = Bool} (λ a b. a && b) (turned y x) (same_pointwise xs ys)
+  where
+    turned : (a b : ℕ) → eqb a b ≡ eqb b a
+    turned a b = grind (arith, nat_tests)
+
+pub starts-same : (store mark : List ℕ) → starts_with eqb store mark ≡ same (take (length mark) store) mark
+starts-same store mark = same_pointwise (take (length mark) store) mark
 
 pub unmarked : (store : List ℕ) → 8 ≤ length store → same (take 4 store) store_mark ≡ false → 5 ≡ store_code store
 unfolding store_code

@@ -1,25 +1,20 @@
 // Stores: their check (of the entries: store_entries), the lookup of a chunk by its fingerprint, and their entries one by one. Document 01, "Store" and "The two lookups".
 #![tactic(auto)]
 
-ghost use Rattle.std.specs.Prelude.{◌≡◌, ◌+◌, ◌*◌, ◌≤◌, [], length, get_or, take};
-ghost use Rattle.spec.specs.Bytes.{same, position_of};
+ghost use Rattle.std.specs.Prelude.{◌≡◌, ◌+◌, ◌*◌, ◌≤◌, [], length, get_or};
+ghost use Rattle.spec.specs.Bytes.{position_of};
 ghost use Rattle.spec.specs.Outcome.{answer};
 ghost use Rattle.spec.specs.Directory.{entry_field, offset_at};
-ghost use Rattle.spec.specs.Store.{store_mark, store_layout, store_keys, store_code, chunk_count, chunk_at};
+ghost use Rattle.spec.specs.Store.{store_layout, store_keys, store_code, chunk_count, chunk_at};
 ghost use Rattle.spec.specs.Lookup.{find_chunk, chunk_start, chunk_length, chunk_of};
+ghost use Rattle.spec.specs.Refusal.{number, outcome_of};
 ghost use Rattle.directory.specs.Chains.{Empty};
 ghost use Rattle.store.specs.Examined.{examined_chains, StoreEntry, Findable};
 
+use spec::Refusal;
+
 // 44 56 31 0A
 const MARK: [u8; 4] = [0x44, 0x56, 0x31, 0x0A];
-
-// The first four bytes are the mark.
-fn marked(store: &[u8]) -> bool
-    requires { 4 ≤ length store.now }
-    ensures { result ≡ same (take 4 store.now) store_mark }
-{
-    field::equal(&store[..4], &MARK)
-}
 
 // The chunk count.
 pub fn chunk_count(store: &[u8]) -> usize
@@ -29,39 +24,37 @@ pub fn chunk_count(store: &[u8]) -> usize
     field::read(store, 4, 4) as usize
 }
 
-// The store check, with the papers' numbers; it leaves the chains of the store's fingerprints in the array, once the directory is seen to be
+// The store check; it leaves the chains of the store's fingerprints in the array, once the directory is seen to be
 // whole.
-pub fn examine(store: &[u8], chains: &mut [u32]) -> u8
+pub fn examine(store: &[u8], chains: &mut [u32]) -> Result<(), Refusal>
     requires { Empty chains.old }
-    ensures { (result ≡ store_code store.now)
+    ensures { (number result ≡ store_code store.now)
         × (chains.new ≡ examined_chains store.now chains.old) }
 {
     if store.len() < 8 {
-        return 5;
+        return Err(Refusal::StoreMarkWrong);
     }
-    if !marked(store) {
-        return 5;
+    if !store.starts_with(&MARK) {
+        return Err(Refusal::StoreMarkWrong);
     }
     let c = chunk_count(store);
     if 65000 < c {
-        return 6;
+        return Err(Refusal::StoreDirectoryCut);
     }
     if store.len() < 8 + 28 * c {
-        return 6;
+        return Err(Refusal::StoreDirectoryCut);
     }
-    let code = store_entries::entries(store, c);
-    if code != 0 {
-        return code;
-    }
+    store_entries::entries(store, c)?;
     if directory::build(store, 8, 28, c, chains) {
-        return 8;
+        Err(Refusal::StoreDuplicate)
+    } else {
+        Ok(())
     }
-    0
 }
 
 // The store check.
-pub fn check(store: &[u8]) -> u8
-    ensures { result ≡ store_code store.now }
+pub fn check(store: &[u8]) -> Result<(), Refusal>
+    ensures { number result ≡ store_code store.now }
 {
     let mut chains = [0u32; 130536];
     examine(store, &mut chains)
@@ -75,34 +68,29 @@ pub fn position(store: &[u8], count: usize, chains: &[u32], fp: &[u8]) -> usize
     directory::find(store, 8, 28, count, chains, fp)
 }
 
-// The entry of a fingerprint, or the number that refuses the lookup.
-fn locate(store: &[u8], fp: &[u8]) -> spec::Outcome
-    ensures { result ≡ answer (find_chunk store.now fp.now) (position_of fp.now (store_keys store.now)) }
+// The entry of a fingerprint, or why the lookup is refused.
+fn locate(store: &[u8], fp: &[u8]) -> Result<usize, Refusal>
+    ensures { outcome_of result ≡ answer (find_chunk store.now fp.now) (position_of fp.now (store_keys store.now)) }
 {
     let mut chains = [0u32; 130536];
-    let code = examine(store, &mut chains);
-    if code != 0 {
-        return spec::Outcome::Refused(code);
-    }
+    examine(store, &mut chains)?;
     if fp.len() != 20 {
-        return spec::Outcome::Refused(19);
+        return Err(Refusal::FingerprintLength);
     }
     let c = chunk_count(store);
     let k = position(store, c, &chains, fp);
     if k == c {
-        return spec::Outcome::Refused(15);
+        return Err(Refusal::NotFound);
     }
-    spec::Outcome::Done(k)
+    Ok(k)
 }
 
-// The number of a lookup: 0 when the fingerprint is found.
-pub fn find_chunk(store: &[u8], fp: &[u8]) -> u8
-    ensures { result ≡ find_chunk store.now fp.now }
+// Whether a lookup finds the fingerprint, or why it is refused.
+pub fn find_chunk(store: &[u8], fp: &[u8]) -> Result<(), Refusal>
+    ensures { number result ≡ find_chunk store.now fp.now }
 {
-    match locate(store, fp) {
-        spec::Outcome::Done(_) => 0,
-        spec::Outcome::Refused(code) => code,
-    }
+    locate(store, fp)?;
+    Ok(())
 }
 
 // The field of entry k that starts at byte `at` of it.
@@ -138,8 +126,8 @@ pub fn chunk_start(store: &[u8], fp: &[u8]) -> usize
     ensures { result ≡ chunk_start store.now fp.now }
 {
     match locate(store, fp) {
-        spec::Outcome::Done(k) => entry_field(store, k, 20),
-        spec::Outcome::Refused(_) => 0,
+        Ok(k) => entry_field(store, k, 20),
+        Err(_) => 0,
     }
 }
 
@@ -148,8 +136,8 @@ pub fn chunk_length(store: &[u8], fp: &[u8]) -> usize
     ensures { result ≡ chunk_length store.now fp.now }
 {
     match locate(store, fp) {
-        spec::Outcome::Done(k) => entry_field(store, k, 24),
-        spec::Outcome::Refused(_) => 0,
+        Ok(k) => entry_field(store, k, 24),
+        Err(_) => 0,
     }
 }
 
@@ -160,7 +148,7 @@ pub fn chunk<'a, 'b>(store: &'a [u8], fp: &'b [u8]) -> &'a [u8]
         × (result.ref_ptr.1 ≡ chunk_start store.now fp.now + store.entry.ref_ptr.1) }
 {
     match locate(store, fp) {
-        spec::Outcome::Done(k) => chunk_at(store, k),
-        spec::Outcome::Refused(_) => &store[..0],
+        Ok(k) => chunk_at(store, k),
+        Err(_) => &store[..0],
     }
 }

@@ -4,10 +4,9 @@ use mathlib.Core.List.{List}
 use Prim.Native.Nat.{ℕ, suc, ◌+◌, ◌-◌, ◌≤◌, ◌<◌}
 use native.Mathlib.Numerals.{add-one}
 use native.Mathlib.Omega.{arith}
-use lib.ListN.{length}
 use Rattle.spec.specs.Directory.{size_at, offset_at}
 use Rattle.spec.specs.Store.{store_layout, chunk_end, chunks_code}
-use Rattle.spec.proofs.StoreLaws.{chunks-none, chunks_long, chunks-early, chunks-beyond, chunks-more, chunks-short, chunks-end}
+use Rattle.spec.proofs.StoreLaws.{chunks-none, chunks_long, chunks-early, chunks-beyond, chunks-more}
 
 module _ (store : List ℕ) (count k at whole : ℕ) (inv : chunks_code store (count - k) k at ≡ whole) where
   module _ (more : k < count) (offset size : ℕ) (o : offset ≡ offset_at store_layout store k) (s : size ≡ size_at store_layout store k) where
@@ -32,12 +31,3 @@ module _ (store : List ℕ) (count k at whole : ℕ) (inv : chunks_code store (c
           let q : offset + size ≡ chunk_end store k = omega arith in
           rw (q, add-one)
           (sym (rw add-one at (chunks-more store (count - (k + 1)) k at (omega arith) (omega arith) (omega arith) (omega arith))) ∙ rw add-one at here)
-
-  last : count ≤ k → chunks_code store 0 k at ≡ whole
-  last h = let e : 0 ≡ count - k = omega arith in ap (λ (n : ℕ). chunks_code store n k at) e ∙ inv
-
-  pub turn-short : count ≤ k → length store < at → 7 ≡ whole
-  turn-short h l = sym (chunks-short store k at l) ∙ last h
-
-  pub turn_end : count ≤ k → at ≤ length store → 0 ≡ whole
-  turn_end h l = sym (chunks-end store k at l) ∙ last h

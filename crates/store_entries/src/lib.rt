@@ -3,42 +3,40 @@
 
 ghost use Rattle.std.specs.Prelude.{◌≡◌, ◌+◌, ◌*◌, ◌≤◌, length};
 ghost use Rattle.spec.specs.Store.{chunks_code};
+ghost use Rattle.spec.specs.Refusal.{number};
+
+use spec::Refusal;
 
 // The longest chunk, and the largest number of 32 bits.
 const LONGEST: usize = 1048576;
 
 const LARGEST: usize = 4294967295;
 
-// The entries: each one's length, offset (at or after the end before) and end; then the last end, which may lie before the store's. The number of the
-// first that is wrong.
-pub fn entries(store: &[u8], count: usize) -> u8
+// The entries: each one's length, offset (at or after the end before) and end; then the last end, which may lie before the store's. The first that
+// is wrong refuses.
+pub fn entries(store: &[u8], count: usize) -> Result<(), Refusal>
     requires { 8 + 28 * count ≤ length store.now }
-    ensures { result ≡ chunks_code store.now count 0 (8 + 28 * count) }
+    ensures { number result ≡ chunks_code store.now count 0 (8 + 28 * count) }
 {
     let mut at = 8 + 28 * count;
-    let mut k: usize = 0;
-    while k < count {
+    for k in 0..count {
         let offset = field::read(store, 8 + 28 * k + 20, 4) as usize;
         let size = field::read(store, 8 + 28 * k + 24, 4) as usize;
         let end = offset + size;
-        let next = k + 1;
-        if size == 0 {
-            return 7;
-        }
-        if LONGEST < size {
-            return 7;
+        if !(1..=LONGEST).contains(&size) {
+            return Err(Refusal::StoreEntryWrong);
         }
         if offset < at {
-            return 7;
+            return Err(Refusal::StoreEntryWrong);
         }
         if LARGEST < end {
-            return 20;
+            return Err(Refusal::StoreEntryBeyond);
         }
         at = end;
-        k = next;
     }
-    if store.len() < at {
-        return 7;
+    if at <= store.len() {
+        Ok(())
+    } else {
+        Err(Refusal::StoreEntryWrong)
     }
-    0
 }

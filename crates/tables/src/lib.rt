@@ -15,10 +15,8 @@ fn in_cell(flag: u8, keyword: &[u8], i: usize, j: usize, s: usize) -> bool
 {
     let left = i - s;
     let from = keyword.len() - j;
-    if matcher::occurs_at(&keyword[left..], &keyword[from..], 0, flag) {
-        return matcher::occurs_at(&keyword[..left], &keyword[..i], s, flag);
-    }
-    false
+    matcher::occurs_at(&keyword[left..], &keyword[from..], 0, flag)
+        && matcher::occurs_at(&keyword[..left], &keyword[..i], s, flag)
 }
 
 // The cell for i and j. The keyword has room for i + j - n + 1 starts only.
@@ -26,18 +24,11 @@ fn cell_of(flag: u8, keyword: &[u8], i: usize, j: usize) -> u32
     requires { (i < length keyword.now) × (j < length keyword.now) × (length keyword.now ≤ 32) }
     ensures { result ≡ cell_set (folded flag keyword.now) i j }
 {
-    let n = keyword.len();
-    if i + j < n {
-        return 0;
-    }
-    let ends = i + j - n + 1;
-    let mut set: u32 = 0;
-    let mut s: usize = 0;
-    while s < ends {
+    let mut set = 0;
+    for s in 0..(i + j + 1).saturating_sub(keyword.len()) {
         if in_cell(flag, keyword, i, j, s) {
             set += 1 << s;
         }
-        s += 1;
     }
     set
 }
@@ -48,10 +39,8 @@ fn row_of(flag: u8, keyword: &[u8], i: usize) -> [u32; 32]
     ensures { result ≡ cells_of (folded flag keyword.now) i }
 {
     let mut row = [0u32; 32];
-    let mut j: usize = 0;
-    while j < keyword.len() {
+    for j in 0..keyword.len() {
         row[j] = cell_of(flag, keyword, i, j);
-        j += 1;
     }
     row
 }
@@ -62,10 +51,8 @@ fn table_of(flag: u8, keyword: &[u8]) -> [[u32; 32]; 32]
     ensures { result ≡ table_of (folded flag keyword.now) }
 {
     let mut table = [[0u32; 32]; 32];
-    let mut i: usize = 0;
-    while i < keyword.len() {
+    for i in 0..keyword.len() {
         table[i] = row_of(flag, keyword, i);
-        i += 1;
     }
     table
 }
@@ -75,15 +62,11 @@ pub fn tables_of(list: &[u8], words: keywords::Keywords) -> [[[u32; 32]; 32]; 16
     requires { Reads list.now words }
     ensures { result ≡ tables_of (folded_keywords list.now) }
 {
-    let start = words.start;
-    let len = words.len;
     let mut tables = [[[0u32; 32]; 32]; 16];
-    let mut k: usize = 0;
-    while k < words.count {
-        let a = start[k];
-        let e = a + len[k];
+    for k in 0..words.count {
+        let a = words.start[k];
+        let e = a + words.len[k];
         tables[k] = table_of(words.flag, &list[a..e]);
-        k += 1;
     }
     tables
 }

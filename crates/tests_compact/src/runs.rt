@@ -1,7 +1,7 @@
 // Compactions of a case, each compared with what is due: the number, the length, every byte of the buffer. Buffers are filled with a pattern
 // first; a longer one, an exact one and one a byte short are tried.
 use crate::plain::places;
-use spec::Outcome;
+use spec::Refusal;
 use tests_plain::bytes::{get_4, less, part, plus, repeat};
 use tests_plain::case;
 use tests_report::due::{PATTERN, as_due, late, value_as_due};
@@ -25,12 +25,12 @@ fn buffer_kind(code: u8, n: usize, room: usize) -> usize {
     (room == n) as usize
 }
 
-// Into the first `room` bytes of the buffer. The number where the buffer is shorter is none of the library's.
-fn compact_front(s: &[u8], r: &[u8], buffer: &mut [u8], room: usize) -> Outcome {
+// Into the first `room` bytes of the buffer. The refusal where the buffer is shorter is none of a compaction's.
+fn compact_front(s: &[u8], r: &[u8], buffer: &mut [u8], room: usize) -> Result<usize, Refusal> {
     if room <= buffer.len() {
         return compact::compact(s, r, &mut buffer[..room]);
     }
-    Outcome::Refused(255)
+    Err(Refusal::FileNumberWrong)
 }
 
 // Where `early` is due before the test of the buffer.
@@ -164,6 +164,6 @@ pub(crate) fn saw_stores(counts: &mut [u64], f: &[u8], g: &[u8]) {
 // The compacted store is accepted, has no hole and is not longer.
 pub(crate) fn check_compacted(counts: &mut [u64], f: &[u8], g: &[u8]) {
     let code = store::check(case::store(g));
-    compared(counts, tally::STORE_CHECK, code, 0, !has_hole(g));
+    compared(counts, tally::STORE_CHECK, code_of(code), 0, !has_hole(g));
     expect(counts, case::length_of(g, 1) <= case::length_of(f, 1));
 }

@@ -1,7 +1,7 @@
 // Runs of the library on two cases whose stores hold the same chunks (f and g), in two orders or with other holes: what it answers on g is
 // compared with what it answers on f, number, values and bytes. Buffers are filled with a pattern first, and those of a pair of runs have one
 // length; joins and searches have one key, and tallies that are equal before and must be equal after (request #110). Where the stores have one directory, so that they differ in their holes alone, places and indexes are compared too.
-use spec::{Outcome, Scanned};
+use spec::{Refusal, ScanDone};
 use tests_plain::bytes::{copy, fill, get_4, least, less, plus, same};
 use tests_plain::case;
 use tests_report::due::{PATTERN, bound};
@@ -11,8 +11,7 @@ use tests_report::tally::{bump, expect, saw};
 use tests_runs::answers::{NOT_RUN, answer, paired, same_bytes};
 use tests_runs::clients::{Counted, join_for_pair, paired_counts, search_for_pair, uncounted};
 use tests_runs::runs::{
-    code_of, scanned_code, scanned_length, scanned_moves, searched_code, searched_count,
-    searched_index, value_of,
+    code_of, scanned_length, scanned_moves, searched_code, searched_count, searched_index, value_of,
 };
 use tests_vaults::encode::put_key;
 
@@ -35,13 +34,13 @@ fn is_scan(way: usize) -> bool {
     way == BOUND
 }
 
-fn answered(o: Outcome) -> usize {
+fn answered(o: Result<usize, Refusal>) -> usize {
     answer(code_of(o), value_of(o), 0)
 }
 
-fn scanned(s: Scanned) -> usize {
+fn scanned(s: Result<ScanDone, Refusal>) -> usize {
     answer(
-        scanned_code(s),
+        code_of(s),
         scanned_length(s),
         (scanned_moves(s) % 1000000) as usize,
     )
@@ -207,11 +206,11 @@ pub fn runs_both(counts: &mut [u64], f: &[u8], g: &[u8], a: &mut [u8], b: &mut [
 // ---- checks and sizes of both
 
 fn store_check(f: &[u8]) -> usize {
-    answer(store::check(case::store(f)), 0, 0)
+    answer(code_of(store::check(case::store(f))), 0, 0)
 }
 
 fn index_check(f: &[u8]) -> usize {
-    answer(index::check(case::index(f)), 0, 0)
+    answer(code_of(index::check(case::index(f))), 0, 0)
 }
 
 fn size(f: &[u8]) -> usize {
@@ -245,7 +244,7 @@ pub fn checks_both(counts: &mut [u64], f: &[u8], g: &[u8]) {
 
 // The number of a lookup, with the place and the length where they must be the same.
 fn find_chunk(store: &[u8], key: &[u8], placed: bool) -> usize {
-    let code = store::find_chunk(store, key);
+    let code = code_of(store::find_chunk(store, key));
     if placed {
         return answer(
             code,
@@ -257,7 +256,7 @@ fn find_chunk(store: &[u8], key: &[u8], placed: bool) -> usize {
 }
 
 fn find_body(index: &[u8], key: &[u8], placed: bool) -> usize {
-    let code = index::find_body(index, key);
+    let code = code_of(index::find_body(index, key));
     if placed {
         return answer(
             code,
@@ -313,7 +312,7 @@ fn put_index(g: &mut [u8], code: u8, n: usize, index: &[u8]) {
 // What the scan of a case's store writes becomes the case's index.
 pub fn scan_index(g: &mut [u8], buffer: &mut [u8]) {
     let s = scan::scan(case::list(g), case::store(g), buffer);
-    put_index(g, scanned_code(s), scanned_length(s), buffer);
+    put_index(g, code_of(s), scanned_length(s), buffer);
 }
 
 fn kind_of(f: &[u8]) -> usize {

@@ -1,6 +1,6 @@
 // Queries, each compared with what is due: the number, how many lines, every byte of the buffer. Buffers are filled with a pattern first; a
 // longer one, an exact one, one a byte short and an empty one are tried.
-use spec::Outcome;
+use spec::Refusal;
 use tests_plain::bytes::{less, part, plus, repeat};
 use tests_report::due::{PATTERN, as_due, late, value_as_due};
 use tests_report::tally;
@@ -42,18 +42,18 @@ fn lines_in(query: &[u8], due: &[u8]) -> usize {
     due.len() / (4 + 4 * (query.len() % 16))
 }
 
-// Into the first `room` bytes of the buffer. The number where the buffer is shorter is none of the library's.
+// Into the first `room` bytes of the buffer. The refusal where the buffer is shorter is none of a query's.
 fn query_front(
     index: &[u8],
     recipes: &[u8],
     query: &[u8],
     buffer: &mut [u8],
     room: usize,
-) -> Outcome {
+) -> Result<usize, Refusal> {
     if room <= buffer.len() {
         return query::query(index, recipes, query, &mut buffer[..room]);
     }
-    Outcome::Refused(255)
+    Err(Refusal::FileNumberWrong)
 }
 
 // Where `early` is due before the test of the buffer.

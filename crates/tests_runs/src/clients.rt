@@ -24,19 +24,6 @@ fn one_count(n: u64) -> Tally {
     }
 }
 
-pub fn same_counts(a: Tally, b: Tally) -> bool {
-    if a.client0 != b.client0 {
-        return false;
-    }
-    if a.client1 != b.client1 {
-        return false;
-    }
-    if a.client2 != b.client2 {
-        return false;
-    }
-    a.client3 == b.client3
-}
-
 // ---- one client
 
 pub fn join_for_one(index: &[u8], recipes: &[u8], out: &mut [u8]) -> Joined {
@@ -66,7 +53,7 @@ pub fn count_for_one(code: u8, n: usize) -> Tally {
 // A join's count, list and tally, where it must answer `code`.
 pub fn joined_as_due(j: Joined, code: u8, tally: Tally, buffer: &[u8], due: &[u8]) -> bool {
     let o = j.outcome;
-    if same_counts(j.tally, tally) {
+    if j.tally == tally {
         return as_due(value_of(o), code, due.len() / 9, buffer, due);
     }
     false
@@ -118,7 +105,7 @@ pub fn uncounted(answer: usize) -> Counted {
 
 // Their tallies are the same, and the rest.
 fn is_same(got: Counted, expected: Counted, rest: bool) -> bool {
-    if same_counts(got.tally, expected.tally) {
+    if got.tally == expected.tally {
         return rest;
     }
     false
@@ -133,7 +120,7 @@ pub fn paired_counts(
     rest: bool,
 ) {
     let ok = is_same(got, expected, rest);
-    let changed = !same_counts(expected.tally, some_counts());
+    let changed = expected.tally != some_counts();
     paired(counts, operation, got.answer, expected.answer, ok);
     saw(counts, tally::TALLIES, changed);
 }

@@ -1,8 +1,8 @@
 // A chunk of the longest length, 1,048,576 bytes: checked, looked up, scanned, joined; and a chunk a byte longer, refused.
 use crate::clients::{count_for_one, join_for_one, joined_as_due};
-use crate::runs::{code_of, scanned_code, scanned_length, scanned_moves, value_of};
+use crate::runs::{code_of, scanned_length, scanned_moves, value_of};
 use join::Joined;
-use spec::Scanned;
+use spec::{Refusal, ScanDone};
 use tests_plain::bytes::{fill, part};
 use tests_report::due::{PATTERN, as_due, moves_as_due, value_as_due};
 use tests_report::tally;
@@ -18,7 +18,7 @@ fn size_run(counts: &mut [u64], store: &[u8], code: u8) {
     compared(counts, tally::SIZE, code_of(o), code, ok);
 }
 
-fn scan_as_due(s: Scanned, code: u8, buffer: &[u8], index: &[u8]) -> bool {
+fn scan_as_due(s: Result<ScanDone, Refusal>, code: u8, buffer: &[u8], index: &[u8]) -> bool {
     if moves_as_due(scanned_moves(s), code, longest::MOVES) {
         return as_due(
             scanned_length(s),
@@ -35,7 +35,7 @@ fn scan_into(counts: &mut [u64], store: &[u8], index: &[u8], buffer: &mut [u8], 
     fill(buffer, PATTERN);
     let s = scan::scan(&longest::LIST, store, buffer);
     let ok = scan_as_due(s, code, buffer, index);
-    compared(counts, tally::SCAN, scanned_code(s), code, ok);
+    compared(counts, tally::SCAN, code_of(s), code, ok);
 }
 
 // Into an exact buffer, and one a byte short.
@@ -49,7 +49,13 @@ fn scan_runs(counts: &mut [u64], store: &[u8], index: &[u8], code: u8, late: u8)
 // ---- store and lookup
 
 fn check_run(counts: &mut [u64], store: &[u8], code: u8) {
-    compared(counts, tally::STORE_CHECK, store::check(store), code, true);
+    compared(
+        counts,
+        tally::STORE_CHECK,
+        code_of(store::check(store)),
+        code,
+        true,
+    );
 }
 
 fn lookup_run(counts: &mut [u64], store: &[u8], code: u8) {
@@ -59,7 +65,7 @@ fn lookup_run(counts: &mut [u64], store: &[u8], code: u8) {
     compared(
         counts,
         tally::CHUNK_LOOKUP,
-        store::find_chunk(store, &key),
+        code_of(store::find_chunk(store, &key)),
         code,
         ok,
     );
@@ -89,7 +95,13 @@ fn join_run(counts: &mut [u64], index: &[u8]) {
     let o = j.outcome;
     let ok = join_as_due(j, &buffer);
     compared(counts, tally::JOIN, code_of(o), 0, ok);
-    compared(counts, tally::INDEX_CHECK, index::check(index), 0, true);
+    compared(
+        counts,
+        tally::INDEX_CHECK,
+        code_of(index::check(index)),
+        0,
+        true,
+    );
 }
 
 // All of them; the store goes to an array.

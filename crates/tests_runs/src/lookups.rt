@@ -1,4 +1,5 @@
 // Lookups by fingerprint, compared with a plain search of the directory.
+use crate::runs::code_of;
 use tests_plain::bytes::{get_4, part, plus};
 use tests_plain::case;
 use tests_plain::case::check_code;
@@ -28,7 +29,7 @@ fn chunk_lookup(counts: &mut [u64], store: &[u8], check: u8, key: &[u8]) {
     compared(
         counts,
         tally::CHUNK_LOOKUP,
-        store::find_chunk(store, key),
+        code_of(store::find_chunk(store, key)),
         c,
         ok,
     );
@@ -54,7 +55,7 @@ fn body_lookup(counts: &mut [u64], index: &[u8], at: usize, check: u8, key: &[u8
     compared(
         counts,
         tally::BODY_LOOKUP,
-        index::find_body(index, key),
+        code_of(index::find_body(index, key)),
         c,
         ok,
     );

@@ -1,8 +1,8 @@
 // Runs of the library's operations on a case, each compared with what the plain computations expect: the number, the value, every byte of
 // the buffer. Buffers are filled with a pattern first; long ones, exact ones and ones a byte short are tried.
-use crate::clients::{count_for_one, join_for_one, joined_as_due, same_counts, search_for_one};
+use crate::clients::{count_for_one, join_for_one, joined_as_due, search_for_one};
 use search::Answer;
-use spec::{Outcome, Scanned, Searched};
+use spec::{Refusal, ScanDone, SearchDone, SearchRefusal};
 use tests_plain::bytes::{fill, less, plus};
 use tests_plain::case;
 use tests_plain::case::{check_code, is_run};
@@ -13,38 +13,29 @@ use tests_report::due::{
 use tests_report::tally;
 use tests_report::tally::compared;
 
-pub fn code_of(o: Outcome) -> u8 {
-    match o {
-        Outcome::Done(_) => 0,
-        Outcome::Refused(code) => code,
+// The number of any answer: 0 where there is no refusal.
+pub fn code_of<T: Drop>(answer: Result<T, Refusal>) -> u8 {
+    match answer {
+        Ok(_) => 0,
+        Err(refusal) => refusal.number(),
     }
 }
 
-pub fn value_of(o: Outcome) -> usize {
-    match o {
-        Outcome::Done(n) => n,
-        Outcome::Refused(_) => 0,
-    }
+pub fn value_of(answer: Result<usize, Refusal>) -> usize {
+    answer.unwrap_or(0)
 }
 
-pub fn scanned_code(s: Scanned) -> u8 {
+pub fn scanned_length(s: Result<ScanDone, Refusal>) -> usize {
     match s {
-        Scanned::Done(_, _) => 0,
-        Scanned::Refused(code) => code,
+        Ok(done) => done.size,
+        Err(_) => 0,
     }
 }
 
-pub fn scanned_length(s: Scanned) -> usize {
+pub fn scanned_moves(s: Result<ScanDone, Refusal>) -> u64 {
     match s {
-        Scanned::Done(n, _) => n,
-        Scanned::Refused(_) => 0,
-    }
-}
-
-pub fn scanned_moves(s: Scanned) -> u64 {
-    match s {
-        Scanned::Done(_, moves) => moves,
-        Scanned::Refused(_) => 0,
+        Ok(done) => done.moves,
+        Err(_) => 0,
     }
 }
 
@@ -52,11 +43,29 @@ pub fn scanned_moves(s: Scanned) -> u64 {
 
 pub fn checks(counts: &mut [u64], f: &[u8]) {
     let list = keywords::check(case::list(f));
-    compared(counts, tally::KEYWORD_CHECK, list, check_code(f, 0), true);
+    compared(
+        counts,
+        tally::KEYWORD_CHECK,
+        code_of(list),
+        check_code(f, 0),
+        true,
+    );
     let store = store::check(case::store(f));
-    compared(counts, tally::STORE_CHECK, store, check_code(f, 1), true);
+    compared(
+        counts,
+        tally::STORE_CHECK,
+        code_of(store),
+        check_code(f, 1),
+        true,
+    );
     let index = index::check(case::index(f));
-    compared(counts, tally::INDEX_CHECK, index, check_code(f, 2), true);
+    compared(
+        counts,
+        tally::INDEX_CHECK,
+        code_of(index),
+        check_code(f, 2),
+        true,
+    );
 }
 
 fn size_run(counts: &mut [u64], f: &[u8]) {
@@ -78,7 +87,7 @@ fn count_run(counts: &mut [u64], f: &[u8]) {
 }
 
 // A scan's length, moves and index, where it must answer `code`.
-fn scan_as_due(s: Scanned, code: u8, f: &[u8], buffer: &[u8]) -> bool {
+fn scan_as_due(s: Result<ScanDone, Refusal>, code: u8, f: &[u8], buffer: &[u8]) -> bool {
     let due = case::index(f);
     if moves_as_due(scanned_moves(s), code, case::moves(f)) {
         return as_due(scanned_length(s), code, due.len(), buffer, due);
@@ -91,7 +100,7 @@ fn scan_into(counts: &mut [u64], f: &[u8], buffer: &mut [u8]) {
     let c = scan_late(f, buffer.len());
     let s = scan::scan(case::list(f), case::store(f), buffer);
     let ok = scan_as_due(s, c, f, buffer);
-    compared(counts, tally::SCAN, scanned_code(s), c, ok);
+    compared(counts, tally::SCAN, code_of(s), c, ok);
     saw_buffer(counts, 0, c, case::length_of(f, 2), buffer.len());
     saw_moves(counts, f, c, buffer.len());
 }
@@ -115,27 +124,28 @@ fn join_into(counts: &mut [u64], f: &[u8], buffer: &mut [u8]) {
 
 // ---- the search whole
 
+pub type Searched = Result<SearchDone, SearchRefusal>;
+
 pub fn searched_code(s: Searched) -> u8 {
     match s {
-        Searched::ScanRefused(code) => code,
-        Searched::JoinRefused(_, code) => code,
-        Searched::Found(_, _) => 0,
+        Ok(_) => 0,
+        Err(SearchRefusal::Scan(refusal)) => refusal.number(),
+        Err(SearchRefusal::Join(_, refusal)) => refusal.number(),
     }
 }
 
 pub fn searched_index(s: Searched) -> usize {
     match s {
-        Searched::ScanRefused(_) => 0,
-        Searched::JoinRefused(n, _) => n,
-        Searched::Found(n, _) => n,
+        Ok(done) => done.size,
+        Err(SearchRefusal::Scan(_)) => 0,
+        Err(SearchRefusal::Join(n, _)) => n,
     }
 }
 
 pub fn searched_count(s: Searched) -> usize {
     match s {
-        Searched::ScanRefused(_) => 0,
-        Searched::JoinRefused(_, _) => 0,
-        Searched::Found(_, count) => count,
+        Ok(done) => done.count,
+        Err(_) => 0,
     }
 }
 
@@ -157,7 +167,7 @@ fn both_as_due(s: Searched, scan: u8, code: u8, f: &[u8], index: &[u8], buffer: 
 // A search's index, list and tally.
 fn all_as_due(a: Answer, scan: u8, code: u8, f: &[u8], index: &[u8], buffer: &[u8]) -> bool {
     let s = a.searched;
-    if same_counts(a.tally, count_for_one(code, case::count(f))) {
+    if a.tally == count_for_one(code, case::count(f)) {
         return both_as_due(s, scan, code, f, index, buffer);
     }
     false

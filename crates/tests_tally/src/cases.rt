@@ -12,7 +12,7 @@ use tests_report::due::late;
 use tests_report::report::report_cases;
 use tests_report::tally::{bump, expect};
 use tests_report::{report, tally};
-use tests_runs::clients::{no_counts, same_counts};
+use tests_runs::clients::no_counts;
 use tests_vaults::fill::{put_damaged, put_joined, settle_all};
 use tests_vaults::long;
 use tests_vaults::make::{invent, make};
@@ -199,7 +199,7 @@ fn run_at(counts: &mut [u64], f: &[u8], at: usize) {
     let before = told_tally(&JOINS, plus(at, 3));
     let room = num(&JOINS, plus(at, 7));
     let after = run_front(counts, f, true, k, before, &mut buffer, room);
-    expect(counts, same_counts(after, told_tally(&JOINS, plus(at, 9))));
+    expect(counts, after == told_tally(&JOINS, plus(at, 9)));
     expect(
         counts,
         is_told(f, k, before, room, get(&JOINS, plus(at, 8))),
@@ -266,7 +266,7 @@ fn run_list(counts: &mut [u64], i: usize) {
     }
     let got = sums.got;
     let due = sums.due;
-    expect(counts, same_counts(got, due));
+    expect(counts, got == due);
 }
 
 // ---- all of them

@@ -8,7 +8,7 @@ use tests_plain::case;
 use tests_report::due::{PATTERN, as_due, late, scan_late, search_late};
 use tests_report::tally;
 use tests_report::tally::{bump, compared, saw};
-use tests_runs::clients::{joined_as_due, no_counts, same_counts};
+use tests_runs::clients::{joined_as_due, no_counts};
 use tests_runs::runs::{code_of, searched_code, searched_count};
 
 // ---- what was seen
@@ -55,7 +55,7 @@ fn past_kind(past: usize) -> usize {
 
 fn saw_accepted(counts: &mut [u64], key: &[u8], words: usize, before: Tally, after: Tally) {
     saw(counts, tally::CLIENTS + 6, num(key, words) == 255);
-    let zero = same_counts(before, no_counts());
+    let zero = before == no_counts();
     saw(counts, tally::CLIENTS + 18, zero);
     saw(counts, tally::CLIENTS + 19, below(before, after) == 15);
     saw(counts, tally::CLIENTS + 20, full(before) != 0);
@@ -133,7 +133,7 @@ pub(crate) fn join_into(
 
 fn search_as_due(a: Answer, due: Due, buffer: &[u8], rows: &[u8]) -> bool {
     let s = a.searched;
-    if same_counts(a.tally, due.tally) {
+    if a.tally == due.tally {
         return as_due(searched_count(s), due.code, rows.len() / 9, buffer, rows);
     }
     false

@@ -10,7 +10,7 @@ use native.Mathlib.Omega.{arith}
 use borrow.Author.Tests.{le-leb, eq-eqb, ne_eqb}
 use lib.Dec.{eqb}
 use lib.ListN.{length, take, get_or, length-append, length-map}
-use Rattle.spec.specs.declared.Searched.TheVariants.{JoinRefused, Found}
+use Rattle.spec.specs.Searched.{JoinRefused, Found}
 use Rattle.spec.specs.Bytes.{largest32, written, same, contains, twice, position_of, every, sum, joined}
 use Rattle.spec.specs.Outcome.{first_number, whole, code_of, value_of}
 use Rattle.spec.specs.Directory.{size_at}

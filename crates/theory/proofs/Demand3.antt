@@ -10,10 +10,8 @@ use lib.ListN.{length, take, drop}
 use lib.Seq.{take_at}
 use lib.Dec.{ltb}
 use borrow.Author.Tests.{ltb-false, le-ltb, ne_eqb, not-false}
-use Rattle.spec.specs.declared.Outcome.{Outcome}
-use Rattle.spec.specs.declared.Outcome.TheVariants.{Done, Refused}
+use Rattle.spec.specs.Outcome.{Outcome, Done, Refused, code_of, value_of, answer, unless_refused}
 use Rattle.spec.specs.Bytes.{largest32, splice, written}
-use Rattle.spec.specs.Outcome.{code_of, value_of, answer, unless_refused}
 use Rattle.spec.specs.Keywords.{keywords_of, keyword_code}
 use Rattle.spec.specs.Directory.{size_at}
 use Rattle.spec.specs.Store.{store_layout, store_keys, store_code}

@@ -9,11 +9,10 @@ use native.Mathlib.Omega.{arith}
 use lib.Dec.{eqb, ltb}
 use lib.ListN.{length, take, get_or, length-map}
 use borrow.Author.Tests.{ltb-true, lt-ltb, ne_eqb}
-use Rattle.spec.specs.declared.Outcome.{Outcome}
-use Rattle.spec.specs.declared.Scanned.{Scanned}
-use Rattle.spec.specs.declared.Searched.TheVariants.{ScanRefused, JoinRefused, Found}
+use Rattle.spec.specs.Outcome.{Outcome, first_number, whole, code_of, value_of, answer, unless_refused}
+use Rattle.spec.specs.Scanned.{Scanned}
+use Rattle.spec.specs.Searched.{ScanRefused, JoinRefused, Found}
 use Rattle.spec.specs.Bytes.{part, written, occurs_at}
-use Rattle.spec.specs.Outcome.{first_number, whole, code_of, value_of, answer, unless_refused}
 use Rattle.spec.specs.Keywords.{flag_of, folded, keywords_of, folded_keywords, keyword_code}
 use Rattle.spec.specs.Directory.{Layout}
 use Rattle.spec.specs.Store.{store_layout, store_keys, store_code}

@@ -11,10 +11,9 @@ use borrow.Author.Tests.{eqb-true, eqb-false, ltb-true, le-ltb, lt-leb, ne_eqb}
 use lib.Dec.{eqb, leb, ltb}
 use lib.ListN.{length, take, drop, get_or, length-take, length-drop}
 use lib.Seq.{get_or-take, get_or-drop, ext_get_or, take-take}
-use Rattle.spec.specs.declared.Outcome.{Outcome}
-use Rattle.spec.specs.declared.Scanned.{Scanned}
+use Rattle.spec.specs.Outcome.{Outcome, code_of, answer}
+use Rattle.spec.specs.Scanned.{Scanned}
 use Rattle.spec.specs.Bytes.{part, le_value, contains, position_of, each, every, written}
-use Rattle.spec.specs.Outcome.{code_of, answer}
 use Rattle.spec.specs.Directory.{directory_end, entry_field, offset_at}
 use Rattle.spec.specs.Store.{store_layout, Chunk, chunk_count, store_keys, store_bytes, chunk_at, chunk_end, store_code, stored_chunk, stored_chunks}
 use Rattle.spec.specs.Compact.{named_in, named_among, compacted, compactable_code, compact_code, compact_outcome, compact_buffer, compact_size}

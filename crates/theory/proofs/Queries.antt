@@ -9,10 +9,9 @@ use native.Mathlib.Omega.{arith}
 use lib.ListN.{length, take, drop, get_or}
 use lib.Dec.{leb, ltb}
 use borrow.Author.Tests.{leb-true, le-leb, ltb-true, ltb-false, lt-ltb, le-ltb, not-false}
-use Rattle.spec.specs.declared.Outcome.{Outcome}
-use Rattle.spec.specs.declared.Scanned.{Scanned}
+use Rattle.spec.specs.Outcome.{Outcome, code_of, value_of, answer}
+use Rattle.spec.specs.Scanned.{Scanned}
 use Rattle.spec.specs.Bytes.{largest32, every, rising}
-use Rattle.spec.specs.Outcome.{code_of, value_of, answer}
 use Rattle.spec.specs.Keywords.{flag_of, folded, keywords_of, folded_keywords, keyword_code}
 use Rattle.spec.specs.Directory.{size_at}
 use Rattle.spec.specs.Store.{store_layout, store_keys}

@@ -11,11 +11,10 @@ use native.Mathlib.Omega.{arith}
 use borrow.Author.Tests.{lt-ltb, ne_eqb}
 use lib.Dec.{eqb}
 use lib.ListN.{length, take, get_or, length-append}
-use Rattle.spec.specs.declared.Outcome.{Outcome}
-use Rattle.spec.specs.declared.Scanned.{Scanned}
-use Rattle.spec.specs.declared.Searched.TheVariants.{ScanRefused, JoinRefused, Found}
+use Rattle.spec.specs.Outcome.{Outcome, code_of, value_of, answer, unless_refused}
+use Rattle.spec.specs.Scanned.{Scanned}
+use Rattle.spec.specs.Searched.{ScanRefused, JoinRefused, Found}
 use Rattle.spec.specs.Bytes.{written, part, same, contains, position_of, every, sum}
-use Rattle.spec.specs.Outcome.{code_of, value_of, answer, unless_refused}
 use Rattle.spec.specs.Keywords.{flag_of, folded, folded_keywords}
 use Rattle.spec.specs.Directory.{Layout, pointed_at}
 use Rattle.spec.specs.Store.{Chunk, store_layout, chunk_count, store_keys, chunk_at, chunks_of, store_code, stored_chunk, stored_chunks}

@@ -7,11 +7,9 @@ use Prim.Native.Nat.{ℕ, zero, suc}
 use native.Mathlib.Omega.{arith}
 use lib.ListN.{length, take}
 use borrow.Author.Tests.{ne_eqb, lt-ltb}
-use Rattle.spec.specs.declared.Outcome.{Outcome}
-use Rattle.spec.specs.declared.Outcome.TheVariants.{Done, Refused}
-use Rattle.spec.specs.declared.Scanned.{Scanned}
-use Rattle.spec.specs.declared.Searched.TheVariants.{ScanRefused, JoinRefused, Found}
-use Rattle.spec.specs.Outcome.{first_number, whole, code_of, value_of, answer, unless_refused}
+use Rattle.spec.specs.Outcome.{Outcome, Done, Refused, first_number, whole, code_of, value_of, answer, unless_refused}
+use Rattle.spec.specs.Scanned.{Scanned}
+use Rattle.spec.specs.Searched.{ScanRefused, JoinRefused, Found}
 use Rattle.spec.specs.Form.{newest, form_of}
 use Rattle.spec.specs.Join.{Clients, join_outcome, join_buffer, join_tally}
 use Rattle.spec.specs.Trie.{scan_moves}

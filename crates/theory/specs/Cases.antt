@@ -1,9 +1,8 @@
 -- The cases that document 01 marks with *, said of the byte-level definitions: one field for each marked line, in the paper's order. Beside them the
 -- cases of the requests.
 use Rattle.std.specs.Prelude.{◌≡◌, List, [], ◌∷◌, ◌++◌, map, ℕ, suc, ◌+◌, replicate, length, take, ltb}
-use Rattle.spec.specs.declared.Outcome.{Outcome}
-use Rattle.spec.specs.declared.Outcome.TheVariants.{Done, Refused}
-use Rattle.spec.specs.declared.Scanned.TheVariants as Scanned
+use Rattle.spec.specs.Outcome.{Outcome, Done, Refused}
+use Rattle.spec.specs.Scanned as Scanned
 use Rattle.spec.specs.Bytes.{le_bytes, fields_bytes, each, keep}
 use Rattle.spec.specs.Keywords.{folded, keyword_list_bytes, keyword_code}
 use Rattle.spec.specs.Store.{store_mark, Chunk, store_bytes}

@@ -1,11 +1,9 @@
 -- Request #107: what holds of the store that a compaction writes. It is accepted and compacting it again gives itself; a search of those recipes goes as
 -- before; and no accepted store in which the named fingerprints have the same bytes is shorter. Then cases by computation.
 use Rattle.std.specs.Prelude.{◌≡◌, true, List, [], ◌∷◌, ◌++◌, ℕ, ◌≤◌, replicate, length, take}
-use Rattle.spec.specs.declared.Outcome.{Outcome}
-use Rattle.spec.specs.declared.Outcome.TheVariants.{Done, Refused}
-use Rattle.spec.specs.declared.Scanned.{Scanned}
+use Rattle.spec.specs.Outcome.{Outcome, Done, Refused, code_of, value_of}
+use Rattle.spec.specs.Scanned.{Scanned}
 use Rattle.spec.specs.Bytes.{contains}
-use Rattle.spec.specs.Outcome.{code_of, value_of}
 use Rattle.spec.specs.Store.{store_keys, stored_chunks, store_code}
 use Rattle.spec.specs.Form.{form2, newest}
 use Rattle.spec.specs.Join.{Clients, one_client, join_code}

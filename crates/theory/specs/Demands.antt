@@ -1,11 +1,9 @@
 -- The three demands on the base, as statements about the definitions that the contracts of the operations cite: `demand-1`, `demand-2` and
 -- `demand-3` (proofs/Demands) prove them. That every operation takes all inputs and ends is what its contract says, which has no `requires`.
 use Rattle.std.specs.Prelude.{◌≡◌, ◌↔◌, ◌≢◌, true, List, [], ◌∷◌, ℕ, ◌+◌, ◌≤◌, ◌<◌, length, take, get_or}
-use Rattle.spec.specs.declared.Outcome.{Outcome}
-use Rattle.spec.specs.declared.Outcome.TheVariants.{Done, Refused}
-use Rattle.spec.specs.declared.Scanned.{Scanned}
+use Rattle.spec.specs.Outcome.{Outcome, Done, Refused, code_of, value_of}
+use Rattle.spec.specs.Scanned.{Scanned}
 use Rattle.spec.specs.Bytes.{AllBytes, written, member}
-use Rattle.spec.specs.Outcome.{code_of, value_of}
 use Rattle.spec.specs.Keywords.{flag_of, fold_byte, folded, keywords_of, folded_keywords, keyword_code}
 use Rattle.spec.specs.Store.{chunk_count, chunk_at, store_code}
 use Rattle.spec.specs.Form.{Form, newest, form_of}

@@ -1,7 +1,7 @@
 -- Request #106: two accepted stores that differ only in their holes, and what is then the same: every answer, and every byte that an operation writes.
 use Rattle.std.specs.Prelude.{◌≡◌, Bool, true, false, ◌&&◌, ◌||◌, List, [], ◌∷◌, ◌++◌, ℕ, length, get_or, eqb, leb, ltb}
-use Rattle.spec.specs.declared.Outcome.{Outcome}
-use Rattle.spec.specs.declared.Scanned.{Scanned}
+use Rattle.spec.specs.Outcome.{Outcome}
+use Rattle.spec.specs.Scanned.{Scanned}
 use Rattle.spec.specs.Bytes.{le_bytes, each, every}
 use Rattle.spec.specs.Directory.{directory_end, offset_at}
 use Rattle.spec.specs.Store.{Chunk, Placed, store_mark, store_layout, placed_bytes, gapless, chunk_count, chunk_end, store_code}

@@ -1,9 +1,8 @@
 -- Request #109, "Several words in order": what a scan and a query of what it wrote answer, said of the restored files, and the claim on two such calls.
 use Rattle.std.specs.Prelude.{◌≡◌, ◌↔◌, Bool, true, false, ◌||◌, not, List, [], ◌∷◌, ◌++◌, map, ℕ, suc, ◌+◌, ◌*◌, ◌≤◌, ◌<◌, length, take, get_or, eqb, ltb}
-use Rattle.spec.specs.declared.Outcome.{Outcome}
-use Rattle.spec.specs.declared.Scanned.{Scanned}
+use Rattle.spec.specs.Outcome.{Outcome, first_number, whole, code_of, value_of, list_too_long, query_wrong}
+use Rattle.spec.specs.Scanned.{Scanned}
 use Rattle.spec.specs.Bytes.{rising}
-use Rattle.spec.specs.Outcome.{first_number, whole, code_of, value_of, list_too_long, query_wrong}
 use Rattle.spec.specs.Keywords.{flag_of, keywords_of, folded_keywords}
 use Rattle.spec.specs.Directory.{size_at}
 use Rattle.spec.specs.Store.{store_layout, store_keys}

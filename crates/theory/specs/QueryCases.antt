@@ -1,7 +1,6 @@
 -- Request #109 by cases, on the small vault and on As, under document 01's mark and under the newest.
 use Rattle.std.specs.Prelude.{◌≡◌, List, [], ◌∷◌, ◌++◌, map, ℕ, replicate}
-use Rattle.spec.specs.declared.Outcome.{Outcome}
-use Rattle.spec.specs.declared.Outcome.TheVariants.{Done, Refused}
+use Rattle.spec.specs.Outcome.{Outcome, Done, Refused}
 use Rattle.spec.specs.Bytes.{le_bytes, fields_bytes}
 use Rattle.spec.specs.Form.{Form, form1, newest, form_of}
 use Rattle.spec.specs.Query.{query_outcome, query_buffer}

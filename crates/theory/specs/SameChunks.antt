@@ -1,11 +1,9 @@
 -- Request #101: two accepted stores that hold the same fingerprints with the same bytes, in any two orders, and what is then the same: the lookups, the
 -- scan's answer, the body under each fingerprint, the refusal or the list of a join and of a search. The chunks of a store are what `stored_chunks` reads.
 use Rattle.std.specs.Prelude.{◌≡◌, ◌≢◌, Bool, true, false, ◌&&◌, ◌||◌, List, [], ◌∷◌, ◌++◌, ℕ, replicate, length}
-use Rattle.spec.specs.declared.Outcome.{Outcome}
-use Rattle.spec.specs.declared.Outcome.TheVariants.{Done}
-use Rattle.spec.specs.declared.Scanned.{Scanned}
+use Rattle.spec.specs.Outcome.{Outcome, Done, code_of, value_of}
+use Rattle.spec.specs.Scanned.{Scanned}
 use Rattle.spec.specs.Bytes.{same, every}
-use Rattle.spec.specs.Outcome.{code_of, value_of}
 use Rattle.spec.specs.Store.{Chunk, store_bytes, chunk_count, store_code, stored_chunks}
 use Rattle.spec.specs.Form.{form1, newest, form_of}
 use Rattle.spec.specs.Index.{index_keys}

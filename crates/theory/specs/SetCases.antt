@@ -1,8 +1,7 @@
 -- Request #108 by cases: what the paper lists for document 01's refused case, and the corners of kind 4.
 use Rattle.std.specs.Prelude.{◌≡◌, true, false, List, [], ◌∷◌, ◌++◌, map, ℕ, replicate, take}
-use Rattle.spec.specs.declared.Outcome.{Outcome}
-use Rattle.spec.specs.declared.Outcome.TheVariants.{Done, Refused}
-use Rattle.spec.specs.declared.Scanned.TheVariants as Scanned
+use Rattle.spec.specs.Outcome.{Outcome, Done, Refused}
+use Rattle.spec.specs.Scanned as Scanned
 use Rattle.spec.specs.Form.{Form, form1, form2, form3, form_of}
 use Rattle.spec.specs.Records.{inner_of, good_body}
 use Rattle.spec.specs.Index.{body_at, index_code}

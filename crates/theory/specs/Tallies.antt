@@ -1,10 +1,8 @@
 -- Request #110: joins into one tally, one after the other, and the sums that its counts are then; what a key and a tally that are not refused say, in the
 -- request's words. Then cases by computation, on the small vault: three occurrences, of the keywords 0, 0 and 1.
 use Rattle.std.specs.Prelude.{◌≡◌, ◌↔◌, true, List, [], ◌∷◌, ◌++◌, map, ℕ, ◌+◌, ◌^◌, ◌≤◌, ◌<◌, replicate, length, get_or, eqb}
-use Rattle.spec.specs.declared.Outcome.{Outcome}
-use Rattle.spec.specs.declared.Outcome.TheVariants.{Done, Refused}
+use Rattle.spec.specs.Outcome.{Outcome, Done, Refused, code_of}
 use Rattle.spec.specs.Bytes.{keep}
-use Rattle.spec.specs.Outcome.{code_of}
 use Rattle.spec.specs.Form.{form_of}
 use Rattle.spec.specs.Join.{Occurrence, Clients, count_by, tally_with, is_key, fit64, join_list, join_outcome, join_buffer, join_tally}
 use Rattle.theory.specs.Cases.{recipes, recipes_of, nine}

@@ -15,49 +15,64 @@ ghost use Rattle.spec.specs.Join.{counts_of, tally_of, lent, count_outcome, join
 ghost use Rattle.spec.specs.Query.{query_count, query_outcome, query_buffer};
 ghost use Rattle.spec.specs.Compact.{compact_size, compact_outcome, compact_buffer};
 ghost use Rattle.spec.specs.Search.{search_outcome, search_buffer, search_tally, searched_code, told_size, told_count};
+ghost use Rattle.spec.specs.Refusal.{number, outcome_of};
+ghost use Rattle.spec.specs.Searched.{searched_of};
+
+use spec::{Refusal, SearchDone, SearchRefusal, Tally};
 
 // ---- what a call tells
 
-// The number of an answer; where the work is done, `number` is told the length or the count.
-fn told(answer: spec::Outcome, number: &mut u64) -> u8
-    ensures { (result ≡ code_of answer) × (number.new ≡ told_value answer number.old) }
+// The number of a check's answer.
+fn told_check(answer: Result<(), Refusal>) -> u8
+    ensures { result ≡ number answer }
 {
     match answer {
-        spec::Outcome::Done(done) => {
+        Ok(()) => 0,
+        Err(refusal) => refusal.number(),
+    }
+}
+
+// The number of an answer; where the work is done, `number` is told the length or the count.
+fn told(answer: Result<usize, Refusal>, number: &mut u64) -> u8
+    ensures { (result ≡ code_of (outcome_of answer)) × (number.new ≡ told_value (outcome_of answer) number.old) }
+{
+    match answer {
+        Ok(done) => {
             *number = done as u64;
             0
         }
-        spec::Outcome::Refused(code) => code,
+        Err(refusal) => refusal.number(),
     }
 }
 
 // The same of a search: the index's length is told where the scan is done, the count where the join is.
-fn told_search(answer: spec::Searched, size: &mut u64, count: &mut u64) -> u8
-    ensures { (result ≡ searched_code answer) × (size.new ≡ told_size answer size.old) × (count.new ≡ told_count answer count.old) }
+fn told_search(answer: Result<SearchDone, SearchRefusal>, size: &mut u64, count: &mut u64) -> u8
+    ensures { (result ≡ searched_code (searched_of answer)) × (size.new ≡ told_size (searched_of answer) size.old)
+        × (count.new ≡ told_count (searched_of answer) count.old) }
 {
     match answer {
-        spec::Searched::ScanRefused(code) => code,
-        spec::Searched::JoinRefused(indexed, code) => {
-            *size = indexed as u64;
-            code
-        }
-        spec::Searched::Found(length, found) => {
-            *size = length as u64;
-            *count = found as u64;
+        Ok(done) => {
+            *size = done.size as u64;
+            *count = done.count as u64;
             0
+        }
+        Err(SearchRefusal::Scan(refusal)) => refusal.number(),
+        Err(SearchRefusal::Join(indexed, refusal)) => {
+            *size = indexed as u64;
+            refusal.number()
         }
     }
 }
 
 // Four counts that are lent one by one, as a tally (request #110).
-fn four(client0: u64, client1: u64, client2: u64, client3: u64) -> spec::Tally
+fn four(client0: u64, client1: u64, client2: u64, client3: u64) -> Tally
     ensures { result ≡ tally_of client0 client1 client2 client3 }
 {
-    spec::Tally {
-        client0: client0,
-        client1: client1,
-        client2: client2,
-        client3: client3,
+    Tally {
+        client0,
+        client1,
+        client2,
+        client3,
     }
 }
 
@@ -67,21 +82,21 @@ fn four(client0: u64, client1: u64, client2: u64, client3: u64) -> spec::Tally
 pub extern "C" fn vault_check_keywords(list: &[u8]) -> u8
     ensures { result ≡ keyword_code list.now }
 {
-    keywords::check(list)
+    told_check(keywords::check(list))
 }
 
 #[unsafe(no_mangle)]
 pub extern "C" fn vault_check_store(store: &[u8]) -> u8
     ensures { result ≡ store_code store.now }
 {
-    store::check(store)
+    told_check(store::check(store))
 }
 
 #[unsafe(no_mangle)]
 pub extern "C" fn vault_check_index(index: &[u8]) -> u8
     ensures { result ≡ index_code (form_of index.now) index.now }
 {
-    index::check(index)
+    told_check(index::check(index))
 }
 
 // ---- scan and join
@@ -108,12 +123,12 @@ pub extern "C" fn vault_scan(
         × (out.new ≡ scan_buffer newest list.now store.now out.old) }
 {
     match scan::scan(list, store, out) {
-        spec::Scanned::Done(written, walked) => {
-            *size = written as u64;
-            *moves = walked;
+        Ok(done) => {
+            *size = done.size as u64;
+            *moves = done.moves;
             0
         }
-        spec::Scanned::Refused(code) => code,
+        Err(refusal) => refusal.number(),
     }
 }
 
@@ -146,12 +161,11 @@ pub extern "C" fn vault_join(
     let before = four(*client0, *client1, *client2, *client3);
     let joined = join::tallied(index, recipes, key, out, before);
     let tally = joined.tally;
-    let outcome = joined.outcome;
     *client0 = tally.client0;
     *client1 = tally.client1;
     *client2 = tally.client2;
     *client3 = tally.client3;
-    told(outcome, count)
+    told(joined.outcome, count)
 }
 
 // ---- queries
@@ -190,7 +204,7 @@ pub extern "C" fn vault_query(
 pub extern "C" fn vault_find_chunk(store: &[u8], key: &[u8]) -> u8
     ensures { result ≡ find_chunk store.now key.now }
 {
-    store::find_chunk(store, key)
+    told_check(store::find_chunk(store, key))
 }
 
 #[unsafe(no_mangle)]
@@ -211,7 +225,7 @@ pub extern "C" fn vault_chunk_length(store: &[u8], key: &[u8]) -> u64
 pub extern "C" fn vault_find_body(index: &[u8], key: &[u8]) -> u8
     ensures { result ≡ find_body (form_of index.now) index.now key.now }
 {
-    index::find_body(index, key)
+    told_check(index::find_body(index, key))
 }
 
 #[unsafe(no_mangle)]
@@ -274,10 +288,9 @@ pub extern "C" fn vault_search(
     let before = four(*client0, *client1, *client2, *client3);
     let answer = search::search(list, store, recipes, key, index, out, before);
     let counts = answer.tally;
-    let searched = answer.searched;
     *client0 = counts.client0;
     *client1 = counts.client1;
     *client2 = counts.client2;
     *client3 = counts.client3;
-    told_search(searched, index_length, count)
+    told_search(answer.searched, index_length, count)
 }

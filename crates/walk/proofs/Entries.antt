@@ -32,7 +32,7 @@ use Rattle.loader.specs.Loaded.{fits_from, Row, row_of, row_end, set_at, Loadabl
 use Rattle.loader.proofs.Loading.{Loaded}
 use Rattle.loader.proofs.Fitting.{good-body-fits}
 use Rattle.spec.specs.Recipes.{named}
-use Rattle.walk.specs.Walking.{no_chunk, chunks_in, chunk_in, first_suffix, width_of, Checked, File, EntryAt, body_end, LoadedEntry, LoadedAt}
+use Rattle.walk.specs.Walking.{no_chunk, chunks_in, chunk_in, first_suffix, width_of, Checked, File, EntryAt, body_end, LoadedEntry, LoadedAt, LoadedPair}
 
 -- ---- a file's chunks
 
@@ -350,3 +350,16 @@ module _ (index file slots : List ℕ) (f : File index file slots) (n : ℕ) whe
             l.none k (omega (arith, a.behind (rw (chunks-length index file) at h)))
             ∙ sym (ap (λ (x : List ChunkRecords). first_suffix x k) (drop_of_length-le chunks h))
         go k u (inr m) = (row k u m).suffix ∙ sym (ap (λ (x : List ChunkRecords). first_suffix x k) (drop-cons chunks n no_chunk m))
+
+-- the entry of a place is one of the index, or the number of entries
+pub entry-known : (index : List ℕ) (opened : Opened) (file slots : List ℕ) → Checked index opened → File index file slots → (n e : ℕ) → EntryAt index file n e
+    → e ≤ opened.entries
+entry-known index opened file slots d f n e a = omega (arith, counts index opened d, entry-most index file slots f n e a)
+
+-- a place that is loaded, and the place behind it
+pub pair-loaded : (index file slots : List ℕ) → File index file slots → (n : ℕ) → n < length file / 20 → (opened : Opened)
+    → (rows : List (List ℕ)) (size : ℕ) → LoadedAt index opened (chunks_in index file) n rows size → (e : ℕ) → EntryAt index file (n + 1) e
+    → (rows' : List (List ℕ)) (size' : ℕ) → LoadedEntry index opened e rows' size'
+    → LoadedPair index opened (chunks_in index file) n rows rows' size size'
+pair-loaded index file slots f n h opened rows size first e a rows' size' l =
+    record { inside = in-chunks index file n h; first = first; second = place-loaded index file slots f (n + 1) e a opened rows' size' l }

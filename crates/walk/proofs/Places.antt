@@ -47,9 +47,6 @@ pub record Crossing (size count : ℕ) (sets : ℕ → ℕ) (here streams : List
       ≡ size ∷ get_or (row_of here m) 2 0 ∷ get_or (row_of here m) 3 0 ∷ (size - get_or (row_of here m) 0 0) ∷ sets m ∷ []
 
 module _ (size count : ℕ) (sets : ℕ → ℕ) (here : List (List ℕ)) where
-  pub crossing-start : (streams : List (List ℕ)) → count ≤ length streams → Crossing size count sets here streams 0 0
-  crossing-start streams l = record { long = l; all = refl; done = λ m h. let z : ⊥ = omega arith in absurd z }
-
   pub crossing_on : (streams : List (List ℕ)) (k x many m : ℕ) → Crossing size count sets here streams k many → k < count → x ≡ sets k
       → m ≡ numbers (size ∷ get_or (row_of here k) 2 0 ∷ get_or (row_of here k) 3 0 ∷ (size - get_or (row_of here k) 0 0) ∷ x ∷ [])
       → Crossing size count sets here
@@ -65,10 +62,6 @@ module _ (size count : ℕ) (sets : ℕ → ℕ) (here : List (List ℕ)) where
             (get_or-set_same streams k new [] (omega (arith, g.long))
             ∙ ap {B = List ℕ} (row k) e);
       }
-
-  pub crossing-end : (streams : List (List ℕ)) (k many : ℕ) → Crossing size count sets here streams k many → k ≡ count
-      → Filled size count sets here streams many
-  crossing-end streams k many g h = record { crossed = record { long = g.long; each = λ m l. g.done m (omega arith) }; all = g.all ∙ ap (total streams) h }
 
   -- the same sets fill the same
   filled-same : (sets' : ℕ → ℕ) (streams : List (List ℕ)) (many : ℕ) → ((k : ℕ) → k < count → sets k ≡ sets' k)

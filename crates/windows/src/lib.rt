@@ -9,7 +9,7 @@ ghost use Rattle.spec.specs.Form.{newest};
 ghost use Rattle.automaton.specs.Walking.{walk_log};
 ghost use Rattle.offset_lists.specs.Patches.{patched};
 ghost use Rattle.offset_lists.specs.Runs.{log_run, cursor, CanList};
-ghost use Rattle.windows.specs.Windows.{window_end, counted_of, CanCount, CanWindow};
+ghost use Rattle.windows.specs.Windows.{counted_of, CanCount, CanWindow};
 
 // What a walk counts: its last node, its moves, how many entries were logged, and their tally.
 #[derive(Drop)]
@@ -20,121 +20,85 @@ pub struct Counted {
     pub tally: logs::Tally,
 }
 
+// What the walk of a chunk goes by: the keyword list, read; its automaton's table; and for each node the keywords that end there, and the longest
+// beginnings that end there.
+#[derive(Clone, Copy)]
+pub struct Machine<'a> {
+    pub list: &'a [u8],
+    pub words: keywords::Keywords,
+    pub table: &'a [u32],
+    pub ends: &'a [u32],
+    pub tails: &'a [u8],
+}
+
 // The most bytes of a window.
 pub const WINDOW: usize = 65536;
 
-// Where the window from `at` on ends, in a chunk of the size.
-fn window_end(at: usize, size: usize) -> usize
-    requires { at ≤ size }
-    ensures { result ≡ window_end at size }
-{
-    if size - at <= WINDOW {
-        return size;
-    }
-    at + WINDOW
-}
-
 // Walks a window from the node on and counts it; `at` is the place of its first byte. The log's entries are written at its start.
 pub fn count_window(
-    list: &[u8],
-    words: keywords::Keywords,
+    m: &Machine,
     node: usize,
     bytes: &[u8],
     at: usize,
-    table: &[u32],
-    ends: &[u32],
     log: &mut [u32],
     run1: &mut [u32],
     run2: &mut [u32],
     run3: &mut [u32],
 ) -> Counted
-    requires { CanCount list.now words node bytes.now at table.now ends.now log.old run1.old run2.old run3.old }
-    ensures answer { result ≡ counted_of list.now ends.now words.len node bytes.now at }
-    ensures entries { log.new ≡ written log.old (walk_log list.now node bytes.now at) }
+    requires { CanCount m.now.list.now m.now.words node bytes.now at m.now.table.now m.now.ends.now log.old run1.old run2.old run3.old }
+    ensures answer { result ≡ counted_of m.now.list.now m.now.ends.now m.now.words.len node bytes.now at }
+    ensures entries { log.new ≡ written log.old (walk_log m.now.list.now node bytes.now at) }
 {
-    let w = automaton_lanes::walk_lanes(list, table, node, bytes, at, log, run1, run2, run3);
-    let len = words.len;
-    let tally = logs::tally_of(&log[..w.logged], ends, &len);
+    let w = automaton_lanes::walk_lanes(m.list, m.table, node, bytes, at, log, run1, run2, run3);
+    let tally = logs::tally_of(&log[..w.logged], m.ends, &m.words.len);
     Counted {
         node: w.node,
         moves: w.moves,
         logged: w.logged,
-        tally: tally,
+        tally,
     }
 }
 
 // Walks a chunk from the root, window by window, and counts it.
 pub fn count(
-    list: &[u8],
-    words: keywords::Keywords,
+    m: &Machine,
     chunk: &[u8],
-    table: &[u32],
-    ends: &[u32],
     log: &mut [u32],
     run1: &mut [u32],
     run2: &mut [u32],
     run3: &mut [u32],
 ) -> Counted
-    requires { CanWindow list.now words chunk.now table.now ends.now log.old run1.old run2.old run3.old }
-    ensures { result ≡ counted_of list.now ends.now words.len 0 chunk.now 0 }
+    requires { CanWindow m.now.list.now m.now.words chunk.now m.now.table.now m.now.ends.now log.old run1.old run2.old run3.old }
+    ensures { result ≡ counted_of m.now.list.now m.now.ends.now m.now.words.len 0 chunk.now 0 }
 {
-    let size = chunk.len();
-    let mut at = window_end(0, size);
-    let one = count_window(
-        list,
-        words,
-        0,
-        &chunk[..at],
-        0,
-        table,
-        ends,
-        log,
-        run1,
-        run2,
-        run3,
-    );
+    let (first, rest) = chunk.split_at(chunk.len().min(WINDOW));
+    let one = count_window(m, 0, first, 0, log, run1, run2, run3);
+    let mut at = first.len();
     let mut node = one.node;
     let mut moves = one.moves;
     let mut logged = one.logged;
     let mut tally = one.tally;
-    while at < size {
-        let end = window_end(at, size);
-        let w = count_window(
-            list,
-            words,
-            node,
-            &chunk[at..end],
-            at,
-            table,
-            ends,
-            log,
-            run1,
-            run2,
-            run3,
-        );
+    for window in rest.chunks(WINDOW) {
+        let w = count_window(m, node, window, at, log, run1, run2, run3);
+        at += window.len();
         node = w.node;
         moves += w.moves;
         logged += w.logged;
-        let more = w.tally;
-        tally = logs::tally_with(tally, more);
-        at = end;
+        tally = logs::tally_with(tally, w.tally);
     }
     Counted {
-        node: node,
-        moves: moves,
-        logged: logged,
-        tally: tally,
+        node,
+        moves,
+        logged,
+        tally,
     }
 }
 
 // Walks a chunk that was counted again, window by window, and writes the offsets of each keyword from its place on.
 pub fn fill(
     out: &mut [u8],
-    list: &[u8],
-    words: keywords::Keywords,
+    m: &Machine,
     chunk: &[u8],
-    table: &[u32],
-    ends: &[u32],
     log: &mut [u32],
     run1: &mut [u32],
     run2: &mut [u32],
@@ -142,32 +106,23 @@ pub fn fill(
     tally: logs::Tally,
     started: records::Started,
 )
-    requires { CanWindow list.now words chunk.now table.now ends.now log.old run1.old run2.old run3.old
-        × CanList words (log_run newest tally.counts words.len ends.now (walk_log list.now 0 chunk.now 0)) out.old started.cursors
-        tally.counts }
-    ensures { out.new ≡ patched words.count (cursor started.cursors) (log_run newest tally.counts words.len
-        ends.now (walk_log list.now 0 chunk.now 0)) out.old }
+    requires { CanWindow m.now.list.now m.now.words chunk.now m.now.table.now m.now.ends.now log.old
+        run1.old run2.old run3.old
+        × CanList m.now.words (log_run newest tally.counts m.now.words.len m.now.ends.now
+        (walk_log m.now.list.now 0 chunk.now 0)) out.old started.cursors tally.counts }
+    ensures { out.new ≡ patched m.now.words.count (cursor started.cursors) (log_run newest tally.counts
+        m.now.words.len m.now.ends.now (walk_log m.now.list.now 0 chunk.now 0)) out.old }
 {
-    let size = chunk.len();
-    let counts = tally.counts;
     let mut cursors = started.cursors;
-    let mut node: usize = 0;
     let mut at: usize = 0;
-    while at < size {
-        let end = window_end(at, size);
+    let mut node: usize = 0;
+    for window in chunk.chunks(WINDOW) {
         let w = automaton_lanes::walk_lanes(
-            list,
-            table,
-            node,
-            &chunk[at..end],
-            at,
-            log,
-            run1,
-            run2,
-            run3,
+            m.list, m.table, node, window, at, log, run1, run2, run3,
         );
-        offset_lists::put_log(out, &mut cursors, words, &counts, ends, &log[..w.logged]);
+        let entries = &log[..w.logged];
+        offset_lists::put_log(out, &mut cursors, m.words, &tally.counts, m.ends, entries);
+        at += window.len();
         node = w.node;
-        at = end;
     }
 }

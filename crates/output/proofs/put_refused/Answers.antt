@@ -13,13 +13,14 @@ put_word-a-requires c =
 
 pub put_number-requires : goal.put_number-requires
 put_number-requires c =
-    room_next c.args.out.now c.put_word-a.new.out 0 c.put_word-a.result
+    rw c.from.ensures
+    (room_next c.args.out.now c.put_word-a.new.out 0 c.put_word-a.result
     (refused_text c.args.code) (refused_word ++ (0x20 ∷ [])) (decimal c.args.code ++ (0x0A ∷ []))
-    (refused-runs c.args.code) c.requires c.put_word-a.ensures
+    (refused-runs c.args.code) c.requires c.put_word-a.ensures)
 
 pub returns : goal.returns
 returns c =
     puts-next c.args.out.now c.put_word-a.new.out 0 c.put_word-a.result
     (refused_text c.args.code) (refused_word ++ (0x20 ∷ [])) (decimal c.args.code ++ (0x0A ∷ []))
     (refused-runs c.args.code) c.requires c.put_word-a.ensures
-    c.put_number.new.out c.put_number.result c.put_number.ensures
+    c.put_number.new.out c.put_number.result (rw c.from.ensures at c.put_number.ensures)
