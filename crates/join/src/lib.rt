@@ -42,7 +42,7 @@ fn list_files(
             place,
             has_rows: made.has_rows[number],
         };
-        place = walk::list_file(source, listing, file, out);
+        place = walk::list_file(&source, listing, file, out);
         at += 4 + file.len();
     }
 }

@@ -39,22 +39,22 @@ fn prepare(index: &[u8], recipes: &[u8], chains: &mut [u32]) -> Result<(), Refus
 // How many rows a file has in the answer: its occurrences, which are added to their keywords' counts (request #110), or for a query (request #109)
 // its line, if it has one.
 fn rows_in(
-    source: walk::Source,
+    source: &walk::Source,
     choosing: walk::Choosing,
     file: &[u8],
     slots: &[u32],
     query: &[u8],
     counts: &mut [usize],
 ) -> usize
-    requires directory { Directory source.index.now source.opened source.chains.now
-        × (source.tables.now ≡ tables_of (folded_keywords (list_in source.index.now))) }
-    requires file { File source.index.now file.now slots.now }
-    requires query_len_bound { (length query.now ≤ 8) × (choosing.lengths ≡ written (replicate 16 0) (lengths_in source.index.now)) }
+    requires directory { Directory source.now.index.now source.now.opened source.now.chains.now
+        × (source.now.tables.now ≡ tables_of (folded_keywords (list_in source.now.index.now))) }
+    requires file { File source.now.index.now file.now slots.now }
+    requires query_len_bound { (length query.now ≤ 8) × (choosing.lengths ≡ written (replicate 16 0) (lengths_in source.now.index.now)) }
     requires counts_len { (length counts.old ≡ 16) × ((k : ℕ) → k < 16 → get_or counts.old k 0 < 2 ^ 62) }
-    ensures { (result ≡ rows (lengths_in source.entry.index.now) query.now choosing.number
-        (file_list choosing.number source.entry.index.now file.now))
+    ensures { (result ≡ rows (lengths_in source.now.index.now) query.now choosing.number
+        (file_list choosing.number source.now.index.now file.now))
         × (counts.new ≡ sums counts.old
-        (keyword_counts (counted query.now (file_list choosing.number source.entry.index.now file.now)))) }
+        (keyword_counts (counted query.now (file_list choosing.number source.now.index.now file.now)))) }
 {
     if query.is_empty() {
         return walk::count_file(source, file, slots, counts);
@@ -101,7 +101,7 @@ fn survey_files(
         let file = recipes::file_at(recipes, at);
         files::check_file(file, index, opened, chains, &mut slots)?;
         let choosing = walk::Choosing { number: k, lengths };
-        let n = rows_in(source, choosing, file, &slots, query, &mut counts);
+        let n = rows_in(&source, choosing, file, &slots, query, &mut counts);
         has_rows[k] = n != 0;
         total += n;
         at += 4 + file.len();

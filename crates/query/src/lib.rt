@@ -40,21 +40,22 @@ struct Lining {
 
 // Writes the line of a file that has one, and returns the place behind. Every place is looked up.
 fn write_line(
-    source: walk::Source,
+    source: &walk::Source,
     lining: Lining,
     file: &[u8],
     query: &[u8],
     out: &mut [u8],
 ) -> usize
-    requires file_value { lining.has_line ≡ false → file_line source.index.now query.now lining.number file.now ≡ [] }
-    requires directory { Directory source.index.now source.opened source.chains.now
-        × (source.tables.now ≡ tables_of (folded_keywords (list_in source.index.now))) }
-    requires file { File source.index.now file.now [] × (length query.now ≤ 8) × (lining.lengths ≡ written (replicate 16 0) (lengths_in source.index.now)) }
-    requires file_in_bounds { lining.place + line_size query.now * length (file_line source.index.now query.now lining.number file.now) ≤ length out.old }
+    requires file_value { lining.has_line ≡ false → file_line source.now.index.now query.now lining.number file.now ≡ [] }
+    requires directory { Directory source.now.index.now source.now.opened source.now.chains.now
+        × (source.now.tables.now ≡ tables_of (folded_keywords (list_in source.now.index.now))) }
+    requires file { File source.now.index.now file.now [] × (length query.now ≤ 8)
+        × (lining.lengths ≡ written (replicate 16 0) (lengths_in source.now.index.now)) }
+    requires file_in_bounds { lining.place + line_size query.now * length (file_line source.now.index.now query.now lining.number file.now) ≤ length out.old }
     ensures { (result ≡ lining.place + line_size query.now
-        * length (file_line source.entry.index.now query.now lining.number file.now))
+        * length (file_line source.now.index.now query.now lining.number file.now))
         × (out.new ≡ splice out.old lining.place
-        (lines_bytes (file_line source.entry.index.now query.now lining.number file.now))) }
+        (lines_bytes (file_line source.now.index.now query.now lining.number file.now))) }
 {
     let Lining {
         lengths,
@@ -111,7 +112,7 @@ fn write_lines(
             place,
             has_line: made.has_rows[number],
         };
-        place = write_line(source, lining, file, query, out);
+        place = write_line(&source, lining, file, query, out);
         at += 4 + file.len();
     }
 }

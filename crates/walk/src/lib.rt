@@ -34,10 +34,10 @@ pub struct Source<'a> {
 }
 
 // The entry of place n of a file; the number of entries behind the last place.
-fn entry_at(source: Source, file: &[u8], slots: &[u32], n: usize) -> usize
-    requires directory { Directory source.index.now source.opened source.chains.now }
-    requires file { File source.index.now file.now slots.now }
-    ensures { EntryAt source.entry.index.now file.now n result }
+fn entry_at(source: &Source, file: &[u8], slots: &[u32], n: usize) -> usize
+    requires directory { Directory source.now.index.now source.now.opened source.now.chains.now }
+    requires file { File source.now.index.now file.now slots.now }
+    ensures { EntryAt source.now.index.now file.now n result }
 {
     if file.len() / 20 <= n {
         return source.opened.entries;
@@ -49,11 +49,11 @@ fn entry_at(source: Source, file: &[u8], slots: &[u32], n: usize) -> usize
 }
 
 // Loads the rows of entry e, and returns its chunk's size. Behind the last entry nothing is to be crossed into.
-fn load(source: Source, e: usize, rows: &mut [[usize; 4]; 16]) -> usize
-    requires { Checked source.index.now source.opened × (e ≤ source.opened.entries) × (source.opened.keywords ≤ length rows.old) }
-    ensures { LoadedEntry source.entry.index.now source.entry.opened e rows.new result }
+fn load(source: &Source, e: usize, rows: &mut [[usize; 4]; 16]) -> usize
+    requires { Checked source.now.index.now source.now.opened × (e ≤ source.now.opened.entries) × (source.now.opened.keywords ≤ length rows.old) }
+    ensures { LoadedEntry source.now.index.now source.now.opened e rows.new result }
 {
-    let Source { index, opened, .. } = source;
+    let Source { index, opened, .. } = *source;
     if opened.entries <= e {
         let none = [[0usize; 4]; 16];
         *rows = none;
@@ -67,12 +67,12 @@ fn load(source: Source, e: usize, rows: &mut [[usize; 4]; 16]) -> usize
 }
 
 // The set of keyword k in entry e, which lies behind its row's record.
-fn inner_at(source: Source, e: usize, rows: &[[usize; 4]; 16], k: usize) -> u32
-    requires checked { Checked source.index.now source.opened × (e < source.opened.entries) × (k < source.opened.keywords) }
-    requires sets_behind { SetsBehind source.index.now source.opened e rows.now }
-    ensures { result ≡ (record_at (index_records (form_of source.entry.index.now) source.entry.index.now e) k).inner }
+fn inner_at(source: &Source, e: usize, rows: &[[usize; 4]; 16], k: usize) -> u32
+    requires checked { Checked source.now.index.now source.now.opened × (e < source.now.opened.entries) × (k < source.now.opened.keywords) }
+    requires sets_behind { SetsBehind source.now.index.now source.now.opened e rows.now }
+    ensures { result ≡ (record_at (index_records (form_of source.now.index.now) source.now.index.now e) k).inner }
 {
-    let Source { index, opened, .. } = source;
+    let Source { index, opened, .. } = *source;
     let entry = opened.directory + 32 * e;
     let from = field::read(index, entry + 24, 4) as usize;
     let long = field::read(index, entry + 28, 4) as usize;
@@ -88,12 +88,12 @@ struct Start {
 }
 
 // The starts of a keyword that cross the end of a place, over as many places as it takes: each start is carried on until it ends, or no longer can.
-fn crossing(source: Source, start: Start, file: &[u8], slots: &[u32]) -> u32
-    requires directory { Directory source.index.now source.opened source.chains.now }
-    requires tables_value { source.tables.now ≡ tables_of (folded_keywords (list_in source.index.now)) }
-    requires file { File source.index.now file.now slots.now × Startable source.index.now start.keyword start.prefix }
-    ensures { result ≡ crossing_set (keyword_at (folded_keywords (list_in source.entry.index.now)) start.keyword) start.keyword start.prefix
-        (drop start.place (chunks_in source.entry.index.now file.now)) }
+fn crossing(source: &Source, start: Start, file: &[u8], slots: &[u32]) -> u32
+    requires directory { Directory source.now.index.now source.now.opened source.now.chains.now }
+    requires tables_value { source.now.tables.now ≡ tables_of (folded_keywords (list_in source.now.index.now)) }
+    requires file { File source.now.index.now file.now slots.now × Startable source.now.index.now start.keyword start.prefix }
+    ensures { result ≡ crossing_set (keyword_at (folded_keywords (list_in source.now.index.now)) start.keyword) start.keyword start.prefix
+        (drop start.place (chunks_in source.now.index.now file.now)) }
 {
     let tables = source.tables;
     let k = start.keyword;
@@ -157,19 +157,19 @@ struct Here {
 
 // The same where a keyword may go on over the next place.
 fn cross_over(
-    source: Source,
+    source: &Source,
     spot: Here,
     file: &[u8],
     slots: &[u32],
     here: &[[usize; 4]; 16],
     streams: &mut [[usize; 5]; 16],
 ) -> usize
-    requires directory { Directory source.index.now source.opened source.chains.now
-        × (source.tables.now ≡ tables_of (folded_keywords (list_in source.index.now))) }
-    requires file { File source.index.now file.now slots.now × (source.opened.keywords ≤ length streams.old) }
-    requires prefixed { Prefixed source.index.now spot.size source.opened.keywords here.now × (spot.place < 2 ^ 63) }
-    ensures { Filled spot.size source.entry.opened.keywords (crossings (folded_keywords (list_in source.entry.index.now)) here.now
-        (drop (spot.place + 1) (chunks_in source.entry.index.now file.now))) here.now streams.new result }
+    requires directory { Directory source.now.index.now source.now.opened source.now.chains.now
+        × (source.now.tables.now ≡ tables_of (folded_keywords (list_in source.now.index.now))) }
+    requires file { File source.now.index.now file.now slots.now × (source.now.opened.keywords ≤ length streams.old) }
+    requires prefixed { Prefixed source.now.index.now spot.size source.now.opened.keywords here.now × (spot.place < 2 ^ 63) }
+    ensures { Filled spot.size source.now.opened.keywords (crossings (folded_keywords (list_in source.now.index.now)) here.now
+        (drop (spot.place + 1) (chunks_in source.now.index.now file.now))) here.now streams.new result }
 {
     let size = spot.size;
     let place = spot.place + 1;
@@ -200,20 +200,20 @@ struct Ahead {
 
 // Fills the streams of a place from its rows, and loads the rows of the place behind it.
 fn fill(
-    source: Source,
+    source: &Source,
     spot: Here,
     file: &[u8],
     slots: &[u32],
     rows: &mut [[usize; 4]; 16],
     streams: &mut [[usize; 5]; 16],
 ) -> Ahead
-    requires directory { Directory source.index.now source.opened source.chains.now
-        × (source.tables.now ≡ tables_of (folded_keywords (list_in source.index.now))) }
-    requires file { File source.index.now file.now slots.now × (spot.place < length file.now / 20) × (source.opened.keywords ≤ length streams.old) }
-    requires loaded_at { LoadedAt source.index.now source.opened (chunks_in source.index.now file.now) spot.place rows.old spot.size }
-    ensures { LoadedAt source.entry.index.now source.entry.opened (chunks_in source.entry.index.now file.now) (spot.place + 1)
-        rows.new result.size × Filled spot.size source.entry.opened.keywords (crossings (folded_keywords (list_in source.entry.index.now)) rows.old
-        (drop (spot.place + 1) (chunks_in source.entry.index.now file.now))) rows.old streams.new result.many }
+    requires directory { Directory source.now.index.now source.now.opened source.now.chains.now
+        × (source.now.tables.now ≡ tables_of (folded_keywords (list_in source.now.index.now))) }
+    requires file { File source.now.index.now file.now slots.now × (spot.place < length file.now / 20) × (source.now.opened.keywords ≤ length streams.old) }
+    requires loaded_at { LoadedAt source.now.index.now source.now.opened (chunks_in source.now.index.now file.now) spot.place rows.old spot.size }
+    ensures { LoadedAt source.now.index.now source.now.opened (chunks_in source.now.index.now file.now) (spot.place + 1)
+        rows.new result.size × Filled spot.size source.now.opened.keywords (crossings (folded_keywords (list_in source.now.index.now)) rows.old
+        (drop (spot.place + 1) (chunks_in source.now.index.now file.now))) rows.old streams.new result.many }
 {
     let opened = source.opened;
     let size = spot.size;
@@ -229,13 +229,13 @@ fn fill(
 }
 
 // How many occurrences a file has; each keyword's are added to its count (request #110).
-pub fn count_file(source: Source, file: &[u8], slots: &[u32], counts: &mut [usize]) -> usize
-    requires directory { Directory source.index.now source.opened source.chains.now }
-    requires tables_value { source.tables.now ≡ tables_of (folded_keywords (list_in source.index.now)) }
-    requires file { File source.index.now file.now slots.now }
+pub fn count_file(source: &Source, file: &[u8], slots: &[u32], counts: &mut [usize]) -> usize
+    requires directory { Directory source.now.index.now source.now.opened source.now.chains.now }
+    requires tables_value { source.now.tables.now ≡ tables_of (folded_keywords (list_in source.now.index.now)) }
+    requires file { File source.now.index.now file.now slots.now }
     requires counts_len { (length counts.old ≡ 16) × ((k : ℕ) → k < 16 → get_or counts.old k 0 < 2 ^ 62) }
-    ensures { (result ≡ length (file_list 0 source.entry.index.now file.now))
-        × (counts.new ≡ sums counts.old (keyword_counts (file_list 0 source.entry.index.now file.now))) }
+    ensures { (result ≡ length (file_list 0 source.now.index.now file.now))
+        × (counts.new ≡ sums counts.old (keyword_counts (file_list 0 source.now.index.now file.now))) }
 {
     let opened = source.opened;
     let mut rows = [[0usize; 4]; 16];
@@ -277,14 +277,14 @@ pub struct Listing {
 }
 
 // Lists the occurrences of a file, from a place of the buffer on, and returns the place behind. Every place is looked up.
-pub fn list_file(source: Source, listing: Listing, file: &[u8], out: &mut [u8]) -> usize
-    requires file_value { listing.has_rows ≡ false → file_list listing.number source.index.now file.now ≡ [] }
-    requires directory { Directory source.index.now source.opened source.chains.now }
-    requires tables_value { source.tables.now ≡ tables_of (folded_keywords (list_in source.index.now)) }
-    requires file { File source.index.now file.now [] }
-    requires file_in_bounds { listing.place + 9 * length (file_list listing.number source.index.now file.now) ≤ length out.old }
-    ensures { (result ≡ listing.place + 9 * length (file_list listing.number source.entry.index.now file.now))
-        × (out.new ≡ splice out.old listing.place (list_bytes (file_list listing.number source.entry.index.now file.now))) }
+pub fn list_file(source: &Source, listing: Listing, file: &[u8], out: &mut [u8]) -> usize
+    requires file_value { listing.has_rows ≡ false → file_list listing.number source.now.index.now file.now ≡ [] }
+    requires directory { Directory source.now.index.now source.now.opened source.now.chains.now }
+    requires tables_value { source.now.tables.now ≡ tables_of (folded_keywords (list_in source.now.index.now)) }
+    requires file { File source.now.index.now file.now [] }
+    requires file_in_bounds { listing.place + 9 * length (file_list listing.number source.now.index.now file.now) ≤ length out.old }
+    ensures { (result ≡ listing.place + 9 * length (file_list listing.number source.now.index.now file.now))
+        × (out.new ≡ splice out.old listing.place (list_bytes (file_list listing.number source.now.index.now file.now))) }
 {
     if !listing.has_rows {
         return listing.place;
@@ -341,17 +341,17 @@ pub struct Choosing {
 // The earliest choice of a file's occurrences for a query (request #109), as far as there is one. No place is looked at behind the one that
 // completes it.
 pub fn choose_file(
-    source: Source,
+    source: &Source,
     choosing: Choosing,
     file: &[u8],
     slots: &[u32],
     query: &[u8],
 ) -> listing::Choice
-    requires directory { Directory source.index.now source.opened source.chains.now
-        × (source.tables.now ≡ tables_of (folded_keywords (list_in source.index.now))) }
-    requires file { File source.index.now file.now slots.now }
+    requires directory { Directory source.now.index.now source.now.opened source.now.chains.now
+        × (source.now.tables.now ≡ tables_of (folded_keywords (list_in source.now.index.now))) }
+    requires file { File source.now.index.now file.now slots.now }
     requires query_len_bound { (length query.now ≤ 8) × (length choosing.lengths ≡ 16) × ((k : ℕ) → k < 16 → get_or choosing.lengths k 0 ≤ 32) }
-    ensures { result ≡ chosen_from choosing.lengths query.now (file_list choosing.number source.entry.index.now file.now) no_choice }
+    ensures { result ≡ chosen_from choosing.lengths query.now (file_list choosing.number source.now.index.now file.now) no_choice }
 {
     let opened = source.opened;
     let lengths = choosing.lengths;

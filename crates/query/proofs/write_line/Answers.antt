@@ -16,12 +16,12 @@ use Rattle.query.proofs.write_line.Goals as goal
 pub returns-then-not-has_line : goal.returns-then-not-has_line
 returns-then-not-has_line c =
     let a = c.args in
-    lined-none (lengths_in a.source.index.now) a.query.now a.lining.number (file_list a.lining.number a.source.index.now a.file.now) a.lining.place
+    lined-none (lengths_in a.source.now.index.now) a.query.now a.lining.number (file_list a.lining.number a.source.now.index.now a.file.now) a.lining.place
     (c.requires.file_value c.if-not-has_line.true) a.out.now
 
 pub choose_file-choice-requires-clause-query_len_bound : goal.choose_file-choice-requires-clause-query_len_bound
 choose_file-choice-requires-clause-query_len_bound c =
-    let small = lengths-small c.args.source.index.now c.requires.directory.0.checked.good c.args.lining.lengths c.requires.file.2 in
+    let small = lengths-small c.args.source.now.index.now c.requires.directory.0.checked.good c.args.lining.lengths c.requires.file.2 in
     (c.requires.file.1, small.0, small.1)
 
 -- the choice is the earliest
@@ -36,9 +36,9 @@ returns-then-choice-query c =
     let a = c.args in
     let l = a.lining in
     let k = c.choose_file-choice in
-    let chosen = chose a.source.index.now a.file.now a.query.now l.lengths l.number a.source.opened
+    let chosen = chose a.source.now.index.now a.file.now a.query.now l.lengths l.number a.source.now.opened
     c.requires.directory.0.checked c.requires.file.1 c.requires.file.2 k.result k.ensures in
-    lined-not (lengths_in a.source.index.now) a.query.now l.number (file_list l.number a.source.index.now a.file.now) l.place k.result chosen
+    lined-not (lengths_in a.source.now.index.now) a.query.now l.number (file_list l.number a.source.now.index.now a.file.now) l.place k.result chosen
     c.if-choice-query.true a.out.now
 
 -- there is room for a line
@@ -57,8 +57,9 @@ write-requires c =
     let a = c.args in
     let l = a.lining in
     let k = c.choose_file-choice in
-    let free = room a.source.index.now a.file.now a.query.now l.lengths l.number a.source.opened
-    c.requires.directory.0.checked c.requires.file.1 c.requires.file.2 k.result k.ensures c.if-choice-query.false l.place (length a.out.now) c.requires.file_in_bounds in
+    let free = room a.source.now.index.now a.file.now a.query.now l.lengths l.number a.source.now.opened
+    c.requires.directory.0.checked c.requires.file.1 c.requires.file.2 k.result k.ensures
+    c.if-choice-query.false l.place (length a.out.now) c.requires.file_in_bounds in
     omega (arith, free.0)
 
 pub put_offsets-requires : goal.put_offsets-requires
@@ -66,8 +67,9 @@ put_offsets-requires c =
     let a = c.args in
     let l = a.lining in
     let k = c.choose_file-choice in
-    let free = room a.source.index.now a.file.now a.query.now l.lengths l.number a.source.opened
-    c.requires.directory.0.checked c.requires.file.1 c.requires.file.2 k.result k.ensures c.if-choice-query.false l.place (length a.out.now) c.requires.file_in_bounds in
+    let free = room a.source.now.index.now a.file.now a.query.now l.lengths l.number a.source.now.opened
+    c.requires.directory.0.checked c.requires.file.1 c.requires.file.2 k.result k.ensures
+    c.if-choice-query.false l.place (length a.out.now) c.requires.file_in_bounds in
     omega (arith, free.0, free.1, c.write.auto.out)
 
 pub returns : goal.returns
@@ -75,7 +77,7 @@ returns c =
     let a = c.args in
     let l = a.lining in
     let k = c.choose_file-choice in
-    let chosen = chose a.source.index.now a.file.now a.query.now l.lengths l.number a.source.opened
+    let chosen = chose a.source.now.index.now a.file.now a.query.now l.lengths l.number a.source.now.opened
     c.requires.directory.0.checked c.requires.file.1 c.requires.file.2 k.result k.ensures in
-    lined-whole (lengths_in a.source.index.now) a.query.now l.number (file_list l.number a.source.index.now a.file.now) l.place k.result chosen
+    lined-whole (lengths_in a.source.now.index.now) a.query.now l.number (file_list l.number a.source.now.index.now a.file.now) l.place k.result chosen
     c.if-choice-query.false a.out.now c.write.new.out c.put_offsets.new.out (omega arith) c.write.ensures c.put_offsets.ensures

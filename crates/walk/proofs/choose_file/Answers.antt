@@ -10,40 +10,40 @@ use Rattle.walk.proofs.choose_file.Goals.{After-fill-ahead}
 use Rattle.walk.proofs.choose_file.Goals as goal
 
 -- the file's chunks are in range
-ranges : (c : After-fill-ahead) → AllGood (folded_keywords (list_in c.args.source.index.now)) (chunks_in c.args.source.index.now c.args.file.now)
+ranges : (c : After-fill-ahead) → AllGood (folded_keywords (list_in c.args.source.now.index.now)) (chunks_in c.args.source.now.index.now c.args.file.now)
 ranges c = all-good _ c.requires.directory.0.checked.good _ _ c.requires.file
 
 -- the place is loaded, and the place behind it
-pair : (c : After-fill-ahead) → LoadedPair c.args.source.index.now c.args.source.opened (chunks_in c.args.source.index.now c.args.file.now) c.loop-n.n
-    c.loop-n.rows c.fill-ahead.new.rows c.loop-n.size c.fill-ahead.result.size
+pair : (c : After-fill-ahead) → LoadedPair c.args.source.now.index.now c.args.source.now.opened
+    (chunks_in c.args.source.now.index.now c.args.file.now) c.loop-n.n c.loop-n.rows c.fill-ahead.new.rows c.loop-n.size c.fill-ahead.result.size
 pair c = record { inside = in-chunks _ _ _ c.loop-n-test.true; first = c.loop-n.invariant.1; second = c.fill-ahead.ensures.0 }
 
 pub load-size-requires : goal.load-size-requires
 load-size-requires c = (
   c.requires.directory.0.checked,
-  entry-known _ c.args.source.opened _ _ c.requires.directory.0.checked c.requires.file _ _ c.entry_at-start.ensures,
-  few _ c.args.source.opened c.requires.directory.0.checked,
+  entry-known _ c.args.source.now.opened _ _ c.requires.directory.0.checked c.requires.file _ _ c.entry_at-start.ensures,
+  few _ c.args.source.now.opened c.requires.directory.0.checked,
 )
 
 pub loop-n-init : goal.loop-n-init
 loop-n-init c = (
-  few _ c.args.source.opened c.requires.directory.0.checked,
-  place-loaded _ _ _ c.requires.file _ c.entry_at-start.result c.entry_at-start.ensures c.args.source.opened _ _ c.load-size.ensures,
-  choosing-start c.args.source.index.now c.args.file.now c.args.choosing.number c.args.choosing.lengths c.args.query.now _ c.requires.file _
+  few _ c.args.source.now.opened c.requires.directory.0.checked,
+  place-loaded _ _ _ c.requires.file _ c.entry_at-start.result c.entry_at-start.ensures c.args.source.now.opened _ _ c.load-size.ensures,
+  choosing-start c.args.source.now.index.now c.args.file.now c.args.choosing.number c.args.choosing.lengths c.args.query.now _ c.requires.file _
       c.nothing_chosen-choice.ensures,
 )
 
 pub returns-then-query-choice : goal.returns-then-query-choice
 returns-then-query-choice c =
-    choosing-done c.args.source.index.now c.args.file.now c.args.choosing.number c.args.choosing.lengths c.args.query.now _ _ _ c.if-query-choice.true
+    choosing-done c.args.source.now.index.now c.args.file.now c.args.choosing.number c.args.choosing.lengths c.args.query.now _ _ _ c.if-query-choice.true
     c.loop-n.invariant.2
 
 pub choose_place-choice-requires-clause-count_nonzero : goal.choose_place-choice-requires-clause-count_nonzero
 choose_place-choice-requires-clause-count_nonzero c =
     let f = (goal.at.choose_place-choice-requires-clause-count_nonzero c).After-fill-ahead in (
-      nonempty _ c.args.source.opened c.requires.directory.0.checked,
-      few _ c.args.source.opened c.requires.directory.0.checked,
-      omega (arith, narrow _ c.args.source.opened c.requires.directory.0.checked),
+      nonempty _ c.args.source.now.opened c.requires.directory.0.checked,
+      few _ c.args.source.now.opened c.requires.directory.0.checked,
+      omega (arith, narrow _ c.args.source.now.opened c.requires.directory.0.checked),
       omega (
         arith,
         choosing-fits _ _ _ c.requires.directory.0.checked (ranges f) _ _ _ _ _ (pair f) c.args.choosing.number c.args.choosing.lengths
@@ -69,5 +69,5 @@ loop-n-preserved c =
 
 pub returns : goal.returns
 returns c =
-    choosing-end c.args.source.index.now c.args.file.now c.args.choosing.number c.args.choosing.lengths c.args.query.now _ _ _
-    (out-chunks c.args.source.index.now c.args.file.now c.loop-n.n c.loop-n-test.false) c.loop-n.invariant.2
+    choosing-end c.args.source.now.index.now c.args.file.now c.args.choosing.number c.args.choosing.lengths c.args.query.now _ _ _
+    (out-chunks c.args.source.now.index.now c.args.file.now c.loop-n.n c.loop-n-test.false) c.loop-n.invariant.2

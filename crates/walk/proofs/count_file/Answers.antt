@@ -9,17 +9,18 @@ use Rattle.walk.proofs.count_file.Goals.{After-load-after, Joined-opened-after, 
 use Rattle.walk.proofs.count_file.Goals as goal
 
 -- the file's chunks are in range
-ranges : (c : After-load-after) → AllGood (folded_keywords (list_in c.args.source.index.now)) (chunks_in c.args.source.index.now c.args.file.now)
+ranges : (c : After-load-after) → AllGood (folded_keywords (list_in c.args.source.now.index.now)) (chunks_in c.args.source.now.index.now c.args.file.now)
 ranges c = all-good _ c.requires.directory.checked.good _ _ c.requires.file
 
 -- the place is loaded, and the place behind it
-pair : (c : After-load-after) → LoadedPair c.args.source.index.now c.args.source.opened (chunks_in c.args.source.index.now c.args.file.now) c.loop-n.n
-    c.loop-n.rows c.load-after.new.rows c.loop-n.size c.load-after.result
+pair : (c : After-load-after) → LoadedPair c.args.source.now.index.now c.args.source.now.opened
+    (chunks_in c.args.source.now.index.now c.args.file.now) c.loop-n.n c.loop-n.rows c.load-after.new.rows c.loop-n.size c.load-after.result
 pair c = pair-loaded _ _ _ c.requires.file _ c.loop-n-test.true _ _ _ c.loop-n.invariant.1 c.entry_at-e.result c.entry_at-e.ensures _ _ c.load-after.ensures
 
 -- its streams are filled, in the one way or the other
-filled : (c : Joined-opened-after) → Filled c.loop-n.size c.args.source.opened.keywords
-    (crossings (folded_keywords (list_in c.args.source.index.now)) c.loop-n.rows (drop (c.loop-n.n + 1) (chunks_in c.args.source.index.now c.args.file.now)))
+filled : (c : Joined-opened-after) → Filled c.loop-n.size c.args.source.now.opened.keywords
+    (crossings (folded_keywords (list_in c.args.source.now.index.now)) c.loop-n.rows
+    (drop (c.loop-n.n + 1) (chunks_in c.args.source.now.index.now c.args.file.now)))
     c.loop-n.rows c.if-opened-after.streams c.if-opened-after.many
 filled c = elim c.if-opened-after.branch [
   | then-opened-after w ↦
@@ -33,29 +34,29 @@ filled c = elim c.if-opened-after.branch [
 pub load-size-requires : goal.load-size-requires
 load-size-requires c = (
   c.requires.directory.checked,
-  entry-known _ c.args.source.opened _ _ c.requires.directory.checked c.requires.file _ _ c.entry_at-start.ensures,
-  few _ c.args.source.opened c.requires.directory.checked,
+  entry-known _ c.args.source.now.opened _ _ c.requires.directory.checked c.requires.file _ _ c.entry_at-start.ensures,
+  few _ c.args.source.now.opened c.requires.directory.checked,
 )
 
 pub loop-n-init : goal.loop-n-init
 loop-n-init c = (
-  few _ c.args.source.opened c.requires.directory.checked,
-  place-loaded _ _ _ c.requires.file _ c.entry_at-start.result c.entry_at-start.ensures c.args.source.opened _ _ c.load-size.ensures,
+  few _ c.args.source.now.opened c.requires.directory.checked,
+  place-loaded _ _ _ c.requires.file _ c.entry_at-start.result c.entry_at-start.ensures c.args.source.now.opened _ _ c.load-size.ensures,
   omega arith,
-  keywords-start c.args.source.index.now c.args.file.now _ c.requires.counts_len.0,
+  keywords-start c.args.source.now.index.now c.args.file.now _ c.requires.counts_len.0,
 )
 
 pub load-after-requires : goal.load-after-requires
 load-after-requires c = (
   c.requires.directory.checked,
-  entry-known _ c.args.source.opened _ _ c.requires.directory.checked c.requires.file _ _ c.entry_at-e.ensures,
+  entry-known _ c.args.source.now.opened _ _ c.requires.directory.checked c.requires.file _ _ c.entry_at-e.ensures,
   c.loop-n.invariant.1.long,
 )
 
 pub cross-many-requires : goal.cross-many-requires
 cross-many-requires c =
     let l = (goal.at.cross-many-requires c).After-load-after in (
-      few _ c.args.source.opened c.requires.directory.checked,
+      few _ c.args.source.now.opened c.requires.directory.checked,
       c.loop-n.invariant.0,
       crossable _ _ _ c.requires.directory.checked (ranges l) _ _ _ _ _ (pair l),
     )
@@ -70,12 +71,12 @@ pub count_place-requires-clause-by_index : goal.count_place-requires-clause-by_i
 count_place-requires-clause-by_index c = λ k u.
     let l = (goal.at.count_place-requires-clause-by_index c).After-load-after in
     let j = (goal.at.count_place-requires-clause-by_index c).Joined-opened-after in
-    let h : k < 16 = omega (arith, u, few _ c.args.source.opened c.requires.directory.checked) in (
+    let h : k < 16 = omega (arith, u, few _ c.args.source.now.opened c.requires.directory.checked) in (
       countable _ _ _ c.requires.directory.checked (ranges l) _ _ _ _ _ (pair l) _ (filled j).crossed k u,
       omega (
         arith,
         keywords-few _ _ _ _ _ c.loop-n.invariant.3 c.requires.counts_len.0 k h,
-        count-few _ c.args.source.opened _ _ c.requires.directory.checked c.requires.file,
+        count-few _ c.args.source.now.opened _ _ c.requires.directory.checked c.requires.file,
         c.requires.counts_len.1 k h,
       ),
     )
@@ -87,7 +88,7 @@ overflow_add-sum c =
     omega (
       arith,
       counting-on _ _ _ c.requires.directory.checked (ranges l) _ _ _ _ _ (pair l) _ (filled j).crossed _ _ c.loop-n.invariant.2 (filled j).all,
-      count-few _ c.args.source.opened _ _ c.requires.directory.checked c.requires.file,
+      count-few _ c.args.source.now.opened _ _ c.requires.directory.checked c.requires.file,
     )
 
 pub loop-n-preserved : goal.loop-n-preserved
@@ -103,7 +104,7 @@ loop-n-preserved c =
 
 pub returns : goal.returns
 returns c =
-    let past = out-chunks c.args.source.index.now c.args.file.now c.loop-n.n c.loop-n-test.false in (
-      counting-end c.args.source.index.now c.args.file.now _ _ past c.loop-n.invariant.2,
-      keywords-end c.args.source.index.now c.args.file.now _ _ _ c.loop-n.invariant.3 past,
+    let past = out-chunks c.args.source.now.index.now c.args.file.now c.loop-n.n c.loop-n-test.false in (
+      counting-end c.args.source.now.index.now c.args.file.now _ _ past c.loop-n.invariant.2,
+      keywords-end c.args.source.now.index.now c.args.file.now _ _ _ c.loop-n.invariant.3 past,
     )

@@ -8,7 +8,8 @@ use Rattle.walk.proofs.cross_over.Goals as goal
 
 pub loop-k-preserved : goal.loop-k-preserved
 loop-k-preserved c = (
-  crossing_on _ _ (crossings (folded_keywords (list_in c.args.source.index.now)) c.args.here.now (drop _ (chunks_in c.args.source.index.now c.args.file.now)))
+  crossing_on _ _ (crossings (folded_keywords (list_in c.args.source.now.index.now)) c.args.here.now
+      (drop _ (chunks_in c.args.source.now.index.now c.args.file.now)))
       _ _ _ _ _ _ c.loop-k.invariant.0 c.loop-k-test.true c.crossing-set.ensures c.offsets_in-many.ensures,
   omega (
     arith,

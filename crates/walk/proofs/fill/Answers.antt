@@ -11,11 +11,11 @@ use Rattle.walk.proofs.fill.Goals.{After-load-behind}
 use Rattle.walk.proofs.fill.Goals as goal
 
 -- the file's chunks are in range
-ranges : (c : After-load-behind) → AllGood (folded_keywords (list_in c.args.source.index.now)) (chunks_in c.args.source.index.now c.args.file.now)
+ranges : (c : After-load-behind) → AllGood (folded_keywords (list_in c.args.source.now.index.now)) (chunks_in c.args.source.now.index.now c.args.file.now)
 ranges c = all-good _ c.requires.directory.0.checked.good _ _ c.requires.file.0
 
 -- the place is loaded, and the place behind it
-pair : (c : After-load-behind) → LoadedPair c.args.source.index.now c.args.source.opened (chunks_in c.args.source.index.now c.args.file.now)
+pair : (c : After-load-behind) → LoadedPair c.args.source.now.index.now c.args.source.now.opened (chunks_in c.args.source.now.index.now c.args.file.now)
     c.args.spot.place c.args.rows.now c.load-behind.new.rows c.args.spot.size c.load-behind.result
 pair c =
     pair-loaded _ _ _ c.requires.file.0 _ c.requires.file.1 _ _ _ c.requires.loaded_at c.entry_at-e.result c.entry_at-e.ensures _ _
@@ -24,14 +24,14 @@ pair c =
 pub load-behind-requires : goal.load-behind-requires
 load-behind-requires c = (
   c.requires.directory.0.checked,
-  entry-known _ c.args.source.opened _ _ c.requires.directory.0.checked c.requires.file.0 _ _ c.entry_at-e.ensures,
+  entry-known _ c.args.source.now.opened _ _ c.requires.directory.0.checked c.requires.file.0 _ _ c.entry_at-e.ensures,
   c.requires.loaded_at.long,
 )
 
 pub cross-many-requires : goal.cross-many-requires
 cross-many-requires c =
     let l = (goal.at.cross-many-requires c).After-load-behind in (
-      few _ c.args.source.opened c.requires.directory.0.checked,
+      few _ c.args.source.now.opened c.requires.directory.0.checked,
       c.requires.file.2,
       crossable _ _ _ c.requires.directory.0.checked (ranges l) _ _ _ _ _ (pair l),
     )

@@ -10,17 +10,18 @@ use Rattle.walk.proofs.list_file.Goals.{After-load-behind, Joined-opened-behind,
 use Rattle.walk.proofs.list_file.Goals as goal
 
 -- the file's chunks are in range
-ranges : (c : After-load-behind) → AllGood (folded_keywords (list_in c.args.source.index.now)) (chunks_in c.args.source.index.now c.args.file.now)
+ranges : (c : After-load-behind) → AllGood (folded_keywords (list_in c.args.source.now.index.now)) (chunks_in c.args.source.now.index.now c.args.file.now)
 ranges c = all-good _ c.requires.directory.checked.good _ _ c.requires.file
 
 -- the place is loaded, and the place behind it
-pair : (c : After-load-behind) → LoadedPair c.args.source.index.now c.args.source.opened (chunks_in c.args.source.index.now c.args.file.now) c.loop-n.n
-    c.loop-n.rows c.load-behind.new.rows c.loop-n.size c.load-behind.result
+pair : (c : After-load-behind) → LoadedPair c.args.source.now.index.now c.args.source.now.opened
+    (chunks_in c.args.source.now.index.now c.args.file.now) c.loop-n.n c.loop-n.rows c.load-behind.new.rows c.loop-n.size c.load-behind.result
 pair c = pair-loaded _ _ _ c.requires.file _ c.loop-n-test.true _ _ _ c.loop-n.invariant.1 c.entry_at-e.result c.entry_at-e.ensures _ _ c.load-behind.ensures
 
 -- its streams are filled, in the one way or the other
-filled : (c : Joined-opened-behind) → Filled c.loop-n.size c.args.source.opened.keywords
-    (crossings (folded_keywords (list_in c.args.source.index.now)) c.loop-n.rows (drop (c.loop-n.n + 1) (chunks_in c.args.source.index.now c.args.file.now)))
+filled : (c : Joined-opened-behind) → Filled c.loop-n.size c.args.source.now.opened.keywords
+    (crossings (folded_keywords (list_in c.args.source.now.index.now)) c.loop-n.rows
+    (drop (c.loop-n.n + 1) (chunks_in c.args.source.now.index.now c.args.file.now)))
     c.loop-n.rows c.if-opened-behind.streams c.if-opened-behind.many
 filled c = elim c.if-opened-behind.branch [
   | then-opened-behind w ↦
@@ -33,33 +34,34 @@ filled c = elim c.if-opened-behind.branch [
 
 pub returns-then-not-listing : goal.returns-then-not-listing
 returns-then-not-listing c =
-    listing_none c.args.source.index.now c.args.file.now c.args.listing.number _ _ (c.requires.file_value (not-true c.args.listing.has_rows c.if-not-listing.true))
+    listing_none c.args.source.now.index.now c.args.file.now c.args.listing.number _ _
+    (c.requires.file_value (not-true c.args.listing.has_rows c.if-not-listing.true))
 
 pub load-size-requires : goal.load-size-requires
 load-size-requires c = (
   c.requires.directory.checked,
-  entry-known _ c.args.source.opened _ _ c.requires.directory.checked c.requires.file _ _ c.entry_at-start.ensures,
-  few _ c.args.source.opened c.requires.directory.checked,
+  entry-known _ c.args.source.now.opened _ _ c.requires.directory.checked c.requires.file _ _ c.entry_at-start.ensures,
+  few _ c.args.source.now.opened c.requires.directory.checked,
 )
 
 pub loop-n-init : goal.loop-n-init
 loop-n-init c = (
-  few _ c.args.source.opened c.requires.directory.checked,
-  place-loaded _ _ _ c.requires.file _ c.entry_at-start.result c.entry_at-start.ensures c.args.source.opened _ _ c.load-size.ensures,
-  listing_start c.args.source.index.now c.args.file.now c.args.listing.number _ _ _ c.requires.file,
+  few _ c.args.source.now.opened c.requires.directory.checked,
+  place-loaded _ _ _ c.requires.file _ c.entry_at-start.result c.entry_at-start.ensures c.args.source.now.opened _ _ c.load-size.ensures,
+  listing_start c.args.source.now.index.now c.args.file.now c.args.listing.number _ _ _ c.requires.file,
 )
 
 pub load-behind-requires : goal.load-behind-requires
 load-behind-requires c = (
   c.requires.directory.checked,
-  entry-known _ c.args.source.opened _ _ c.requires.directory.checked c.requires.file _ _ c.entry_at-e.ensures,
+  entry-known _ c.args.source.now.opened _ _ c.requires.directory.checked c.requires.file _ _ c.entry_at-e.ensures,
   c.loop-n.invariant.1.long,
 )
 
 pub cross-many-requires : goal.cross-many-requires
 cross-many-requires c =
     let l = (goal.at.cross-many-requires c).After-load-behind in (
-      few _ c.args.source.opened c.requires.directory.checked,
+      few _ c.args.source.now.opened c.requires.directory.checked,
       c.loop-n.invariant.0,
       crossable _ _ _ c.requires.directory.checked (ranges l) _ _ _ _ _ (pair l),
     )
@@ -73,9 +75,9 @@ pub list_place-p-requires-clause-count_nonzero : goal.list_place-p-requires-clau
 list_place-p-requires-clause-count_nonzero c =
     let l = (goal.at.list_place-p-requires-clause-count_nonzero c).After-load-behind in
     let j = (goal.at.list_place-p-requires-clause-count_nonzero c).Joined-opened-behind in (
-      nonempty _ c.args.source.opened c.requires.directory.checked,
-      few _ c.args.source.opened c.requires.directory.checked,
-      omega (arith, narrow _ c.args.source.opened c.requires.directory.checked),
+      nonempty _ c.args.source.now.opened c.requires.directory.checked,
+      few _ c.args.source.now.opened c.requires.directory.checked,
+      omega (arith, narrow _ c.args.source.now.opened c.requires.directory.checked),
       omega (
         arith,
         listing-fits _ _ _ c.requires.directory.checked (ranges l) _ _ _ _ _ (pair l) _ (filled j).crossed _ _ _ _ _ _ c.loop-n.invariant.2,
@@ -107,5 +109,5 @@ loop-n-preserved c =
 
 pub returns : goal.returns
 returns c =
-    listing-end c.args.source.index.now c.args.file.now c.args.listing.number _ _ _ _ _ _
-    (out-chunks c.args.source.index.now c.args.file.now c.loop-n.n c.loop-n-test.false) c.loop-n.invariant.2
+    listing-end c.args.source.now.index.now c.args.file.now c.args.listing.number _ _ _ _ _ _
+    (out-chunks c.args.source.now.index.now c.args.file.now c.loop-n.n c.loop-n-test.false) c.loop-n.invariant.2
