@@ -1,7 +1,7 @@
-// Whether bytes are a query (request #109), the query that a plan is asked with, and the refusals before 18: the plan's, then 21.
+// Whether bytes are a query (request #109), the query that a plan is asked with, and 21, which stands behind the plan's refusal and before 18.
 #![tactic(auto)]
 
-ghost use Rattle.std.specs.Prelude.{◌≡◌, [], ◌∷◌, not, cond, ◌&&◌, length, leb};
+ghost use Rattle.std.specs.Prelude.{◌≡◌, ℕ, [], ◌∷◌, not, cond, ◌&&◌, length, leb};
 ghost use Rattle.spec.specs.Outcome.{first_number, whole, query_wrong};
 ghost use Rattle.spec.specs.Refusal.{number};
 ghost use Rattle.spec.specs.Query.{is_query};
@@ -30,11 +30,11 @@ pub fn askable<'a>(query: &'a [u8]) -> &'a [u8]
     if may_number(query.len()) { query } else { &[] }
 }
 
-// The refusals before 18: the plan's, then 21.
-pub fn check(planned: Result<(), Refusal>, query: &[u8], keywords: usize) -> Result<(), Refusal>
-    ensures { number result ≡ first_number (whole (number planned) ∷ (not (is_query keywords query.now), query_wrong) ∷ []) }
+// 21, the last refusal before 18. It stands behind the plan's, whatever number that has: who asks passes the plan's on first.
+pub fn check(query: &[u8], keywords: usize) -> Result<(), Refusal>
+    ensures { (planned : ℕ) → first_number (whole planned ∷ whole (number result) ∷ [])
+        ≡ first_number (whole planned ∷ (not (is_query keywords query.now), query_wrong) ∷ []) }
 {
-    planned?;
     if is_query(query, keywords) {
         Ok(())
     } else {

@@ -81,5 +81,7 @@ pub fn copy_into(buffer: &mut [u32], at: usize, run: &[u32])
     requires { at + length run.now ≤ length buffer.old }
     ensures { buffer.new ≡ splice buffer.old at run.now }
 {
-    buffer[at..at + run.len()].copy_from_slice(run);
+    for i in 0..run.len() {
+        buffer[at + i] = run[i];
+    }
 }

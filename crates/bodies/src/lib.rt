@@ -17,7 +17,7 @@ fn in_order(bytes: &[u8], at: usize, width: usize, count: usize, n: usize, size:
     let mut least: usize = 0;
     for k in 0..count {
         let offset = field::read_offset(bytes, at + width * k, width) as usize;
-        if offset < least || size < offset || size - offset < n {
+        if offset < least || size < n || size - n < offset {
             return false;
         }
         least = offset + 1;

@@ -1,10 +1,13 @@
 -- One turn of the check of a directory's entries, over plain numbers: what is left to check from entry k on, `n` entries, is `r`. Assumes nothing.
-use mathlib.Core.Path.{◌≡◌, sym, ap, ◌∙◌}
-use mathlib.Core.List.{List}
+use mathlib.Core.Path.{◌≡◌, refl, sym, ap, ◌∙◌}
+use mathlib.Core.Bool.{Bool, true, false, not, cond}
+use mathlib.Core.List.{List, [], ◌∷◌}
 use Prim.Native.Nat.{ℕ, suc, ◌+◌, ◌-◌, ◌≤◌, ◌<◌}
 use native.Mathlib.Numerals.{add-one}
 use native.Mathlib.Omega.{arith}
+use lib.Dec.{eqb}
 use lib.ListN.{length}
+use Rattle.spec.specs.Outcome.{first_number}
 use Rattle.spec.specs.Directory.{Layout, size_at, offset_at, length_at, entries_code}
 use Rattle.spec.proofs.EntryLaws.{entries-more, entries_none, entries-long, entries-gap, entries-past}
 
@@ -35,3 +38,11 @@ module _ (layout : Layout) (bytes : List ℕ) (most code count k at r : ℕ) (q 
       → x ≡ length_at layout bytes k
       → entries_code layout bytes most code (count - (k + 1)) (k + 1) (at + x) ≡ r
   turn_more h z l o x e = rw (e, add-one) (rw add-one at (turn h z l o))
+
+-- behind the last entry: the end is the bytes', or it is wrong
+pub ended : (layout : Layout) (bytes : List ℕ) (most code k at : ℕ) → cond (eqb at (length bytes)) 0 code ≡ entries_code layout bytes most code 0 k at
+ended layout bytes most code k at = go (eqb at (length bytes))
+  where
+    go : (b : Bool) → cond b 0 code ≡ first_number ((not b, code) ∷ [])
+    go true = refl
+    go false = refl

@@ -2,13 +2,10 @@
 // Fingerprints are found by hash chains in one array of the caller, the heads and behind them the links, built from the last entry to the first.
 #![tactic(auto)]
 
-ghost use Rattle.std.specs.Prelude.{◌≡◌, suc, ◌+◌, ◌-◌, ◌*◌, ◌≤◌, ◌<◌, length};
+ghost use Rattle.std.specs.Prelude.{◌≡◌, cond, ℕ, suc, ◌+◌, ◌-◌, ◌*◌, ◌≤◌, ◌<◌, length};
 ghost use Rattle.spec.specs.Bytes.{part, same, twice, position_of, written};
 ghost use Rattle.spec.specs.Directory.{entries_code};
-ghost use Rattle.spec.specs.Refusal.{number, number_of};
 ghost use Rattle.directory.specs.Chains.{hash_of, keys_from, chains_of, place_from, Starts, Linked, Chained, Inserted, Lies, Empty, layout_of};
-
-use spec::Refusal;
 
 // How many hashes there may be, each with a head.
 const HEADS: usize = 65536;
@@ -143,32 +140,28 @@ pub fn entries(
     offsets: usize,
     lengths: usize,
     most: usize,
-    refusal: Refusal,
     count: usize,
-) -> Result<(), Refusal>
+) -> bool
     requires { (start + stride * count ≤ length bytes.now) × (sizes + 4 ≤ stride) × (offsets + 4 ≤ stride) × (lengths + 4 ≤ stride) }
-    ensures { number result ≡ entries_code (layout_of start stride sizes offsets lengths) bytes.now most (number_of refusal) count 0 (start + stride * count) }
+    ensures { (code : ℕ) → cond result 0 code
+        ≡ entries_code (layout_of start stride sizes offsets lengths) bytes.now most code count 0 (start + stride * count) }
 {
     let mut at = start + stride * count;
     for k in 0..count {
         let base = start + stride * k;
         let size = field::read(bytes, base + sizes, 4) as usize;
         if !(1..=most).contains(&size) {
-            return Err(refusal);
+            return false;
         }
         if field::read(bytes, base + offsets, 4) as usize != at {
-            return Err(refusal);
+            return false;
         }
         let long = field::read(bytes, base + lengths, 4) as usize;
         // past the end no later end can be right, and the sum cannot wrap
         if bytes.len() - at < long {
-            return Err(refusal);
+            return false;
         }
         at += long;
     }
-    if at == bytes.len() {
-        Ok(())
-    } else {
-        Err(refusal)
-    }
+    at == bytes.len()
 }

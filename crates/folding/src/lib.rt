@@ -9,7 +9,12 @@ ghost use Rattle.spec.specs.Keywords.{is_upper, fold_byte};
 fn is_upper(b: u8) -> bool
     ensures { result ≡ is_upper b }
 {
-    b.is_ascii_uppercase() || ((0xC0..=0xDE).contains(&b) && b != 0xD7)
+    match b {
+        0..0x41 => false,
+        0x41..=0x5A => true,
+        0xC0..=0xDE => b != 0xD7,
+        _ => false,
+    }
 }
 
 // The byte as it compares.

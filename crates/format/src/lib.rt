@@ -41,13 +41,15 @@ fn latest() -> spec::Format
 }
 
 // The format that the index's mark names. With a mark that names none it is the newest, by which the index check then refuses.
-#[tactic(auto, using(crate::proofs::Marks::starts_same), unfolding(spec::specs::Form::form_of))]
+#[tactic(auto, unfolding(spec::specs::Form::form_of))]
 pub fn of(index: &[u8]) -> spec::Format
     ensures { result ≡ format_of (form_of index.now) }
 {
-    if index.starts_with(&[0x44, 0x4D, 0x31, 0x0A]) {
+    if index.len() < 4 {
+        latest()
+    } else if field::equal(&index[..4], &[0x44, 0x4D, 0x31, 0x0A]) {
         first()
-    } else if index.starts_with(&[0x44, 0x4D, 0x32, 0x0A]) {
+    } else if field::equal(&index[..4], &[0x44, 0x4D, 0x32, 0x0A]) {
         second()
     } else {
         latest()

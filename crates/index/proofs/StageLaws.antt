@@ -40,15 +40,6 @@ digit-small index = go (same (take 4 index) form1.mark) (same (take 4 index) for
     go false true = omega arith
     go false false = omega arith
 
-same_pointwise : (xs ys : List ℕ) → pointwise eqb ys xs ≡ same xs ys
-same_pointwise [] [] = refl
-same_pointwise [] (y ∷ ys) = refl
-same_pointwise (x ∷ xs) [] = refl
-same_pointwise (x ∷ xs) (y ∷ ys) = ap₂ {C = Bool} (λ a b. a && b) (turned y x) (same_pointwise xs ys)
-  where
-    turned : (a b : ℕ) → eqb a b ≡ eqb b a
-    turned a b = grind (arith, nat_tests)
-
 module _ (index : List ℕ) (format : Format) (is : format ≡ format_of (form_of index)) where
   pub form-is : form_in format ≡ form_of index
   form-is = ap form_in is ∙ (form-read index).said
@@ -57,10 +48,9 @@ module _ (index : List ℕ) (format : Format) (is : format ≡ format_of (form_o
   digit-fits = rw is (digit-small index)
 
   -- the comparison with the mark that has the format's digit is that with the form's
-  pub mark-compared : (t : Bool) → t ≡ starts_with eqb index (0x44 ∷ 0x4D ∷ (0x30 + format.number) ∷ 0x0A ∷ [])
+  pub mark-compared : (t : Bool) → t ≡ same (take 4 index) (0x44 ∷ 0x4D ∷ (0x30 + format.number) ∷ 0x0A ∷ [])
       → t ≡ same (take 4 index) (form_of index).mark
-  mark-compared t e =
-      e ∙ same_pointwise (take 4 index) (0x44 ∷ 0x4D ∷ (0x30 + format.number) ∷ 0x0A ∷ []) ∙ ap (λ (f : Form). same (take 4 index) f.mark) form-is
+  mark-compared t e = e ∙ ap (λ (f : Form). same (take 4 index) f.mark) form-is
 
   pub longest-is : format.longest ≡ (form_of index).longest_chunk
   longest-is = ap (λ (f : Form). f.longest_chunk) form-is

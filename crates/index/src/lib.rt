@@ -26,7 +26,7 @@ fn header(index: &[u8], format: Format) -> Result<(), Refusal>
     }
     let digit = 0x30 + format.number;
     let mark: [u8; 4] = [0x44, 0x4D, digit, 0x0A];
-    if !index.starts_with(&mark) {
+    if !field::equal(&index[..4], &mark) {
         return Err(Refusal::IndexMarkWrong);
     }
     if field::read(index, 4, 4) <= 65000 {
@@ -52,17 +52,11 @@ fn entries(index: &[u8], format: Format, start: usize, count: usize) -> Result<(
     if index.len() < start + 32 * count {
         return Err(Refusal::IndexEntryWrong);
     }
-    directory::entries(
-        index,
-        start,
-        32,
-        20,
-        24,
-        28,
-        format.longest,
-        Refusal::IndexEntryWrong,
-        count,
-    )
+    if directory::entries(index, start, 32, 20, 24, 28, format.longest, count) {
+        Ok(())
+    } else {
+        Err(Refusal::IndexEntryWrong)
+    }
 }
 
 // The body of entry e is good.

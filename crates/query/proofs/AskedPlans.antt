@@ -13,7 +13,7 @@ use Rattle.spec.specs.Keywords.{keywords_of}
 use Rattle.spec.specs.Index.{list_in, lengths_in}
 use Rattle.spec.specs.Opened.{opened_of}
 use Rattle.spec.specs.Query.{is_query, query_lines, queryable_code}
-use Rattle.spec.proofs.Codes.{refused-whole}
+use Rattle.spec.proofs.Codes.{refused-whole, last-whole}
 use Rattle.plan.specs.declared.Plan.{Plan}
 use Rattle.plan.specs.Plans.{plan_code, plan_of}
 use Rattle.plan.proofs.Stages.{plan-total}
@@ -37,8 +37,12 @@ module _ (index recipes query : List ℕ) where
     unfolding plan_of opened_of lengths_in
     keyword-count = ap (λ (x : Plan). x.opened.keywords) p ∙ sym (length-map (keywords_of (list_in index)) length)
 
-    -- where the plan is not refused: 21
-    module _ (z : plan_code index recipes ≡ 0) (n : ℕ) (e : n ≡ first_number (whole 0 ∷ (not (is_query count query), query_wrong) ∷ [])) where
+    -- where the plan is not refused: 21, which is said behind any number of a plan's
+    module _ (z : plan_code index recipes ≡ 0) (n : ℕ)
+        (told : (planned : ℕ) → first_number (whole planned ∷ whole n ∷ []) ≡ first_number (whole planned ∷ (not (is_query count query), query_wrong) ∷ [])) where
+      e : n ≡ first_number (whole 0 ∷ (not (is_query count query), query_wrong) ∷ [])
+      e = sym (last-whole n) ∙ told 0
+
       pub asked-code : n ≡ queryable_code (form_of index) index recipes query
       unfolding queryable_code
       asked-code = e ∙ ap₂ (λ (c w : ℕ). first_number (whole c ∷ (not (is_query w query), query_wrong) ∷ [])) (sym z) keyword-count

@@ -123,14 +123,9 @@ pub fn count(index: &[u8], recipes: &[u8], query: &[u8]) -> Result<usize, Refusa
 {
     let mut chains = [0u32; 130536];
     let mut tables = [[[0u32; 32]; 32]; 16];
-    let counted = plan::make(
-        index,
-        recipes,
-        asking::askable(query),
-        &mut chains,
-        &mut tables,
-    )?;
-    asking::check(Ok(()), query, counted.opened.keywords)?;
+    let asked = asking::askable(query);
+    let counted = plan::make(index, recipes, asked, &mut chains, &mut tables)?;
+    asking::check(query, counted.opened.keywords)?;
     Ok(counted.total)
 }
 
@@ -142,14 +137,9 @@ pub fn query(index: &[u8], recipes: &[u8], query: &[u8], out: &mut [u8]) -> Resu
 {
     let mut chains = [0u32; 130536];
     let mut tables = [[[0u32; 32]; 32]; 16];
-    let p = plan::make(
-        index,
-        recipes,
-        asking::askable(query),
-        &mut chains,
-        &mut tables,
-    )?;
-    asking::check(Ok(()), query, p.opened.keywords)?;
+    let asked = asking::askable(query);
+    let p = plan::make(index, recipes, asked, &mut chains, &mut tables)?;
+    asking::check(query, p.opened.keywords)?;
     if out.len() / (4 + 4 * query.len()) < p.total {
         return Err(Refusal::ListTooLong);
     }

@@ -3,8 +3,9 @@ use mathlib.Core.Path.{◌≡◌, refl, sym, ap, ◌∙◌}
 use mathlib.Core.List.{List, [], ◌∷◌, ◌++◌, append_assoc, append-nil}
 use Prim.Native.Nat.{ℕ, zero, suc, ◌+◌, ◌-◌, ◌≤◌, ◌<◌}
 use native.Mathlib.Nat.{add_assoc, add-zero, zero-add, suc-add}
+use native.Mathlib.Numerals.{add-one}
 use native.Mathlib.Omega.{arith}
-use lib.ListN.{get_or, length, take, drop, set, length-append, length-take, length-drop, take-append-drop}
+use lib.ListN.{get_or, length, take, drop, set, length-append, length-take, length-drop, take-append-drop, drop_of_length-le}
 use lib.Seq.{set_at, drop-cons, length-take-le, take-nil, take_at, drop_at, drop-drop, take-add, take-append-le, drop-append-le, sets, sets-eq}
 use borrow.Rule.Slice.PartMut.{mid_of, post_of, put_mid}
 use Rattle.spec.specs.Bytes.{splice}
@@ -132,3 +133,14 @@ splice-regions out d at e dr b br h m =
     let y : splice (splice (splice out at b) d e) (d + length e) dr ≡ splice (splice out d (e ++ dr)) at b =
     splice-splice (splice out at b) d e dr (omega arith) ∙ sym (splice-comm out d at (e ++ dr) b h (omega arith)) in
     ap (λ (l : List ℕ). splice l (at + length b) br) y ∙ splice-splice (splice out d (e ++ dr)) at b br (omega arith)
+
+-- a store at i is the first of what is left of a run that is written from `at` on
+pub splice-on : (l s : List ℕ) (at i : ℕ) → i < length s → at + i < length l
+    → splice (set l (at + i) (get_or s i 0)) (at + (i + 1)) (drop (i + 1) s) ≡ splice l (at + i) (drop i s)
+splice-on l s at i h m =
+    let e : at + (i + 1) ≡ at + i + 1 = omega arith in
+    rw (e, drop-cons s i 0 h) (rw (← add-one i) (splice-cons l (at + i) (get_or s i 0) (drop (i + 1) s) m))
+
+-- behind the run's last nothing is left
+pub splice-ended : (l s : List ℕ) (at i : ℕ) → length s ≤ i → l ≡ splice l at (drop i s)
+splice-ended l s at i h = rw (drop_of_length-le s h) (sym (splice-nil l at))

@@ -62,18 +62,6 @@ pub short : (store : List ℕ) → length store < 8 → 5 ≡ store_code store
 unfolding store_code
 short store a = rw (lt-ltb (length store) 8 a)
 
-same_pointwise : (xs ys : List ℕ) → pointwise eqb ys xs ≡ same xs ys
-same_pointwise [] [] = refl
-same_pointwise [] (y ∷ ys) = refl
-same_pointwise (x ∷ xs) [] = refl
-same_pointwise (x ∷ xs) (y ∷ ys) = ap₂ {C = Bool} (λ a b. a && b) (turned y x) (same_pointwise xs ys)
-  where
-    turned : (a b : ℕ) → eqb a b ≡ eqb b a
-    turned a b = grind (arith, nat_tests)
-
-pub starts-same : (store mark : List ℕ) → starts_with eqb store mark ≡ same (take (length mark) store) mark
-starts-same store mark = same_pointwise (take (length mark) store) mark
-
 pub unmarked : (store : List ℕ) → 8 ≤ length store → same (take 4 store) store_mark ≡ false → 5 ≡ store_code store
 unfolding store_code
 unmarked store a m = rw (le-ltb (length store) 8 a, m)

@@ -34,7 +34,7 @@ pub fn examine(store: &[u8], chains: &mut [u32]) -> Result<(), Refusal>
     if store.len() < 8 {
         return Err(Refusal::StoreMarkWrong);
     }
-    if !store.starts_with(&MARK) {
+    if !field::equal(&store[..4], &MARK) {
         return Err(Refusal::StoreMarkWrong);
     }
     let c = chunk_count(store);

@@ -1,7 +1,6 @@
--- What is left of the check, from entry k on, gives the number of the whole.
-use Rattle.std.proofs.Common.{◌≡◌, ◌+◌, ◌*◌, ◌-◌, ◌≤◌, length}
+-- What is left of the check, from entry k on, gives the number of the whole, whichever it is.
+use Rattle.std.proofs.Common.{◌≡◌, ◌+◌, ◌*◌, ◌-◌, ◌≤◌, ℕ, length}
 use Rattle.spec.specs.Directory.{entries_code}
-use Rattle.spec.specs.Refusal.{number_of}
 use Rattle.directory.specs.Chains.{layout_of}
 use Rattle.directory.proofs.entries.Given as goal
 
@@ -10,6 +9,6 @@ invariant-loop-k l =
     let layout = layout_of l.start l.stride l.sizes l.offsets l.lengths in
     record {
       inside : l.at ≤ length l.bytes;
-      left : entries_code layout l.bytes l.most (number_of l.refusal) (l.count - l.k) l.k l.at
-          ≡ entries_code layout l.bytes l.most (number_of l.refusal) l.count 0 (l.start + l.stride * l.count);
+      left : (code : ℕ) → entries_code layout l.bytes l.most code (l.count - l.k) l.k l.at
+          ≡ entries_code layout l.bytes l.most code l.count 0 (l.start + l.stride * l.count);
     }

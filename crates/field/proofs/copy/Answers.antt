@@ -1,19 +1,21 @@
--- `copy` meets its contract: what stands in the part from at on is the bytes.
-use mathlib.Core.Path.{◌≡◌, sym, ap, ◌∙◌}
-use mathlib.Core.List.{List, ◌++◌, append_assoc}
-use Prim.Native.Nat.{ℕ, ◌+◌, ◌-◌}
+-- a turn's store is the first of what is left
+use mathlib.Core.Path.{◌∙◌}
+use Prim.Native.Nat.{◌+◌}
 use native.Mathlib.Omega.{arith}
-use lib.ListN.{length, take, drop}
-use lib.Seq.{drop-drop}
-use borrow.Rule.Slice.PartMut.{put_mid}
-use Rattle.spec.specs.Bytes.{splice}
+use lib.ListN.{get_or, length-set}
+use Rattle.spec.proofs.Splices.{splice-on, splice-ended}
 use Rattle.field.proofs.copy.Goals as goal
 
-whole : (at k : ℕ) (l v : List ℕ) → k ≡ length v → put_mid at k l v ≡ splice l at v
-unfolding splice
-whole at k l v e = rw e (ap (λ (x : List ℕ). take at l ++ (v ++ x)) (drop-drop (length v) at l) ∙ sym (append_assoc (take at l) v (drop (at + length v) l)))
+pub loop-i-preserved : goal.loop-i-preserved
+loop-i-preserved c =
+    let a = c.args in
+    let s = c.loop-i in
+    record {
+      same = length-set s.out (a.at + s.i) (get_or a.bytes.now s.i 0) ∙ s.invariant.same;
+      rest = splice-on s.out a.bytes.now a.at s.i (omega arith) (omega arith) ∙ s.invariant.rest;
+    }
 
 pub returns : goal.returns
 returns c =
     let a = c.args in
-    rw c.copy_from_slice.ensures.after (whole a.at (a.at + length a.bytes.now - a.at) a.out.now a.bytes.now (omega arith))
+    splice-ended c.loop-i.out a.bytes.now (a.at + c.loop-i.i) c.loop-i.i (omega arith) ∙ c.loop-i.invariant.rest

@@ -3,12 +3,12 @@ use Rattle.std.proofs.Common.{◌≡◌, take, sym, ◌∙◌, arith}
 use Rattle.spec.specs.Bytes.{same}
 use Rattle.spec.specs.Form.{form_of}
 use Rattle.index.proofs.StageLaws.{digit-fits, mark-compared, header-short, header-mark, header-many, header-good}
-use Rattle.index.proofs.header.Goals.{After-starts_with}
+use Rattle.index.proofs.header.Goals.{After-equal}
 use Rattle.index.proofs.header.Goals as goal
 
 -- the comparison of the mark
-compared : (c : After-starts_with) → c.starts_with.result ≡ same (take 4 c.args.index.now) (form_of c.args.index.now).mark
-compared c = mark-compared c.args.index.now c.args.format c.requires c.starts_with.result c.starts_with.ensures.value
+compared : (c : After-equal) → c.equal.result ≡ same (take 4 c.args.index.now) (form_of c.args.index.now).mark
+compared c = mark-compared c.args.index.now c.args.format c.requires c.equal.result c.equal.ensures
 
 pub returns-then-index-lt8 : goal.returns-then-index-lt8
 returns-then-index-lt8 c = header-short c.args.index.now c.if-index-lt8.true
@@ -16,13 +16,13 @@ returns-then-index-lt8 c = header-short c.args.index.now c.if-index-lt8.true
 pub overflow_add-digit : goal.overflow_add-digit
 overflow_add-digit c = omega (arith, digit-fits c.args.index.now c.args.format c.requires)
 
-pub returns-then-not-starts_with : goal.returns-then-not-starts_with
-returns-then-not-starts_with c =
-    header-mark c.args.index.now (sym (compared (goal.at.returns-then-not-starts_with c).After-starts_with) ∙ c.if-not-starts_with.true)
+pub returns-then-not-equal : goal.returns-then-not-equal
+returns-then-not-equal c =
+    header-mark c.args.index.now (sym (compared (goal.at.returns-then-not-equal c).After-equal) ∙ c.if-not-equal.true)
 
 pub returns-then-read-le65000 : goal.returns-then-read-le65000
 returns-then-read-le65000 c =
-    header-good c.args.index.now c.if-index-lt8.false (sym (compared (goal.at.returns-then-read-le65000 c).After-starts_with) ∙ c.if-not-starts_with.false)
+    header-good c.args.index.now c.if-index-lt8.false (sym (compared (goal.at.returns-then-read-le65000 c).After-equal) ∙ c.if-not-equal.false)
     (omega arith)
 
 pub returns-else-read-le65000 : goal.returns-else-read-le65000

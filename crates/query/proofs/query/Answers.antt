@@ -10,7 +10,7 @@ use Rattle.query.proofs.Answers.{lines-refused, lines_long, lines-room, lines-do
 use Rattle.query.proofs.query.Goals as goal
 
 pub make-requires : goal.make-requires
-make-requires c = (zeros, few-asked c.args.query.now c.askable.result.now c.askable.ensures)
+make-requires c = (zeros, few-asked c.args.query.now c.askable-asked.result.now c.askable-asked.ensures)
 
 pub returns-in_err-p : goal.returns-in_err-p
 returns-in_err-p c =
@@ -28,7 +28,7 @@ returns-in_err-check c =
     let r = c.in_err-check.field-0.0 in
     let f : outcome_of c.from_residual-in_err-check.result ≡ Refused (number_of r) = search rules in
     let m = c.in_ok-p in
-    let code = asked-code a.index.now a.recipes.now a.query.now c.askable.result.now c.askable.ensures m.p m.ensures.1 (sym m.ensures.0)
+    let code = asked-code a.index.now a.recipes.now a.query.now c.askable-asked.result.now c.askable-asked.ensures m.p m.ensures.1 (sym m.ensures.0)
     (number_of r) c.in_err-check.ensures in
     let l = lines-refused a.index.now a.recipes.now a.query.now a.out.now (number_of r) code r refl in
     (f ∙ l.0, l.1)
@@ -37,7 +37,7 @@ pub overflow_mul-query : goal.overflow_mul-query
 overflow_mul-query c =
     let a = c.args in
     let m = c.in_ok-p in
-    let few = asked-eight a.index.now a.recipes.now a.query.now c.askable.result.now c.askable.ensures m.p m.ensures.1 (sym m.ensures.0)
+    let few = asked-eight a.index.now a.recipes.now a.query.now c.askable-asked.result.now c.askable-asked.ensures m.p m.ensures.1 (sym m.ensures.0)
     0 c.in_ok-check.ensures refl in
     record { fits = omega (arith, few) }
 
@@ -45,7 +45,7 @@ pub overflow_add-query : goal.overflow_add-query
 overflow_add-query c =
     let a = c.args in
     let m = c.in_ok-p in
-    let few = asked-eight a.index.now a.recipes.now a.query.now c.askable.result.now c.askable.ensures m.p m.ensures.1 (sym m.ensures.0)
+    let few = asked-eight a.index.now a.recipes.now a.query.now c.askable-asked.result.now c.askable-asked.ensures m.p m.ensures.1 (sym m.ensures.0)
     0 c.in_ok-check.ensures refl in
     record { fits = omega (arith, few) }
 
@@ -53,9 +53,9 @@ pub returns-then-out-query : goal.returns-then-out-query
 returns-then-out-query c =
     let a = c.args in
     let m = c.in_ok-p in
-    let code = asked-code a.index.now a.recipes.now a.query.now c.askable.result.now c.askable.ensures m.p m.ensures.1 (sym m.ensures.0)
+    let code = asked-code a.index.now a.recipes.now a.query.now c.askable-asked.result.now c.askable-asked.ensures m.p m.ensures.1 (sym m.ensures.0)
     0 c.in_ok-check.ensures in
-    let total = asked-total a.index.now a.recipes.now a.query.now c.askable.result.now c.askable.ensures m.p m.ensures.1 (sym m.ensures.0)
+    let total = asked-total a.index.now a.recipes.now a.query.now c.askable-asked.result.now c.askable-asked.ensures m.p m.ensures.1 (sym m.ensures.0)
     0 c.in_ok-check.ensures refl in
     lines_long a.index.now a.recipes.now a.query.now a.out.now 0 code refl m.p.total total c.if-out-query.true
 
@@ -66,7 +66,7 @@ no-tables = replicate {A = List (List ℕ)} 16 (replicate {A = List ℕ} 32 (rep
 pub write_lines-requires-clause-planned : goal.write_lines-requires-clause-planned
 write_lines-requires-clause-planned c =
     let a = c.args in
-    let k = c.askable in
+    let k = c.askable-asked in
     let m = c.in_ok-p in
     let y = c.in_ok-check.ensures in
     let is = asked-plan a.index.now a.recipes.now a.query.now k.result.now k.ensures m.p m.ensures.1 (sym m.ensures.0) 0 y refl in
@@ -81,9 +81,9 @@ pub write_lines-requires-clause-query_in_bounds : goal.write_lines-requires-clau
 write_lines-requires-clause-query_in_bounds c =
     let a = c.args in
     let m = c.in_ok-p in
-    let code = asked-code a.index.now a.recipes.now a.query.now c.askable.result.now c.askable.ensures m.p m.ensures.1 (sym m.ensures.0)
+    let code = asked-code a.index.now a.recipes.now a.query.now c.askable-asked.result.now c.askable-asked.ensures m.p m.ensures.1 (sym m.ensures.0)
     0 c.in_ok-check.ensures in
-    let total = asked-total a.index.now a.recipes.now a.query.now c.askable.result.now c.askable.ensures m.p m.ensures.1 (sym m.ensures.0)
+    let total = asked-total a.index.now a.recipes.now a.query.now c.askable-asked.result.now c.askable-asked.ensures m.p m.ensures.1 (sym m.ensures.0)
     0 c.in_ok-check.ensures refl in
     lines-room a.index.now a.recipes.now a.query.now a.out.now 0 code refl m.p.total total c.if-out-query.false
 
@@ -91,9 +91,9 @@ pub returns : goal.returns
 returns c =
     let a = c.args in
     let m = c.in_ok-p in
-    let code = asked-code a.index.now a.recipes.now a.query.now c.askable.result.now c.askable.ensures m.p m.ensures.1 (sym m.ensures.0)
+    let code = asked-code a.index.now a.recipes.now a.query.now c.askable-asked.result.now c.askable-asked.ensures m.p m.ensures.1 (sym m.ensures.0)
     0 c.in_ok-check.ensures in
-    let total = asked-total a.index.now a.recipes.now a.query.now c.askable.result.now c.askable.ensures m.p m.ensures.1 (sym m.ensures.0)
+    let total = asked-total a.index.now a.recipes.now a.query.now c.askable-asked.result.now c.askable-asked.ensures m.p m.ensures.1 (sym m.ensures.0)
     0 c.in_ok-check.ensures refl in
     lines-done a.index.now a.recipes.now a.query.now a.out.now 0 code refl m.p.total total
     c.write_lines.new.out c.if-out-query.false c.write_lines.ensures
